@@ -1,0 +1,4 @@
+pub mod BitsLaws
+pub mod BytesLaws
+pub mod SetBits
+pub mod LayoutLaws

@@ -1,0 +1,2 @@
+pub mod IterateLaws
+pub mod ClosureLaws

@@ -1,0 +1,5 @@
+pub mod SearchLaws
+pub mod TableLaws
+pub mod LargestLaws
+pub mod SumLaws
+pub mod CountLaws

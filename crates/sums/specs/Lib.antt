@@ -1,0 +1,4 @@
+pub mod Sum
+pub mod Search
+pub mod Table
+pub mod Argmax
