@@ -1,0 +1,12 @@
+pub mod ReadLaws
+pub mod Fields
+pub mod TestLaws
+pub mod WriterLaws
+pub mod RoundTrip
+pub mod StageLaws
+pub mod WholeFrames
+pub mod ForeignFrames
+pub mod FirstFault
+pub mod HyperEdges
+pub mod ReadSteps
+pub mod WriterSteps

@@ -1,0 +1,253 @@
+-- What the writer gives, in bytes, and what it means that the tests 7 to 12, by which it refuses, find no fault.
+-- Bytes:
+--     headValues, jobValues   the values of the packed fields of a head and of a job
+--     headBody, jobBody       the body of a head frame and of a job frame
+--     length-headBody, length-jobBody     a head's body has 7 bytes, a job's 11
+--     length-frameBytes       a frame has 3 bytes more than its body
+--     length-headFrame, length-jobFrame, length-endFrame      a head frame has 10 bytes, a job frame 14, an end frame 3
+--     length-jobFrames        n jobs make 14 n bytes
+--     length-sheetBytes       a sheet of n jobs has 13 + 14 n bytes
+--     jobFrames-append        the frames of two lists of jobs, one list after the other
+-- Verdicts:
+--     cond-accepted           a test and then a verdict accept: the test does not hold, and the verdict accepts
+--     andThen-accepted        two verdicts one after the other accept: each of them does
+--     head-sound, sound-head  the tests 7 and 8 find no fault in a head: then it is sound, and back
+--     job-sound, sound-job    the tests 9 to 11 find no fault in a job: then it is sound, and back
+--     jobsVerdict-sound, sound-jobsVerdict    they find none in a list of jobs: then each job is sound, and back
+--     jobsVerdict-none        the last two as one
+--     jobs-bound              where they find none, there are at most 512 jobs
+--     writerVerdict-sound, sound-writerVerdict    the tests 7 to 12 find no fault: then the sheet is sound, and back
+-- A loop over a list of jobs, at job i:
+--     jobsVerdict-drop        no fault at job i: the verdict is that on the jobs behind it
+--     jobsVerdict-fault       a fault at job i is the verdict
+--     jobsVerdict-over        no job is left: accepted
+use Prim.Native.Nat.{ℕ, zero, suc, _+_, _*_, _^_, _≤_, _<_}
+use native.Mathlib.Nat.{add-zero, zero-add, add-suc, suc-add}
+use native.Mathlib.Omega.{arith}
+use mathlib.Core.Path.{_≡_, refl, ap, _∙_}
+use mathlib.Core.Bool.{Bool, true, false, cond, not, _&&_, _||_}
+use mathlib.Core.List.{List, [], _∷_, _++_, append-assoc}
+use mathlib.Core.Logic.{_↔_, inl, inr}
+use lib.ListN.{length, drop, length-append}
+use lib.Seq.{drop-cons}
+use lib.Dec.{eqb, ltb, leb}
+use borrow.Author.Tests.{le-leb, lt-leb}
+use Rattle.bools.proofs.BoolLaws.{split, clash, tests, and-intro, and-false-left, and-false-right, or-false, or-false-left, or-false-right, not-false, not-intro-false}
+use Rattle.bools.proofs.OrderLaws.{lt-or-le}
+use Rattle.sums.specs.Search.{any}
+use Rattle.sums.proofs.SearchLaws.{any-intro, any-elim, any-false, any-none}
+use Rattle.bits.specs.Layout.{packed}
+use Rattle.bits.proofs.LayoutLaws.{length-packed}
+use Rattle.frame.specs.declared.sheet.Head.{Head}
+use Rattle.frame.specs.declared.sheet.Job.{Job}
+use Rattle.frame.specs.declared.fault.Fault.{Fault}
+use Rattle.frame.specs.declared.fault.Verdict.{Verdict}
+use Rattle.frame.specs.declared.fault.Verdict.the-variants.{Accepted, Refused}
+use Rattle.frame.specs.Format.{headerLayout, headLayout, jobLayout, ours, headKind, jobKind, endKind, headFrame, jobFrame, endFrame, jobFrames, sheetBytes, frameBytes, allows}
+use Rattle.frame.specs.Tests.{firstFault, headFaults, jobFaults, noJob, jobAt, benchCountFault, shareFault, jobCountFault, minutesFault, allowedFault}
+use Rattle.frame.specs.Writing.{andThen, jobsVerdict, writerVerdict}
+use Rattle.frame.specs.Sound.{SoundHead, SoundJob, SoundSheet}
+
+-- ── bytes ──
+
+abbrev pub headValues : Head → List ℕ
+headValues h = h .benches ∷ h .p ∷ h .q ∷ h .target ∷ 0 ∷ []
+
+abbrev pub jobValues : Job → List ℕ
+jobValues j = j .minutes ∷ j .allowed ∷ 0 ∷ []
+
+abbrev pub headBody : Head → List ℕ
+headBody h = packed headLayout (headValues h)
+
+abbrev pub jobBody : Job → List ℕ
+jobBody j = packed jobLayout (jobValues j)
+
+pub length-frameBytes : (kind : ℕ) (body : List ℕ) → length (frameBytes kind body) ≡ 3 + length body
+length-frameBytes kind body =
+    let header = packed headerLayout (ours ∷ kind ∷ length body ∷ []) in
+    length-append header body ∙ ap (λ (n : ℕ). n + length body) (length-packed headerLayout (ours ∷ kind ∷ length body ∷ []) 3 refl)
+
+pub length-headBody : (h : Head) → length (headBody h) ≡ 7
+length-headBody h = length-packed headLayout (headValues h) 7 refl
+
+pub length-jobBody : (j : Job) → length (jobBody j) ≡ 11
+length-jobBody j = length-packed jobLayout (jobValues j) 11 refl
+
+pub length-headFrame : (h : Head) → length (headFrame h) ≡ 10
+length-headFrame h = length-frameBytes headKind (headBody h) ∙ ap (λ (n : ℕ). 3 + n) (length-headBody h)
+
+pub length-jobFrame : (j : Job) → length (jobFrame j) ≡ 14
+length-jobFrame j = length-frameBytes jobKind (jobBody j) ∙ ap (λ (n : ℕ). 3 + n) (length-jobBody j)
+
+pub length-endFrame : length endFrame ≡ 3
+length-endFrame = length-frameBytes endKind []
+
+pub length-jobFrames : (js : List Job) → length (jobFrames js) ≡ 14 * length js
+unfolding jobFrames
+length-jobFrames [] = refl
+length-jobFrames (j ∷ js) = length-append (jobFrame j) (jobFrames js) ∙ omega (arith, length-jobFrame j, length-jobFrames js)
+
+pub length-sheetBytes : (h : Head) (js : List Job) → length (sheetBytes h js) ≡ 13 + 14 * length js
+length-sheetBytes h js =
+    length-append (headFrame h ++ jobFrames js) endFrame
+    ∙ omega (arith, length-append (headFrame h) (jobFrames js), length-headFrame h, length-jobFrames js, length-endFrame)
+
+pub jobFrames-append : (first second : List Job) → jobFrames (first ++ second) ≡ jobFrames first ++ jobFrames second
+unfolding jobFrames
+jobFrames-append [] second = refl
+jobFrames-append (j ∷ first) second = rw (jobFrames-append first second, append-assoc (jobFrame j))
+
+-- ── verdicts ──
+
+pub cond-accepted : (b : Bool) (f : Fault) (v : Verdict) → cond b (Refused f) v ≡ Accepted → (b ≡ false) × (v ≡ Accepted)
+cond-accepted true f v e = let z : _≡_ {A = ℕ} 0 1 = cc in absurd (omega arith)
+cond-accepted false f v e = (refl, e)
+
+pub andThen-accepted : (v w : Verdict) → andThen v w ≡ Accepted → (v ≡ Accepted) × (w ≡ Accepted)
+andThen-accepted Accepted w e = (refl, e)
+andThen-accepted (Refused f) w e = let z : _≡_ {A = ℕ} 0 1 = cc in absurd (omega arith)
+
+none-of-three : (a b c : Bool) → (a || b || c) ≡ false → (a ≡ false) × (b ≡ false) × (c ≡ false)
+none-of-three a b c e =
+    let l : (a || b) ≡ false = or-false-left (a || b) c e in
+    (or-false-left a b l, or-false-right a b l, or-false-right (a || b) c e)
+
+-- ── the head ──
+
+benchCountFault-none : (h : Head) → benchCountFault h ≡ false → (0 < h .benches) × (h .benches ≤ 64) × (h .target < 2 ^ 30)
+benchCountFault-none h e = let a = none-of-three (eqb (h .benches) 0) (ltb 64 (h .benches)) (leb (2 ^ 30) (h .target)) e in omega tests
+
+shareFault-none : (h : Head) → shareFault h ≡ false
+    → (0 < h .q) × (4 * h .q ≤ 7 * h .p) × (h .p < h .q) × (h .p < 128) × (h .q < 128)
+shareFault-none h e =
+    let ratio = eqb (h .q) 0 || ltb (7 * h .p) (4 * h .q) || leb (h .q) (h .p) in
+    let a = none-of-three ratio (leb (2 ^ 7) (h .p)) (leb (2 ^ 7) (h .q)) e in
+    let b = none-of-three (eqb (h .q) 0) (ltb (7 * h .p) (4 * h .q)) (leb (h .q) (h .p)) (a .0) in
+    omega tests
+
+pub head-sound : (h : Head) (at : ℕ) → firstFault (headFaults h at) ≡ Accepted → SoundHead h
+head-sound h at e =
+    let a = cond-accepted (benchCountFault h) _ _ e in
+    let b = cond-accepted (shareFault h) _ _ (a .1) in
+    omega (tests, benchCountFault-none h (a .0), shareFault-none h (b .0))
+
+pub sound-head : (h : Head) (at : ℕ) → SoundHead h → firstFault (headFaults h at) ≡ Accepted
+sound-head h at s =
+    let no-bench : eqb (h .benches) 0 ≡ false = omega tests in
+    let many-benches : ltb 64 (h .benches) ≡ false = omega tests in
+    let wide-target : leb (2 ^ 30) (h .target) ≡ false = omega tests in
+    let zero-q : eqb (h .q) 0 ≡ false = omega tests in
+    let small-share : ltb (7 * h .p) (4 * h .q) ≡ false = omega tests in
+    let large-share : leb (h .q) (h .p) ≡ false = omega tests in
+    let wide-p : leb (2 ^ 7) (h .p) ≡ false = omega tests in
+    let wide-q : leb (2 ^ 7) (h .q) ≡ false = omega tests in
+    rw (no-bench, many-benches, wide-target, zero-q, small-share, large-share, wide-p, wide-q)
+
+-- ── a job ──
+
+pub job-sound : (m n : ℕ) (j : Job) (at : ℕ) → firstFault (jobFaults m n j at) ≡ Accepted → SoundJob m n j
+job-sound m n j at e =
+    let a = cond-accepted (jobCountFault n) _ _ e in
+    let b = cond-accepted (minutesFault j) _ _ (a .1) in
+    let c = cond-accepted (allowedFault m j) _ _ (b .1) in
+    let zero-minutes : eqb (j .minutes) 0 ≡ false = or-false-left _ (leb (2 ^ 20) (j .minutes)) (b .0) in
+    let wide : leb (2 ^ 20) (j .minutes) ≡ false = or-false-right (eqb (j .minutes) 0) _ (b .0) in
+    let some : not (any 64 (allows j)) ≡ false = or-false-left _ (any 64 (λ b. leb m b && allows j b)) (c .0) in
+    let wrong : any 64 (λ b. leb m b && allows j b) ≡ false = or-false-right (not (any 64 (allows j))) _ (c .0) in
+    record {
+      number-below-512 = omega tests;
+      minutes-positive = omega tests;
+      minutes-fit = omega tests;
+      allows-some = any-elim 64 (allows j) (not-false (any 64 (allows j)) some);
+      allows-below = λ i l p. elim (lt-or-le i m) [
+        | inl h ↦ h
+        | inr h ↦ clash (and-intro (le-leb m i h) p) (any-none 64 (λ b. leb m b && allows j b) wrong i l)
+      ];
+    }
+
+pub sound-job : (m n : ℕ) (j : Job) (at : ℕ) → SoundJob m n j → firstFault (jobFaults m n j at) ≡ Accepted
+sound-job m n j at s =
+    let count : jobCountFault n ≡ false = omega tests in
+    let zero-minutes : eqb (j .minutes) 0 ≡ false = omega tests in
+    let wide : leb (2 ^ 20) (j .minutes) ≡ false = omega tests in
+    let b = s .allows-some in
+    let some : not (any 64 (allows j)) ≡ false = not-intro-false (any-intro 64 (allows j) (b .0) (b .1) (b .2)) in
+    let wrong : any 64 (λ i. leb m i && allows j i) ≡ false = any-false 64 (λ i. leb m i && allows j i) (λ i l. elim (split (allows j i)) [
+      | inl p ↦ and-false-left (allows j i) (lt-leb m i (s .allows-below i l p))
+      | inr q ↦ and-false-right (leb m i) q
+    ]) in
+    let allowed : allowedFault m j ≡ false = or-false some wrong in
+    rw (count, zero-minutes, wide, allowed)
+
+-- ── a list of jobs ──
+
+pub jobsVerdict-sound : (m n : ℕ) (js : List Job) → jobsVerdict m n js ≡ Accepted
+    → (i : ℕ) → i < length js → SoundJob m (n + i) (jobAt js i)
+unfolding jobsVerdict
+jobsVerdict-sound m n [] e i l = absurd (omega arith)
+jobsVerdict-sound m n (j ∷ js) e zero l =
+    rw add-zero (job-sound m n j n (andThen-accepted (firstFault (jobFaults m n j n)) _ e .0))
+jobsVerdict-sound m n (j ∷ js) e (suc i) l =
+    rw (add-suc, ← suc-add) (jobsVerdict-sound m (suc n) js (andThen-accepted (firstFault (jobFaults m n j n)) _ e .1) i (omega arith))
+
+pub sound-jobsVerdict : (m n : ℕ) (js : List Job) → ((i : ℕ) → i < length js → SoundJob m (n + i) (jobAt js i))
+    → jobsVerdict m n js ≡ Accepted
+unfolding jobsVerdict
+sound-jobsVerdict m n [] s = refl
+sound-jobsVerdict m n (j ∷ js) s =
+    let first : firstFault (jobFaults m n j n) ≡ Accepted = sound-job m n j n (rw add-zero at (s 0 (omega arith))) in
+    let rest : jobsVerdict m (suc n) js ≡ Accepted =
+    sound-jobsVerdict m (suc n) js (λ i l. rw (suc-add, ← add-suc) (s (suc i) (omega arith))) in
+    rw (first, rest)
+
+pub jobsVerdict-none : (m n : ℕ) (js : List Job)
+    → (jobsVerdict m n js ≡ Accepted) ↔ ((i : ℕ) → i < length js → SoundJob m (n + i) (jobAt js i))
+jobsVerdict-none m n js = (jobsVerdict-sound m n js, sound-jobsVerdict m n js)
+
+pub jobs-bound : (m n : ℕ) (js : List Job) → jobsVerdict m n js ≡ Accepted → n ≤ 512 → n + length js ≤ 512
+unfolding jobsVerdict
+jobs-bound m n [] e h = omega arith
+jobs-bound m n (j ∷ js) e h =
+    let a = andThen-accepted (firstFault (jobFaults m n j n)) _ e in
+    omega (arith, jobs-bound m (suc n) js (a .1) (job-sound m n j n (a .0) .number-below-512))
+
+-- ── the loop over the jobs ──
+
+pub jobsVerdict-drop : (m n i : ℕ) (js : List Job) → i < length js → firstFault (jobFaults m (n + i) (jobAt js i) (n + i)) ≡ Accepted
+    → jobsVerdict m (n + i) (drop i js) ≡ jobsVerdict m (n + suc i) (drop (suc i) js)
+unfolding jobsVerdict
+jobsVerdict-drop m n i js l e = rw (drop-cons js i noJob, e, add-suc)
+
+pub jobsVerdict-fault : (m n i : ℕ) (js : List Job) (f : Fault) → i < length js
+    → firstFault (jobFaults m (n + i) (jobAt js i) (n + i)) ≡ Refused f → jobsVerdict m (n + i) (drop i js) ≡ Refused f
+unfolding jobsVerdict
+jobsVerdict-fault m n i js f l e = rw (drop-cons js i noJob, e)
+
+pub jobsVerdict-over : (m n i : ℕ) (js : List Job) → length js ≤ i → jobsVerdict m (n + i) (drop i js) ≡ Accepted
+unfolding jobsVerdict
+jobsVerdict-over m n zero [] h = refl
+jobsVerdict-over m n zero (j ∷ js) h = absurd (omega arith)
+jobsVerdict-over m n (suc i) [] h = refl
+jobsVerdict-over m n (suc i) (j ∷ js) h = rw (add-suc, ← suc-add) (jobsVerdict-over m (suc n) i js (omega arith))
+
+-- ── the whole sheet ──
+
+pub writerVerdict-sound : (h : Head) (js : List Job) → writerVerdict h js ≡ Accepted → SoundSheet h js
+unfolding writerVerdict
+writerVerdict-sound h js e =
+    let a = andThen-accepted (firstFault (headFaults h 0)) _ e in
+    let b = andThen-accepted (jobsVerdict (h .benches) 0 js) _ (a .1) in
+    record {
+      head = head-sound h 0 (a .0);
+      jobs = λ i l. rw zero-add at (jobsVerdict-sound (h .benches) 0 js (b .0) i l);
+      at-most-512-jobs = omega (arith, jobs-bound (h .benches) 0 js (b .0) (omega arith));
+      no-heavy-hyper-edge = b .1;
+    }
+
+pub sound-writerVerdict : (h : Head) (js : List Job) → SoundSheet h js → writerVerdict h js ≡ Accepted
+unfolding writerVerdict
+sound-writerVerdict h js s =
+    let head : firstFault (headFaults h 0) ≡ Accepted = sound-head h 0 (s .head) in
+    let jobs : jobsVerdict (h .benches) 0 js ≡ Accepted =
+    sound-jobsVerdict (h .benches) 0 js (λ i l. rw zero-add (s .jobs i l)) in
+    rw (head, jobs) (s .no-heavy-hyper-edge)

@@ -1,0 +1,260 @@
+-- What each step of the writer does to its output and to its verdict. A law's premises are what the calls before it ensure.
+-- Bytes of the output:
+--     written out at s end    out with its bytes from at up to end replaced by s
+--     written-after           a second write where the first one ends: the two are one write of both strings
+--     put-byte, put-all       a turn of the loop that puts the k bytes of v stores the next of them; after k turns they all stand there
+--     head-put                a header and a head's body, put one behind the other, are the head's frame
+--     job-put                 a header and the two parts of a job's body are the job's frame
+--     jobs-none, jobs-more    no job makes no bytes; a job's frame behind those of the first i
+--     sheet-put               the head, the jobs and the end are the sheet
+-- Jobs of two tables:
+--     length-jobTable         there are n of them
+--     job-at, minutes-at      job i, and its minutes
+-- Verdict:
+--     verdictFrom m n ms bs i     9 to 11 for the jobs from job i on
+--     jobs-sound, jobs-fault, jobs-over   job i is sound, is faulty, or does not exist
+--     head-fault, job-fault, all-checked  the head is faulty, a job is, or only 12 is left to judge
+--     hyper-edges-ready       where head and jobs are sound, their numbers fit what 12 computes
+-- What is returned:
+--     refused, no-room, all-written       the check refuses, the output is too short, or the sheet is written
+--     head-ready, few-jobs, minutes-ready     where the check accepts, head and jobs fit their fields
+use Prim.Native.Nat.{ℕ, _+_, _-_, _*_, _/_, _%_, _^_, _≤_, _<_}
+use native.Mathlib.Nat.{zero-add, add-sub-of-le}
+use native.Mathlib.Numerals.{add-one}
+use native.Mathlib.Omega.{arith}
+use mathlib.Core.Path.{_≡_, sym, ap, _∙_}
+use mathlib.Core.List.{List, [], _∷_, _++_, append-assoc, append-nil}
+use lib.ListN.{length, getD, take, drop, set, length-append, take-append-drop}
+use lib.Seq.{length-take-le, take-all, take-at, drop-at, drop-drop, paste, paste-suc}
+use lib.Dec.{lit≤}
+use borrow.Author.Tests.{le-leb, lt-leb}
+use Rattle.sums.specs.Table.{table}
+use Rattle.sums.proofs.TableLaws.{length-table, getD-table, table-snoc}
+use Rattle.bits.specs.Bits.{bytesOf}
+use Rattle.bits.specs.Layout.{joined}
+use Rattle.bits.proofs.BitsLaws.{pow-256}
+use Rattle.bits.proofs.BytesLaws.{length-bytesOf, getD-bytesOf, bytesOf-append}
+use Rattle.frame.specs.declared.sheet.Head.{Head}
+use Rattle.frame.specs.declared.sheet.Job.{Job}
+use Rattle.frame.specs.declared.fault.Fault.{Fault}
+use Rattle.frame.specs.declared.fault.Fault.the-variants.{Table}
+use Rattle.frame.specs.declared.fault.Verdict.{Verdict}
+use Rattle.frame.specs.declared.fault.Verdict.the-variants.{Accepted, Refused}
+use Rattle.frame.specs.declared.writer.Written.the-variants.{Length, Refusal}
+use Rattle.frame.specs.Format.{ours, headKind, jobKind, endKind, headerLayout, headLayout, jobLayout, headFrame, jobFrame, jobFrames, sheetBytes}
+use Rattle.frame.specs.Tests.{firstFault, headFaults, jobFaults, noJob, jobAt, jobTable, hyperEdgeVerdict}
+use Rattle.frame.specs.Writing.{jobsVerdict, writerVerdict, fitted, writeSheet}
+use Rattle.frame.specs.Sound.{SoundSheet}
+use Rattle.frame.proofs.WriterLaws.{headValues, jobValues, length-headBody, length-jobBody, length-headFrame, length-jobFrames, length-sheetBytes, jobFrames-append, head-sound, jobsVerdict-sound, writerVerdict-sound, jobsVerdict-drop, jobsVerdict-fault, jobsVerdict-over}
+
+-- ── two writes, one behind the other ──
+
+abbrev pub written : List ℕ → ℕ → List ℕ → ℕ → List ℕ
+written out at s end = take at out ++ s ++ drop end out
+
+length-front : (out : List ℕ) (at : ℕ) (s : List ℕ) → at ≤ length out → length (take at out ++ s) ≡ at + length s
+length-front out at s h = length-append (take at out) s ∙ ap (λ (n : ℕ). n + length s) (length-take-le at out h)
+
+pub written-after : (out : List ℕ) (at : ℕ) (a b : List ℕ) (mid end : ℕ) → at ≤ length out → at + length a ≡ mid → mid ≤ end
+    → written (written out at a mid) mid b end ≡ written out at (a ++ b) end
+written-after out at a b mid end h e l =
+    let front : length (take at out ++ a) ≡ mid = length-front out at a h ∙ e in
+    let rest : drop end (written out at a mid) ≡ drop end out =
+    ap (λ (n : ℕ). drop n (written out at a mid)) (sym (add-sub-of-le l))
+    ∙ sym (drop-drop (end - mid) mid (written out at a mid))
+    ∙ ap (drop (end - mid)) (drop-at (take at out ++ a) (drop mid out) mid front)
+    ∙ drop-drop (end - mid) mid out
+    ∙ ap (λ (n : ℕ). drop n out) (add-sub-of-le l) in
+    rw (take-at (take at out ++ a) (drop mid out) mid front, rest, append-assoc (take at out) a b)
+
+-- ── the bytes of a number ──
+
+pub put-byte : (out : List ℕ) (at k v i : ℕ) → i < k → at + k ≤ length out
+    → set (paste out at (bytesOf k v) i) (at + i) (v / 2 ^ (8 * (k - 1 - i)) % 256) ≡ paste out at (bytesOf k v) (i + 1)
+put-byte out at k v i l h =
+    rw (← pow-256 (k - 1 - i), ← getD-bytesOf k v i l, add-one i)
+    (paste-suc out at (bytesOf k v) i 0 (omega arith) (omega (arith, length-bytesOf k v)))
+
+pub put-all : (out : List ℕ) (at k v i : ℕ) → i ≡ k → paste out at (bytesOf k v) i ≡ written out at (bytesOf k v) (at + k)
+put-all out at k v i e = rw (e, take-all k (bytesOf k v) (omega (arith, length-bytesOf k v)))
+
+-- ── a frame ──
+
+pub head-put : (out : List ℕ) (h : Head) {header : ℕ} {one two : List ℕ} → 10 ≤ length out
+    → header ≡ joined headerLayout (ours ∷ headKind ∷ 7 ∷ []) → one ≡ written out 0 (bytesOf 3 header) 3
+    → two ≡ written one 3 (bytesOf 7 ((((h .benches * 128 + h .p) * 128 + h .q) * 1073741824 + h .target) * 32)) 10
+    → two ≡ headFrame h ++ drop 10 out
+head-put out h {header} {two = two} l e first second =
+    let a = bytesOf 3 header in
+    let fields = (((h .benches * 128 + h .p) * 128 + h .q) * 1073741824 + h .target) * 32 in
+    let body : fields ≡ joined headLayout (headValues h) = omega arith in
+    let header-end : 0 + length a ≡ 3 = omega (arith, length-bytesOf 3 header) in
+    let both : two ≡ written out 0 (a ++ bytesOf 7 fields) 10 =
+    second ∙ rw first (written-after out 0 a (bytesOf 7 fields) 3 10 (omega arith) header-end (lit≤ tt)) in
+    both ∙ rw (e, length-headBody h, body)
+
+-- The body's eleven bytes are eight of its high part and three of its low one.
+pub job-put : (out : List ℕ) (j : Job) (at : ℕ) {header : ℕ} {one two three : List ℕ} → at + 14 ≤ length out
+    → header ≡ joined headerLayout (ours ∷ jobKind ∷ 11 ∷ []) → one ≡ written out at (bytesOf 3 header) (at + 3)
+    → two ≡ written one (at + 3) (bytesOf 8 (j .minutes * 17592186044416 + j .allowed / 1048576)) (at + 3 + 8)
+    → three ≡ written two (at + 11) (bytesOf 3 (j .allowed % 1048576 * 16)) (at + 11 + 3)
+    → three ≡ written out at (jobFrame j) (at + 14)
+job-put out j at {header} {two = two} {three = three} l e first second third =
+    let a = bytesOf 3 header in
+    let high = j .minutes * 17592186044416 + j .allowed / 1048576 in
+    let low = j .allowed % 1048576 * 16 in
+    let body : high * 256 ^ 3 + low ≡ joined jobLayout (jobValues j) = omega arith in
+    let middle : at + 3 + 8 ≡ at + 11 = omega arith in
+    let end : at + 11 + 3 ≡ at + 14 = omega arith in
+    let header-end : at + length a ≡ at + 3 = omega (arith, length-bytesOf 3 header) in
+    let high-end : at + length (a ++ bytesOf 8 high) ≡ at + 11 = omega (arith, header-end, length-append a (bytesOf 8 high), length-bytesOf 8 high) in
+    let both : two ≡ written out at (a ++ bytesOf 8 high) (at + 11) =
+    second ∙ rw (first, middle) (written-after out at a (bytesOf 8 high) (at + 3) (at + 11) (omega arith) header-end (omega arith)) in
+    let all : three ≡ written out at (a ++ bytesOf 8 high ++ bytesOf 3 low) (at + 14) =
+    third ∙ rw (both, end) (written-after out at (a ++ bytesOf 8 high) (bytesOf 3 low) (at + 11) (at + 14) (omega arith) high-end (omega arith)) in
+    all ∙ rw (append-assoc a (bytesOf 8 high) (bytesOf 3 low), e, length-jobBody j, ← body, bytesOf-append 8 3 high low (omega arith))
+
+-- ── the jobs of two tables ──
+
+module _ (n : ℕ) (ms bs : List ℕ) where
+  pub length-jobTable : length (jobTable n ms bs) ≡ n
+  length-jobTable = length-table n (λ k. record { minutes = getD ms k 0; allowed = getD bs k 0 })
+
+  pub job-at : (i : ℕ) → i < n → jobAt (jobTable n ms bs) i ≡ record { minutes = getD ms i 0; allowed = getD bs i 0 }
+  job-at i l = getD-table n (λ k. record { minutes = getD ms k 0; allowed = getD bs k 0 }) i noJob l
+
+  pub minutes-at : (i : ℕ) → i < n → jobAt (jobTable n ms bs) i .minutes < 2 ^ 20 → getD ms i 0 < 2 ^ 20
+  minutes-at i l h = rw (job-at i l) at h
+
+-- ── the frames of the jobs, and of the sheet ──
+
+pub jobs-none : (out : List ℕ) → out ≡ written out 10 (jobFrames []) 10
+unfolding jobFrames
+jobs-none out = rw (append-nil (take 10 out)) (sym (take-append-drop 10 out))
+
+jobFrames-more : (i : ℕ) (job : ℕ → Job) → jobFrames (table (i + 1) job) ≡ jobFrames (table i job) ++ jobFrame (job i)
+unfolding jobFrames
+jobFrames-more i job =
+    ap (λ (n : ℕ). jobFrames (table n job)) (add-one i)
+    ∙ ap jobFrames (table-snoc i job)
+    ∙ jobFrames-append (table i job) (job i ∷ [])
+    ∙ ap (λ (s : List ℕ). jobFrames (table i job) ++ s) (append-nil (jobFrame (job i)))
+
+pub jobs-more : (out ms bs : List ℕ) (i : ℕ) (j : Job) {one two : List ℕ} → 10 ≤ length out
+    → one ≡ written out 10 (jobFrames (jobTable i ms bs)) (10 + 14 * i)
+    → j .minutes ≡ getD ms i 0 → j .allowed ≡ getD bs i 0
+    → two ≡ written one (10 + 14 * i) (jobFrame j) (10 + 14 * i + 14)
+    → two ≡ written out 10 (jobFrames (jobTable (i + 1) ms bs)) (10 + 14 * (i + 1))
+jobs-more out ms bs i j l first m b second =
+    let job : ℕ → Job = λ n. record { minutes = getD ms n 0; allowed = getD bs n 0 } in
+    let end : 10 + 14 * i + 14 ≡ 10 + 14 * (i + 1) = omega arith in
+    let size : 10 + length (jobFrames (table i job)) ≡ 10 + 14 * i = omega (arith, length-jobFrames (table i job), length-table i job) in
+    second
+    ∙ rw (first, m, b, end, jobFrames-more i job)
+    (written-after out 10 (jobFrames (table i job)) (jobFrame (job i)) (10 + 14 * i) (10 + 14 * (i + 1)) l size (omega arith))
+
+pub sheet-put : (out : List ℕ) (h : Head) (ms bs : List ℕ) (n : ℕ) {header : ℕ} {one two three : List ℕ} → 13 + 14 * n ≤ length out
+    → one ≡ headFrame h ++ drop 10 out
+    → two ≡ written one 10 (jobFrames (jobTable n ms bs)) (10 + 14 * n)
+    → header ≡ joined headerLayout (ours ∷ endKind ∷ 0 ∷ [])
+    → three ≡ written two (13 + 14 * n - 3) (bytesOf 3 header) (13 + 14 * n - 3 + 3)
+    → three ≡ sheetBytes h (jobTable n ms bs) ++ drop (13 + 14 * n) out
+sheet-put out h ms bs n {header} {two = two} {three = three} l first second e third =
+    let js = jobTable n ms bs in
+    let front = headFrame h ++ jobFrames js in
+    let middle : 13 + 14 * n - 3 ≡ 10 + 14 * n = omega arith in
+    let end : 10 + 14 * n + 3 ≡ 13 + 14 * n = omega arith in
+    let head-end : 0 + length (headFrame h) ≡ 10 = omega (arith, length-headFrame h) in
+    let jobs-end : 0 + length front ≡ 10 + 14 * n =
+    omega (arith, head-end, length-append (headFrame h) (jobFrames js), length-jobFrames js, length-jobTable n ms bs) in
+    let both : two ≡ written out 0 front (10 + 14 * n) =
+    second ∙ rw first (written-after out 0 (headFrame h) (jobFrames js) 10 (10 + 14 * n) (omega arith) head-end (omega arith)) in
+    let all : three ≡ written out 0 (front ++ bytesOf 3 header) (13 + 14 * n) =
+    third ∙ rw (both, middle, end) (written-after out 0 front (bytesOf 3 header) (10 + 14 * n) (13 + 14 * n) (omega arith) jobs-end (omega arith)) in
+    all ∙ rw (e, append-nil)
+
+-- ── the verdict on the jobs ──
+
+module _ (m n : ℕ) (ms bs : List ℕ) where
+  abbrev pub verdictFrom : ℕ → Verdict
+  verdictFrom i = jobsVerdict m i (drop i (jobTable n ms bs))
+
+  -- What the tests find in job i, which the program has read from the tables.
+  found : (i : ℕ) (j : Job) {v w : Verdict} → i < n → j .minutes ≡ getD ms i 0 → j .allowed ≡ getD bs i 0
+      → v ≡ firstFault (jobFaults m i j i) → v ≡ w
+      → firstFault (jobFaults m (0 + i) (jobAt (jobTable n ms bs) i) (0 + i)) ≡ w
+  found i j l p q e a = rw (zero-add i, job-at n ms bs i l, ← p, ← q) (sym e ∙ a)
+
+  pub jobs-sound : (i : ℕ) (j : Job) {v : Verdict} → i < n → j .minutes ≡ getD ms i 0 → j .allowed ≡ getD bs i 0
+      → v ≡ firstFault (jobFaults m i j i) → v ≡ Accepted → verdictFrom i ≡ verdictFrom (i + 1)
+  jobs-sound i j l p q e a =
+      rw (add-one i)
+      (simp zero-add at (jobsVerdict-drop m 0 i (jobTable n ms bs) (omega (arith, length-jobTable n ms bs)) (found i j l p q e a)))
+
+  pub jobs-fault : (i : ℕ) (j : Job) {v : Verdict} {f : Fault} → i < n → j .minutes ≡ getD ms i 0 → j .allowed ≡ getD bs i 0
+      → v ≡ firstFault (jobFaults m i j i) → v ≡ Refused f → verdictFrom i ≡ Refused f
+  jobs-fault i j {f = f} l p q e a =
+      rw zero-add at (jobsVerdict-fault m 0 i (jobTable n ms bs) f (omega (arith, length-jobTable n ms bs)) (found i j l p q e a))
+
+  pub jobs-over : (i : ℕ) → n ≤ i → verdictFrom i ≡ Accepted
+  jobs-over i l = rw zero-add at (jobsVerdict-over m 0 i (jobTable n ms bs) (omega (arith, length-jobTable n ms bs)))
+
+-- ── the verdict on head and jobs ──
+
+module _ (h : Head) (js : List Job) {v : Verdict} (head : v ≡ firstFault (headFaults h 0)) where
+  pub head-fault : {f : Fault} → v ≡ Refused f → Refused f ≡ writerVerdict h js
+  unfolding writerVerdict
+  head-fault a = rw (← head, a)
+
+  pub job-fault : {w : Verdict} {f : Fault} → v ≡ Accepted → w ≡ jobsVerdict (h .benches) 0 js → w ≡ Refused f → Refused f ≡ writerVerdict h js
+  unfolding writerVerdict
+  job-fault a jobs b = rw (← head, a, ← jobs, b)
+
+  pub all-checked : {w x : Verdict} → v ≡ Accepted → w ≡ jobsVerdict (h .benches) 0 js → w ≡ Accepted
+      → x ≡ hyperEdgeVerdict h js → x ≡ writerVerdict h js
+  unfolding writerVerdict
+  all-checked a jobs b last = rw (← head, a, ← jobs, b) last
+
+pub hyper-edges-ready : (h : Head) (n : ℕ) (ms bs : List ℕ) {v w : Verdict} → v ≡ firstFault (headFaults h 0) → v ≡ Accepted
+    → w ≡ jobsVerdict (h .benches) 0 (jobTable n ms bs) → w ≡ Accepted
+    → (h .p < 128) × (h .q < 128) × ((i : ℕ) → i < n → getD ms i 0 < 2 ^ 20)
+hyper-edges-ready h n ms bs head a jobs b =
+    let s = head-sound h 0 (sym head ∙ a) in
+    let job = jobsVerdict-sound (h .benches) 0 (jobTable n ms bs) (sym jobs ∙ b) in
+    (s .p-fits, s .q-fits, λ i l. minutes-at n ms bs i l (job i (omega (arith, length-jobTable n ms bs)) .minutes-fit))
+
+-- ── what is returned ──
+
+pub refused : (h : Head) (js : List Job) (room : ℕ) {v : Verdict} {f : Fault} → v ≡ writerVerdict h js → v ≡ Refused f
+    → Refusal f ≡ writeSheet h js room
+unfolding writeSheet
+refused h js room e a = rw (← e, a, writeSheet)
+
+writeSheet-sound : (h : Head) (js : List Job) (room : ℕ) → writerVerdict h js ≡ Accepted
+    → writeSheet h js room ≡ fitted (length (sheetBytes h js)) room
+unfolding writeSheet
+writeSheet-sound h js room e = rw (e, writeSheet)
+
+module _ (h : Head) (n : ℕ) (ms bs : List ℕ) {v : Verdict} (e : v ≡ writerVerdict h (jobTable n ms bs)) (a : v ≡ Accepted) where
+  sound : SoundSheet h (jobTable n ms bs)
+  sound = writerVerdict-sound h (jobTable n ms bs) (sym e ∙ a)
+
+  pub head-ready : (h .benches < 128) × (h .p < 128) × (h .q < 128) × (h .target < 2 ^ 30)
+  head-ready = omega (arith, sound .head)
+
+  pub few-jobs : n ≤ 512
+  few-jobs = omega (arith, sound .at-most-512-jobs, length-jobTable n ms bs)
+
+  pub minutes-ready : (i : ℕ) → i < n → getD ms i 0 < 2 ^ 20
+  minutes-ready i l = minutes-at n ms bs i l (sound .jobs i (omega (arith, length-jobTable n ms bs)) .minutes-fit)
+
+  fits : (room : ℕ) → writeSheet h (jobTable n ms bs) room ≡ fitted (13 + 14 * n) room
+  fits room =
+      writeSheet-sound h (jobTable n ms bs) room (sym e ∙ a)
+      ∙ rw (length-sheetBytes h (jobTable n ms bs), length-jobTable n ms bs)
+
+  pub no-room : (room : ℕ) → room < 13 + 14 * n → Refusal (Table 0) ≡ writeSheet h (jobTable n ms bs) room
+  no-room room l = rw (fits room, lt-leb (13 + 14 * n) room l)
+
+  pub all-written : (room : ℕ) → 13 + 14 * n ≤ room → Length (13 + 14 * n) ≡ writeSheet h (jobTable n ms bs) room
+  all-written room l = rw (fits room, le-leb (13 + 14 * n) room l)

@@ -1,0 +1,37 @@
+-- `finish`: the stage decides.
+use borrow.Author.Needs.{needs}
+use Rattle.frame.proofs.reader.finish.Statement.{statement}
+use Rattle.frame.proofs.reader.finish.Tie as tie
+
+enum-told : tie.Need-enum-told
+enum-told c = search needs
+
+check-hyper-edges-requires : tie.Need-check-hyper-edges-requires
+check-hyper-edges-requires c κs = search needs
+
+enum-told-2 : tie.Need-enum-told-2
+enum-told-2 c = search needs
+
+enum-told-3 : tie.Need-enum-told-3
+enum-told-3 c = search needs
+
+returns : tie.Need-returns
+returns c = rw (c .before .enum-told .given .1) (c .check-hyper-edges .ensures)
+
+returns-2 : tie.Need-returns-2
+returns-2 c = rw (c .enum-told2 .given .1)
+
+returns-3 : tie.Need-returns-3
+returns-3 c = rw (c .enum-told3 .given .1)
+
+pub finish-spec : {M : Type 1} → statement M
+finish-spec =
+    tie.close
+    (tie.spec
+    enum-told
+    check-hyper-edges-requires
+    enum-told-2
+    enum-told-3
+    returns
+    returns-2
+    returns-3)

@@ -1,0 +1,71 @@
+-- The verdict is that of the first test that refuses; a head and jobs that pass have numbers that fit what the last test computes.
+use denote.Ref.{now}
+use borrow.Author.Needs.{needs}
+use Rattle.frame.specs.Tests.{jobTable}
+use Rattle.frame.proofs.WriterSteps.{head-fault, job-fault, all-checked, hyper-edges-ready}
+use Rattle.frame.proofs.writer.check.Statement.{statement}
+use Rattle.frame.proofs.writer.check.Tie as tie
+
+check-head-requires : tie.Need-check-head-requires
+check-head-requires c κs = search needs
+
+enum-known-f : tie.Need-enum-known-f
+enum-known-f c = search needs
+
+enum-told : tie.Need-enum-told
+enum-told c = search needs
+
+check-jobs-requires : tie.Need-check-jobs-requires
+check-jobs-requires c κs = search needs
+
+enum-known-f-2 : tie.Need-enum-known-f-2
+enum-known-f-2 c = search needs
+
+enum-told-2 : tie.Need-enum-told-2
+enum-told-2 c = search needs
+
+check-hyper-edges-requires : tie.Need-check-hyper-edges-requires
+check-hyper-edges-requires c κs =
+    let head = c .before .before .before .before .before in
+    let a = head .before .before .before .args in
+    hyper-edges-ready (a .h) (a .n) (now (a .minutes)) (now (a .allowed)) (head .check-head .ensures) (c .before .before .before .enum-told .given .1)
+    (c .before .before .check-jobs .ensures) (c .enum-told2 .given .1)
+
+returns : tie.Need-returns
+returns c =
+    let head = c .before .before .before in
+    let a = head .before .before .before .args in
+    let js = jobTable (a .n) (now (a .minutes)) (now (a .allowed)) in
+    head-fault (a .h) js (head .check-head .ensures) (c .before .f .given .1)
+
+returns-2 : tie.Need-returns-2
+returns-2 c =
+    let jobs = c .before .before .before in
+    let head = jobs .before .before .before in
+    let a = head .before .before .before .args in
+    let js = jobTable (a .n) (now (a .minutes)) (now (a .allowed)) in
+    job-fault (a .h) js (head .check-head .ensures) (jobs .before .enum-told .given .1) (jobs .check-jobs .ensures) (c .before .f2 .given .1)
+
+returns-3 : tie.Need-returns-3
+returns-3 c =
+    let jobs = c .before .before .before in
+    let head = jobs .before .before .before in
+    let a = head .before .before .before .args in
+    let js = jobTable (a .n) (now (a .minutes)) (now (a .allowed)) in
+    all-checked (a .h) js (head .check-head .ensures) (jobs .before .enum-told .given .1) (jobs .check-jobs .ensures) (c .before .enum-told2 .given .1)
+    (c .check-hyper-edges .ensures)
+
+pub check-spec : {M : Type 1} → statement M
+check-spec =
+    tie.close
+    (tie.spec
+    check-head-requires
+    enum-known-f
+    enum-told
+    check-jobs-requires
+    enum-known-f-2
+    enum-told-2
+    check-hyper-edges-requires
+    returns
+    returns-2
+    returns-3)

@@ -1,0 +1,64 @@
+-- The header and the fields are put one behind the other; together they are the head's frame.
+use lib.Dec.{lit<}
+use denote.Ref.{now}
+use borrow.Author.Needs.{needs}
+use Rattle.frame.proofs.WriterSteps.{head-put}
+use Rattle.frame.proofs.writer.put_head.Statement.{statement}
+use Rattle.frame.proofs.writer.put_head.Tie as tie
+
+mul-fields : tie.Need-mul-fields
+mul-fields c = search needs
+
+add-fields : tie.Need-add-fields
+add-fields c = search needs
+
+mul-fields-2 : tie.Need-mul-fields-2
+mul-fields-2 c = search needs
+
+add-fields-2 : tie.Need-add-fields-2
+add-fields-2 c = search needs
+
+mul-fields-3 : tie.Need-mul-fields-3
+mul-fields-3 c = search needs
+
+add-fields-3 : tie.Need-add-fields-3
+add-fields-3 c = search needs
+
+packed-requires : tie.Need-packed-requires
+packed-requires c κs = search needs
+
+put-requires : tie.Need-put-requires
+put-requires c κs = search needs
+
+mul-put : tie.Need-mul-put
+mul-put c = search needs
+
+put-requires-2 : tie.Need-put-requires-2
+put-requires-2 c κs = search needs
+
+same-length : tie.Need-same-length
+same-length c = search needs
+
+returns : tie.Need-returns
+returns c =
+    let first = c .before .before .before .before .before .before in
+    let start = first .before .before .before .before .before .before .before .before in
+    head-put (now (start .args .out)) (start .args .h) (start .pre .4) (first .before .packed .ensures (lit< tt) (lit< tt))
+    (first .put .ensures) (c .before .before .put2 .ensures)
+
+pub put-head-spec : {M : Type 1} → statement M
+put-head-spec =
+    tie.close
+    (tie.spec
+    mul-fields
+    add-fields
+    mul-fields-2
+    add-fields-2
+    mul-fields-3
+    add-fields-3
+    packed-requires
+    put-requires
+    mul-put
+    put-requires-2
+    same-length
+    returns)

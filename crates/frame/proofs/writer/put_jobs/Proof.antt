@@ -1,0 +1,81 @@
+-- The loop's invariant: the frames of the first i jobs stand from byte 10 on, and all else is as it was.
+use Prim.Native.Nat.{_+_, _*_, _-_, _≤_}
+use native.Mathlib.Omega.{arith}
+use mathlib.Core.Path.{_≡_, refl, _∙_}
+use lib.ListN.{length}
+use denote.Ref.{now}
+use borrow.Author.Needs.{needs}
+use Rattle.frame.specs.Format.{jobFrames}
+use Rattle.frame.specs.Tests.{jobTable}
+use Rattle.frame.proofs.WriterSteps.{written, jobs-none, jobs-more}
+use Rattle.frame.proofs.writer.put_jobs.Statement.{statement}
+use Rattle.frame.proofs.writer.put_jobs.Tie as tie
+
+abbrev Inv-loop : tie.InvT-loop
+Inv-loop n minutes allowed out₀ i₀ out i =
+    (i ≤ n) × (length out ≡ length out₀) × (out ≡ written out₀ 10 (jobFrames (jobTable i minutes allowed)) (10 + 14 * i))
+
+abbrev μ-loop : tie.MeasureT-loop
+μ-loop n minutes allowed out₀ i₀ out i = n - i
+
+loop-holds : tie.Need-loop-holds Inv-loop μ-loop
+loop-holds c = (omega arith, refl, jobs-none (now (c .before .before .before .args .out)))
+
+entry-requires : tie.Need-entry-requires Inv-loop μ-loop
+entry-requires c κs = search needs
+
+entry-requires-2 : tie.Need-entry-requires-2 Inv-loop μ-loop
+entry-requires-2 c κs = search needs
+
+mul-put-job : tie.Need-mul-put-job Inv-loop μ-loop
+mul-put-job c = omega arith
+
+add-put-job : tie.Need-add-put-job Inv-loop μ-loop
+add-put-job c = omega arith
+
+put-job-requires : tie.Need-put-job-requires Inv-loop μ-loop
+put-job-requires c κs =
+    let l = c .before .before .before .before in
+    let fits = l .before .before .before .before .pre .2 (l .loop .i) (c .before .before .before .loop-test .taken) in
+    (omega (arith, c .before .before .entry .ensures, fits), omega arith)
+
+add-i : tie.Need-add-i Inv-loop μ-loop
+add-i c = omega arith
+
+loop-less : tie.Need-loop-less Inv-loop μ-loop
+loop-less c = omega arith
+
+loop-again : tie.Need-loop-again Inv-loop μ-loop
+loop-again c =
+    let put = c .before .before in
+    let l = put .before .before .before .before .before in
+    let a = l .before .before .before .before .args in
+    let more = jobs-more (now (a .out)) (now (a .minutes)) (now (a .allowed)) (l .loop .i) _ (omega arith) (l .loop .inv .2)
+    (put .before .before .before .entry .ensures) (put .before .before .entry2 .ensures) (put .put-job .ensures) in
+    (omega arith, put .put-job .kept .1 .0 ∙ l .loop .inv .1, more)
+
+same-length : tie.Need-same-length Inv-loop μ-loop
+same-length c = c .before .loop .inv .1
+
+returns : tie.Need-returns Inv-loop μ-loop
+returns c =
+    let e : c .before .loop .i ≡ c .before .before .before .before .before .args .n = omega arith in
+    rw (← e) (c .before .loop .inv .2)
+
+pub put-jobs-spec : {M : Type 1} → statement M
+put-jobs-spec =
+    tie.close
+    (tie.spec
+    Inv-loop
+    μ-loop
+    loop-holds
+    entry-requires
+    entry-requires-2
+    mul-put-job
+    add-put-job
+    put-job-requires
+    add-i
+    loop-less
+    loop-again
+    same-length
+    returns)

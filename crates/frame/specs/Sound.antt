@@ -1,0 +1,37 @@
+-- The heads, jobs and sheets in which the tests 7 to 12 find no fault, in terms of their numbers.
+--     SoundHead h         7 and 8 find nothing in the head h
+--     SoundJob m n j      9 to 11 find nothing in the job j, of number n, on a sheet of m benches
+--     SoundSheet h js     7 to 12 find nothing in the head h and the jobs js
+use Prim.Native.Nat.{ℕ, _*_, _^_, _≤_, _<_}
+use mathlib.Core.Bool.{true}
+use mathlib.Core.List.{List}
+use mathlib.Core.Path.{_≡_}
+use lib.ListN.{length}
+use Rattle.frame.specs.declared.sheet.Head.{Head}
+use Rattle.frame.specs.declared.sheet.Job.{Job}
+use Rattle.frame.specs.declared.fault.Verdict.the-variants.{Accepted}
+use Rattle.frame.specs.Format.{allows}
+use Rattle.frame.specs.Tests.{jobAt, hyperEdgeVerdict}
+
+pub record SoundHead (h : Head) : Type 0 where
+  pub some-bench : 0 < h .benches
+  pub at-most-64-benches : h .benches ≤ 64
+  pub target-fits : h .target < 2 ^ 30
+  pub p-fits : h .p < 128
+  pub q-fits : h .q < 128
+  pub q-positive : 0 < h .q
+  pub share-large-enough : 4 * h .q ≤ 7 * h .p
+  pub share-below-one : h .p < h .q
+
+pub record SoundJob (m n : ℕ) (j : Job) : Type 0 where
+  pub number-below-512 : n < 512
+  pub minutes-positive : 0 < j .minutes
+  pub minutes-fit : j .minutes < 2 ^ 20
+  pub allows-some : (b : ℕ) × (b < 64) × (allows j b ≡ true)
+  pub allows-below : (b : ℕ) → b < 64 → allows j b ≡ true → b < m
+
+pub record SoundSheet (h : Head) (js : List Job) : Type 0 where
+  pub head : SoundHead h
+  pub jobs : (i : ℕ) → i < length js → SoundJob (h .benches) i (jobAt js i)
+  pub at-most-512-jobs : length js ≤ 512
+  pub no-heavy-hyper-edge : hyperEdgeVerdict h js ≡ Accepted

@@ -1,0 +1,30 @@
+// What a sheet holds.
+use crate::fault::Verdict;
+
+// Benches, the share p / q, and the target in minutes.
+pub struct Head {
+    pub benches: u64,
+    pub p: u64,
+    pub q: u64,
+    pub target: u64,
+}
+
+// Minutes, and the benches allowed as the sheet's 64-bit field: bench b is the bit of weight 2 ^ (63 - b).
+pub struct Job {
+    pub minutes: u64,
+    pub allowed: u64,
+}
+
+// A whole sheet. Entry n of the arrays is job n; entries from `count` on are 0.
+pub struct Sheet {
+    pub head: Head,
+    pub count: usize,
+    pub minutes: [u64; 512],
+    pub allowed: [u64; 512],
+}
+
+// The sheet that was read, or an empty one beside its first fault.
+pub struct Reading {
+    pub verdict: Verdict,
+    pub sheet: Sheet,
+}

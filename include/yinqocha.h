@@ -1,0 +1,170 @@
+/*
+ * yinqocha.h - sheets of the bay planner
+ *
+ * A sheet holds one day of a depot's test bay: how many benches there are, the share p/q, the
+ * target T in minutes, and the jobs, each with its minutes and the benches that may take it. A
+ * program that has these as plain numbers, such as the depot's screen program, writes a sheet with
+ * yinqocha_write(). Link it with libyinqocha.a (x86-64).
+ *
+ * This header is the manual. It says first what holds of every call, then what the numbers mean,
+ * then describes each function. Jobs and benches count from 0.
+ *
+ *
+ * MEMORY AND THREADS
+ *
+ * The caller lends every buffer for the time of the call. The library keeps no pointer, takes
+ * nothing from the heap, and has no state. Threads may call it at the same time as long as none
+ * writes to a buffer that another is using. The buffers of one call must not overlap.
+ *
+ * A buffer is a pointer and a length in bytes, and the pointer may have any alignment. NULL with
+ * length 0 is an empty buffer. The library reads no byte behind a buffer's length and writes none.
+ *
+ * A call never fails in any other way than by its result word. Every value of every number and
+ * every content of every buffer has an answer.
+ *
+ *
+ * TABLES
+ *
+ * A table is a buffer of numbers of 8 bytes each, least significant byte first. On a little-endian
+ * machine, as x86-64 is, an array of uint64_t is passed as it is:
+ *
+ *     uint64_t minutes[3] = { 5, 5, 5 };
+ *     ... (const uint8_t *)minutes, sizeof minutes ...
+ *
+ * Bytes that a table lacks count as 0.
+ *
+ *
+ * THE RESULT WORD
+ *
+ * Every function returns 64 bits. If the high 32 bits are 0, the call has done its work and the
+ * low 32 bits are its value. Otherwise the high 32 bits are the number of a fault, the low 32 bits
+ * are its place, and the call has written nothing.
+ */
+
+#ifndef YINQOCHA_H
+#define YINQOCHA_H
+
+#include <stddef.h>
+#include <stdint.h>
+
+#ifdef __cplusplus
+extern "C" {
+#endif
+
+/* The fault number of a result word, or YINQOCHA_OK. */
+#define YINQOCHA_FAULT(word) ((uint32_t)((uint64_t)(word) >> 32))
+
+/* The value of a result word without a fault, and the place of one with a fault. */
+#define YINQOCHA_VALUE(word) ((uint32_t)((uint64_t)(word) & UINT64_C(0xFFFFFFFF)))
+
+/*
+ * FAULT NUMBERS, in the order in which they are tried
+ *
+ * The place is given in parentheses. "Frame" means the first byte of the faulty frame, counted
+ * from the start of the sheet. Where a sheet is read, 2 to 11 are tried in this order at each
+ * frame, and 12 after the whole sheet. Where fields are written, 7 and 8 have place 0, and 9 to 12
+ * have the job number.
+ */
+#define YINQOCHA_OK 0u
+
+/* Faults of a sheet that is read. */
+
+/* The sheet is longer than 65,536 bytes (0). */
+#define YINQOCHA_SHEET_TOO_LONG 1u
+/* The sheet ends inside a frame of any version (frame), or its frames are over and none was an end
+ * frame (the sheet's length). */
+#define YINQOCHA_SHEET_CUT 2u
+/* A version 1 frame has a kind other than 1, 2, 3 (frame). */
+#define YINQOCHA_UNKNOWN_KIND 3u
+/* A version 1 frame is out of its place: a job or end before the head, a second head, or any after
+ * the end (frame). */
+#define YINQOCHA_OUT_OF_PLACE 4u
+/* The body length is not that of its kind (frame). */
+#define YINQOCHA_BODY_LENGTH 5u
+/* A spare bit is 1 (frame). */
+#define YINQOCHA_SPARE_BIT 6u
+
+/* Faults of a sheet that is read and of fields that are written. */
+
+/* The head has 0 benches or more than 64 (read: frame; written: 0). Writing: or the target does not
+ * fit its field of 30 bits. */
+#define YINQOCHA_BAD_BENCHES 7u
+/* The share is bad: q is 0, or 7p < 4q, or p >= q (read: frame; written: 0). Writing: or p or q
+ * does not fit its field of 7 bits. */
+#define YINQOCHA_BAD_SHARE 8u
+/* It is the 513th job (read: frame; written: 512). */
+#define YINQOCHA_TOO_MANY_JOBS 9u
+/* A job has 0 minutes (read: frame; written: the job). Writing: or its minutes do not fit their
+ * field of 20 bits. */
+#define YINQOCHA_BAD_MINUTES 10u
+/* A job allows no bench, or a bench the head lacks (read: frame; written: the job). */
+#define YINQOCHA_BAD_ALLOWED 11u
+/* A job allows three or more benches and q * minutes > p * W, with W the longest job's minutes (the
+ * lowest such job, read or written). */
+#define YINQOCHA_LONG_JOB_WITH_CHOICE 12u
+/* A table or an output that the call fills is too short (0). Writing: the sheet does not fit. */
+#define YINQOCHA_NO_ROOM 13u
+
+/*
+ * LIMITS
+ */
+#define YINQOCHA_MAX_BENCHES 64u
+#define YINQOCHA_MAX_JOBS 512u
+#define YINQOCHA_MAX_SHARE 127u         /* of p and of q */
+#define YINQOCHA_MAX_TARGET 1073741823u /* 2^30 - 1 */
+#define YINQOCHA_MAX_MINUTES 1048575u   /* 2^20 - 1 */
+
+/* The bit of bench b, 0 to 63, among the benches that a job allows. */
+#define YINQOCHA_BENCH(b) (UINT64_C(1) << (63 - (b)))
+
+/* The length in bytes of a sheet with n jobs: the head has 10, each job 14, the end 3. It is a
+ * size_t. */
+#define YINQOCHA_SHEET_BYTES(n) ((size_t)10 + (size_t)14 * (n) + (size_t)3)
+
+/*
+ * WRITING A SHEET
+ *
+ * In:
+ *   benches   how many benches there are, 1 to 64
+ *   p, q      the share p/q: at least 4/7 and less than 1, each number at most 127
+ *   target    the target T in minutes, 0 to 2^30 - 1
+ *   minutes   a table: entry j is the minutes of job j, 1 to 2^20 - 1
+ *   allowed   a table: entry j is the benches of job j, the sum of YINQOCHA_BENCH(b) over the
+ *             benches b that may take it, at least one, each below `benches`
+ *
+ * The number of jobs is that of the longer table, a begun entry counting as one. So a job for which
+ * one table has no entry has 0 minutes, or allows no bench, and is refused.
+ *
+ * Out:
+ *   out       the sheet: the head, the jobs in order, and the end. Later bytes keep their contents.
+ *   result    the length of the sheet, YINQOCHA_SHEET_BYTES(number of jobs)
+ *
+ * Faults: 7, then 8, then for each job in order 9, 10 and 11, then 12, then 13. After a fault `out`
+ * keeps its contents. An output of YINQOCHA_SHEET_BYTES(YINQOCHA_MAX_JOBS) bytes, which is 7,181,
+ * always has room.
+ *
+ * Example: three jobs of 5 minutes, each on bench 0 or 1, with target 9.
+ *
+ *     uint64_t both = YINQOCHA_BENCH(0) | YINQOCHA_BENCH(1);
+ *     uint64_t minutes[3] = { 5, 5, 5 };
+ *     uint64_t allowed[3] = { both, both, both };
+ *     uint8_t sheet[YINQOCHA_SHEET_BYTES(3)];
+ *     uint64_t word = yinqocha_write(2, 4, 7, 9,
+ *                                    (const uint8_t *)minutes, sizeof minutes,
+ *                                    (const uint8_t *)allowed, sizeof allowed,
+ *                                    sheet, sizeof sheet);
+ *     if (YINQOCHA_FAULT(word) != YINQOCHA_OK)
+ *         printf("fault %u, place %u\n", YINQOCHA_FAULT(word), YINQOCHA_VALUE(word));
+ *     else
+ *         fwrite(sheet, 1, YINQOCHA_VALUE(word), file);
+ */
+uint64_t yinqocha_write(uint64_t benches, uint64_t p, uint64_t q, uint64_t target,
+                        const uint8_t *minutes, size_t minutes_len,
+                        const uint8_t *allowed, size_t allowed_len,
+                        uint8_t *out, size_t out_len);
+
+#ifdef __cplusplus
+}
+#endif
+
+#endif /* YINQOCHA_H */

@@ -1,0 +1,66 @@
+//! Sets the static library against the model, sheet by sheet: answers, tables and outputs, byte
+//! by byte.
+//!
+//! Arguments: the seed (default 1) and the least number of sheets (default 400,000).
+
+mod check;
+mod door;
+mod fixed_reading;
+mod fixed_writing;
+mod guarded;
+mod laws;
+mod reading;
+mod tally;
+mod writing;
+
+use check::Check;
+use std::{env, process::ExitCode, time::Instant};
+
+const SEED: u64 = 1;
+const SHEETS: u64 = 400_000;
+/// Rounds of random sheets that a run has at least, so that it meets each fault often enough.
+const ROUNDS: u64 = 40;
+
+fn argument(position: usize, default: u64) -> Result<u64, String> {
+    match env::args().nth(position) {
+        None => Ok(default),
+        Some(text) => text.parse().map_err(|_| format!("codec: not a number: {text}")),
+    }
+}
+
+fn main() -> ExitCode {
+    let (seed, sheets) = match (argument(1, SEED), argument(2, SHEETS)) {
+        (Ok(seed), Ok(sheets)) => (seed, sheets),
+        (Err(text), _) | (_, Err(text)) => {
+            eprintln!("{text}");
+            return ExitCode::from(2);
+        }
+    };
+    let start = Instant::now();
+    println!("codec: seed {seed}");
+    let mut check = Check::new(seed);
+    fixed_reading::all(&mut check);
+    fixed_writing::all(&mut check);
+    let mut rounds = 0;
+    while rounds < ROUNDS || check.tally.total() < sheets {
+        reading::round(&mut check);
+        writing::round(&mut check);
+        laws::round(&mut check);
+        rounds += 1;
+    }
+    check.tally.print();
+    let too_seldom = check.tally.too_seldom();
+    if !too_seldom.is_empty() {
+        println!("codec: FAILED, seed {seed}, met too seldom: {}", too_seldom.join("; "));
+        return ExitCode::FAILURE;
+    }
+    println!(
+        "codec: library and model agree on all {} sheets, {} read and {} written \
+         (seed {seed}, {:.1} s)",
+        check.tally.total(),
+        check.tally.total_read(),
+        check.tally.total_written(),
+        start.elapsed().as_secs_f64()
+    );
+    ExitCode::SUCCESS
+}

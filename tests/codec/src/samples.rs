@@ -1,0 +1,118 @@
+//! The sheets of the folder samples/.
+
+use crate::gen::day::{bench_bit, Day};
+use crate::gen::draft::{frame, set, JOB_SPARE};
+use crate::model::sheet::{Head, Job, Sheet};
+use crate::model::writer;
+
+/// Each file of the folder with its bytes.
+pub fn all() -> [(&'static str, Vec<u8>); 3] {
+    [("example-12.sheet", example_12()), ("day.sheet", day()), ("faulty.sheet", faulty())]
+}
+
+/// Examples 5 and 12: "Two benches, three jobs of 5 on both", T = 9, share 4/7.
+pub fn example_5() -> Day {
+    let head = Head { benches: 2, p: 4, q: 7, target: 9 };
+    let job = Job { minutes: 5, allowed: bench_bit(0) | bench_bit(1) };
+    Day { head, jobs: vec![job; 3] }
+}
+
+pub fn example_12() -> Vec<u8> {
+    written(&example_5())
+}
+
+/// A working day of six benches of 480 minutes, with a frame of version 2 among the jobs.
+pub fn day() -> Vec<u8> {
+    let head = Head { benches: 6, p: 4, q: 7, target: 480 };
+    let job = |&(minutes, benches): &(u64, &[u64])| Job {
+        minutes,
+        allowed: benches.iter().map(|&bench| bench_bit(bench)).sum(),
+    };
+    let mut bytes = written(&Day { head, jobs: DAY.iter().map(job).collect() });
+    let after_nine_jobs = writer::sheet_bytes(9) - writer::sheet_bytes(0) + 10;
+    bytes.splice(after_nine_jobs..after_nine_jobs, frame(2, 2, b"bay note"));
+    bytes
+}
+
+/// Example 12's sheet with the last spare bit of job 1 set: fault 6, place 24.
+pub fn faulty() -> Vec<u8> {
+    let mut bytes = example_12();
+    set(&mut bytes[24..38], JOB_SPARE, 1);
+    bytes
+}
+
+fn written(day: &Day) -> Vec<u8> {
+    let mut bytes = vec![0; writer::sheet_bytes(day.jobs.len())];
+    let jobs = day.jobs.iter().copied();
+    writer::write(day.head, jobs, &mut Sheet::new(), &mut bytes).expect("the sample is taken");
+    bytes
+}
+
+/// Minutes and benches of each job. The longest has 210 minutes, so a job with three or more
+/// benches may have 120: 7 × 120 = 4 × 210.
+const DAY: [(u64, &[u64]); 40] = [
+    (210, &[0, 1]),
+    (195, &[0]),
+    (180, &[4, 5]),
+    (165, &[2]),
+    (150, &[1]),
+    (140, &[3, 4]),
+    (135, &[5]),
+    (130, &[2, 3]),
+    (125, &[0, 1]),
+    (120, &[0, 1, 2]),
+    (110, &[3, 4, 5]),
+    (95, &[0, 1, 2, 3, 4, 5]),
+    (90, &[3]),
+    (90, &[2, 4]),
+    (75, &[0, 2, 4]),
+    (75, &[1, 3, 5]),
+    (60, &[5]),
+    (60, &[3, 4, 5]),
+    (60, &[0, 1, 2, 3]),
+    (55, &[2, 3]),
+    (50, &[4]),
+    (45, &[0, 1, 2, 3, 4, 5]),
+    (45, &[1, 2]),
+    (45, &[0, 5]),
+    (40, &[3, 4, 5]),
+    (40, &[2, 3, 4]),
+    (35, &[4, 5]),
+    (30, &[0, 1, 2, 3, 4, 5]),
+    (30, &[0, 1, 2, 3, 4, 5]),
+    (30, &[1]),
+    (30, &[3, 5]),
+    (25, &[2, 4, 5]),
+    (25, &[0, 3]),
+    (20, &[0, 1, 2, 3, 4, 5]),
+    (20, &[2, 3, 4]),
+    (20, &[4]),
+    (15, &[0, 1]),
+    (15, &[0, 1, 2, 3, 4, 5]),
+    (10, &[3, 4, 5]),
+    (5, &[2]),
+];
+
+#[cfg(test)]
+mod tests {
+    use super::*;
+    use crate::model::door::Codec;
+    use crate::model::fault::Fault;
+
+    #[test]
+    fn the_folder_has_these_bytes() {
+        let folder = concat!(env!("CARGO_MANIFEST_DIR"), "/../../samples/");
+        for (name, bytes) in all() {
+            let file = std::fs::read(format!("{folder}{name}")).expect(name);
+            assert_eq!(file, bytes, "{name}");
+        }
+    }
+
+    #[test]
+    fn the_samples_read_as_they_are_described() {
+        let mut codec = Codec::default();
+        assert_eq!(codec.read(&example_12()).map(|sheet| sheet.jobs().len()), Ok(3));
+        assert_eq!(codec.read(&day()).map(|sheet| sheet.jobs().len()), Ok(40));
+        assert_eq!(codec.read(&faulty()).err(), Some(Fault { number: 6, place: 24 }));
+    }
+}
