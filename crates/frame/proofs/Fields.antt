@@ -2,17 +2,16 @@
 --     version-digits, kind-digits, length-digits        of the header's three bytes
 --     benches-digits, p-digits, q-digits, target-digits, headSpare-digits    of the head's seven bytes
 --     minutes-digits, allowed-digits, jobSpare-digits    of the job's first eight bytes and its last three
-use Prim.Native.Nat.{ℕ, _+_, _*_, _/_, _%_, _≤_}
+use Prim.Native.Nat.{ℕ, _+_, _*_, _/_, _%_}
 use mathlib.Core.Path.{_≡_, sym, ap, _∙_}
 use mathlib.Core.List.{List}
 use native.Mathlib.Nat.{div-one}
-use native.Mathlib.Omega.{arith}
 use lib.ListN.{drop}
 use lib.Dec.{lit≤}
 use Rattle.bits.specs.Bits.{Bytes, bits, big}
 use Rattle.bits.specs.Layout.{field}
 use Rattle.bits.proofs.BitsLaws.{bits-big, bits-split, bits-drop, Bytes-drop}
-use Rattle.frame.specs.Format.{versionOf, kindOf, lengthOf, headLayout, jobLayout, headOf, jobOf}
+use Rattle.frame.specs.Format.{versionOf, kindOf, lengthOf, headLayout, jobLayout}
 
 module _ (s : List ℕ) (ok : Bytes s) where
   pub version-digits : big s 3 / 1048576 % 16 ≡ versionOf s

@@ -6,16 +6,16 @@
 --     heavy-found           the first job that the test holds of is the fault's place
 --     heavy-none            no such job, no fault
 use Prim.Native.Nat.{ℕ, _*_, _^_, _≤_, _<_}
-use mathlib.Core.Path.{_≡_, refl, sym, ap, subst, _∙_}
-use mathlib.Core.Bool.{Bool, true, false}
+use mathlib.Core.Path.{_≡_, sym, ap, subst, _∙_}
+use mathlib.Core.Bool.{true, false}
 use mathlib.Core.List.{List}
 use native.Mathlib.Nat.{mul-le-mul}
 use native.Mathlib.Omega.{arith}
-use lib.ListN.{length, getD}
+use lib.ListN.{getD}
 use lib.Count.{ones}
 use lib.Dec.{leb}
 use borrow.Author.Tests.{lt-ltb, le-ltb, le-leb, lt-leb}
-use Rattle.bools.proofs.BoolLaws.{and-intro, and-false-left, and-false-right}
+use Rattle.bools.proofs.BoolLaws.{and-false-right}
 use Rattle.sums.specs.Sum.{count, largest}
 use Rattle.sums.proofs.LargestLaws.{largest-cong}
 use Rattle.sums.proofs.TableLaws.{length-table, getD-table}

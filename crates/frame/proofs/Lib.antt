@@ -10,3 +10,6 @@ pub mod FirstFault
 pub mod HyperEdges
 pub mod ReadSteps
 pub mod WriterSteps
+pub mod AcceptedLaws
+pub mod EnoughJobs
+pub mod Places

@@ -6,10 +6,10 @@
 --     readFrom-next       a sound frame of version 1
 --     frameSize-pos, cut-false      a frame is not empty; a whole frame is within what is left
 --     readFrom-enough     any two bounds that are at least the bytes left give the same
-use Prim.Native.Nat.{ℕ, zero, suc, _+_, _-_, _≤_, _<_}
-use mathlib.Core.Path.{_≡_, refl, sym, ap, _∙_}
-use mathlib.Core.Bool.{Bool, true, false, _||_}
-use mathlib.Core.List.{List, [], _∷_}
+use Prim.Native.Nat.{ℕ, zero, suc, _+_, _≤_}
+use mathlib.Core.Path.{_≡_, refl, sym, _∙_}
+use mathlib.Core.Bool.{Bool, true, false}
+use mathlib.Core.List.{List}
 use native.Mathlib.Omega.{arith}
 use lib.ListN.{length, drop, length-drop}
 use lib.Dec.{eqb, ltb}
@@ -21,7 +21,7 @@ use Rattle.frame.specs.declared.fault.Verdict.{Verdict}
 use Rattle.frame.specs.declared.fault.Verdict.the-variants.{Accepted, Refused}
 use Rattle.frame.specs.Format.{ours, headerSize, versionOf, kindOf, frameSize, bodyOf}
 use Rattle.frame.specs.Tests.{firstFault}
-use Rattle.frame.specs.Reading.{Progress, Read, refused, faultsAt, after, cut, ending, readFrom}
+use Rattle.frame.specs.Reading.{Progress, refused, faultsAt, after, cut, ending, readFrom}
 
 pub frameSize-pos : (rest : List ℕ) → 3 ≤ frameSize rest
 frameSize-pos rest = omega arith

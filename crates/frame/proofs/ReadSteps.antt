@@ -6,13 +6,11 @@
 --     state-start, state-cut, state-foreign, state-fault, state-head, state-job, state-end     the loop
 --     Header, header-at, cut-header, cut-body, whole-frame, next-is, body-is, judged-is     the frame at byte at, by the header that was read
 --     state-count, state-minutes, state-jobs, state-over     after the loop
-use Prim.Native.Nat.{ℕ, zero, suc, _+_, _-_, _^_, _≤_, _<_}
+use Prim.Native.Nat.{ℕ, suc, _+_, _-_, _^_, _≤_, _<_}
 use mathlib.Core.Path.{_≡_, refl, sym, ap, ap₂, subst, _∙_}
 use mathlib.Core.Logic.{⊎-elim}
-use mathlib.Core.Bool.{Bool, true, false, cond, not}
+use mathlib.Core.Bool.{Bool, true, false, cond}
 use mathlib.Core.List.{List, [], _∷_, _++_, map, map-append}
-use native.Mathlib.Nat.{add-assoc, sub-zero}
-use native.Mathlib.Numerals.{add-one}
 use native.Mathlib.Omega.{arith}
 use lib.ListN.{length, getD, set, drop, take, replicate, length-map, length-append, length-drop, length-replicate, List·getD-append, List·getD-map}
 use lib.Seq.{getD-append-seam, set-at, append-snoc, drop-drop, take-all}
@@ -33,15 +31,16 @@ use Rattle.frame.specs.declared.fault.Fault.{Fault}
 use Rattle.frame.specs.declared.fault.Fault.the-variants.{Truncated}
 use Rattle.frame.specs.declared.fault.Verdict.{Verdict}
 use Rattle.frame.specs.declared.fault.Verdict.the-variants.{Accepted, Refused}
-use Rattle.frame.specs.Format.{ours, headKind, jobKind, endKind, versionOf, kindOf, lengthOf, frameSize, bodyOf, bodyLength, headOf, jobOf, spareOf}
+use Rattle.frame.specs.Format.{ours, headKind, jobKind, versionOf, kindOf, lengthOf, frameSize, bodyOf, headOf, jobOf}
 use Rattle.frame.specs.Tests.{firstFault, jobFaults, jobTable, jobAt, noJob}
 use Rattle.frame.specs.Sound.{SoundJob}
-use Rattle.frame.specs.Reading.{Progress, Read, accepted, refused, nothingRead, knownKind, misplaced, contentFaults, frameFaults, faultsAt, after, cut, ending, endVerdict, judged, readFrom, readSheet, padded, sheetOf, noHead}
+use Rattle.frame.specs.Reading.{Progress, refused, faultsAt, after, cut, endVerdict, judged, readFrom, readSheet, padded, sheetOf, noHead}
 use Rattle.frame.specs.Frames.{readOn}
 use Rattle.frame.specs.Steps.{frameOf, contentOf, sound}
 use Rattle.frame.proofs.ReadLaws.{cut-false, frameSize-pos, readFrom-over, readFrom-foreign, readFrom-fault, readFrom-next, readFrom-enough}
 use Rattle.frame.proofs.WholeFrames.{readOn-cut, readSheet-within}
-use Rattle.frame.proofs.WriterLaws.{cond-accepted, job-sound}
+use Rattle.frame.proofs.AcceptedLaws.{content-accepted}
+use Rattle.frame.proofs.WriterLaws.{job-sound}
 
 -- ── the arrays of a sheet ──
 
@@ -161,16 +160,6 @@ module _ (g : Progress) (at : ℕ) (rest : List ℕ) where
       let k = content-head (eqb (kindOf rest) headKind) (eqb (kindOf rest) jobKind) (headOf (bodyOf rest)) h (jobOf (bodyOf rest)) (s .1) in
       (s .0, sym (k .1), rw (k .0) (ap (λ (x : Head). record { stage = Open; head = x; jobs = g .jobs }) (k .1)))
 
-  -- A sound frame's last tests are those of what it holds.
-  content-accepted : firstFault (faultsAt g at rest) ≡ Accepted
-      → firstFault (contentFaults (g .head .benches) (length (g .jobs)) at (kindOf rest) (bodyOf rest)) ≡ Accepted
-  unfolding frameFaults
-  content-accepted e =
-      let kind-known = cond-accepted (not (knownKind (kindOf rest))) _ _ e in
-      let in-place = cond-accepted (misplaced (g .stage) (kindOf rest)) _ _ (kind-known .1) in
-      let right-length = cond-accepted (not (eqb (length (bodyOf rest)) (bodyLength (kindOf rest)))) _ _ (in-place .1) in
-      cond-accepted (not (eqb (spareOf (kindOf rest) (bodyOf rest)) 0)) _ _ (right-length .1) .1
-
   pub frameOf-job : (j : Job) → judgement ≡ frame.Job j
       → (firstFault (faultsAt g at rest) ≡ Accepted) × (j ≡ jobOf (bodyOf rest))
       × (after g (kindOf rest) (bodyOf rest) ≡ record { stage = g .stage; head = g .head; jobs = g .jobs ++ (j ∷ []) })
@@ -184,7 +173,7 @@ module _ (g : Progress) (at : ℕ) (rest : List ℕ) where
         rw (k .0, k .1) (ap (λ (x : Job). record { stage = g .stage; head = g .head; jobs = g .jobs ++ (x ∷ []) }) (k .2)),
         job-sound (g .head .benches) (length (g .jobs)) j at
             (subst (λ (x : Job). firstFault (jobFaults (g .head .benches) (length (g .jobs)) x at) ≡ Accepted) (k .2)
-            (rw (k .0, k .1) at (content-accepted (s .0)))),
+            (rw (k .0, k .1) at (content-accepted g at rest (s .0)))),
       )
 
   pub frameOf-end : judgement ≡ frame.End

@@ -2,16 +2,15 @@
 --     shareFault-p, -q, -zero, -low, -high     each part of fault 8 makes it; shareFault-sound: no part, no fault
 --     shifted-zero                    no bit is left behind the head's benches exactly where the low bits are 0
 --     allowedFault-none, -lacking     each part of fault 11 makes it; allowedFault-sound, -full: no part, no fault
-use Prim.Native.Nat.{ℕ, zero, _+_, _-_, _*_, _/_, _%_, _^_, _≤_, _<_}
-use mathlib.Core.Path.{_≡_, refl, sym, ap, subst, _∙_}
-use mathlib.Core.Logic.{_≢_}
-use mathlib.Core.Bool.{Bool, true, false, not, _&&_, _||_, or-true}
+use Prim.Native.Nat.{ℕ, _+_, _-_, _*_, _/_, _%_, _^_, _≤_, _<_}
+use mathlib.Core.Path.{_≡_, sym, ap, subst, _∙_}
+use mathlib.Core.Bool.{true, false, not, _&&_, or-true}
 use native.Mathlib.Nat.{mul-assoc, add-mul, sub-add-cancel, mul-lt-mul-of-pos-right, mod-lt, div-add-mod', zero-mul, mul-div-cancel, zero-div}
 use native.Mathlib.Omega.{arith}
-use lib.Dec.{eqb, ltb, leb, lit≤}
+use lib.Dec.{leb}
 use lib.Pow.{pow-pos, pow-add}
 use lib.Arith.{digits-mod}
-use borrow.Author.Tests.{eq-eqb, ne-eqb, lt-ltb, le-ltb, le-leb, lt-leb, eqb-false}
+use borrow.Author.Tests.{eq-eqb, ne-eqb, lt-ltb, le-ltb, le-leb, lt-leb}
 use Rattle.sums.specs.Search.{any}
 use Rattle.sums.proofs.SearchLaws.{any-false}
 use Rattle.bits.proofs.SetBits.{any-isSet, low-isSet}

@@ -12,7 +12,7 @@
 --     allows job b                whether the job may run on bench b
 --     frameBytes kind body        a frame of version 1
 --     headFrame, jobFrame, endFrame, sheetBytes    what the writer gives
-use Prim.Native.Nat.{ℕ, zero, suc, _+_, _/_}
+use Prim.Native.Nat.{ℕ, _+_, _/_}
 use mathlib.Core.Bool.{Bool, cond}
 use mathlib.Core.List.{List, [], _∷_, _++_}
 use lib.ListN.{length, take, drop}

@@ -9,8 +9,8 @@
 --     heavyHyperEdge h w j    what 12 says of a job
 --     hyperEdgeVerdict h js   12: the lowest such job
 -- Tests of a width can hold for numbers handed to the writer only: a field that was read fits its width.
-use Prim.Native.Nat.{ℕ, _+_, _*_, _^_}
-use mathlib.Core.Bool.{Bool, true, false, cond, not, _&&_, _||_}
+use Prim.Native.Nat.{ℕ, _*_, _^_}
+use mathlib.Core.Bool.{Bool, cond, not, _&&_, _||_}
 use mathlib.Core.List.{List, [], _∷_}
 use lib.ListN.{length, getD}
 use lib.Dec.{eqb, leb, ltb}

@@ -5,14 +5,13 @@
 --     writerVerdict h js      7 to 12, with job numbers as places (0 for 7 and 8)
 --     writeSheet h js room    the length, or the fault, for an output of room bytes
 --     output r h js out       the whole output afterwards
-use Prim.Native.Nat.{ℕ, suc, _+_, max}
-use mathlib.Core.Bool.{Bool, true, false, cond}
+use Prim.Native.Nat.{ℕ, suc, max}
+use mathlib.Core.Bool.{cond}
 use mathlib.Core.List.{List, [], _∷_, _++_}
 use lib.ListN.{length, drop}
 use lib.Dec.{leb}
 use Rattle.frame.specs.declared.sheet.Head.{Head}
 use Rattle.frame.specs.declared.sheet.Job.{Job}
-use Rattle.frame.specs.declared.fault.Fault.{Fault}
 use Rattle.frame.specs.declared.fault.Fault.the-variants.{Table}
 use Rattle.frame.specs.declared.fault.Verdict.{Verdict}
 use Rattle.frame.specs.declared.fault.Verdict.the-variants.{Accepted, Refused}

@@ -7,8 +7,9 @@
 --     table-getD      the table of a list's elements is the list
 --     map-table       g of every element of a table
 --     take-table      the first k elements of a table
+--     take-table-min  the same where the table may have fewer than k
 --     set-table       a table with one element replaced
-use Prim.Native.Nat.{ℕ, zero, suc, _+_, _≤_, _<_}
+use Prim.Native.Nat.{ℕ, zero, suc, _+_, _≤_, _<_, min}
 use mathlib.Core.Bool.{cond}
 use mathlib.Core.List.{List, [], _∷_, _++_, map}
 use mathlib.Core.Path.{_≡_, refl, _∙_, ap, ap₂}
@@ -50,6 +51,13 @@ module _ {ℓ} {A : Type ℓ} where
   take-table zero n f h = refl
   take-table (suc k) zero f h = absurd (omega arith)
   take-table (suc k) (suc n) f h = ap (λ (l : List A). f 0 ∷ l) (take-table k n (λ i. f (suc i)) (omega arith))
+
+  pub take-table-min : (k n : ℕ) (f : ℕ → A) → take k (table n f) ≡ table (min k n) f
+  take-table-min zero n f = let e : min 0 n ≡ 0 = omega arith in rw e
+  take-table-min (suc k) zero f = let e : min (suc k) 0 ≡ 0 = omega arith in rw e
+  take-table-min (suc k) (suc n) f =
+      let e : min (suc k) (suc n) ≡ suc (min k n) = omega arith in
+      rw e (ap (λ (l : List A). f 0 ∷ l) (take-table-min k n (λ i. f (suc i))))
 
   pub set-table : (n : ℕ) (f : ℕ → A) (i : ℕ) (a : A) → set (table n f) i a ≡ table n (λ k. cond (eqb k i) a (f k))
   set-table zero f i a = refl

@@ -1,0 +1,156 @@
+-- Places of faults, and numbers of jobs, are small.
+-- Of verdicts:
+--     cond-refused        a test and then a verdict refuse: the test's fault is given, or the verdict refuses
+--     andThen-refused     two verdicts one after the other refuse: the first does, or it accepts and the second does
+-- Of the writer:
+--     head-place          a fault that the tests 7 and 8 find has the place that they are given
+--     job-place           so has one that the tests 9 to 11 find in a job
+--     jobs-place          one that they find in a list of jobs has a place of at most 512
+--     hyper-edge-place    one of number 12 has the number of a job for its place
+--     writer-place        a fault that the writer finds has a place of at most 512
+--     written-place       so has one that it returns
+--     written-length      a length that it returns is 13 + 14 bytes a job, and at most 7181
+-- Of the reader:
+--     reached-jobs        wherever reading comes to, it has read at most 512 jobs: the 513th is refused
+--     read-jobs           a sheet that is accepted has at most 512 jobs
+--     read-place          a fault of a sheet has a place of at most 65536
+use Prim.Native.Nat.{ℕ, suc, _+_, _*_, _≤_, _<_}
+use native.Mathlib.Omega.{arith}
+use mathlib.Core.Path.{_≡_, refl, sym, ap, _∙_}
+use mathlib.Core.Bool.{Bool, true, false, cond}
+use mathlib.Core.Logic.{_⊎_, inl, inr}
+use mathlib.Core.List.{List, [], _∷_}
+use lib.ListN.{length, length-append}
+use lib.Dec.{eqb, leb}
+use Rattle.bools.proofs.BoolLaws.{split, tests}
+use Rattle.bools.proofs.OrderLaws.{lt-or-le}
+use Rattle.frame.specs.declared.sheet.Head.{Head}
+use Rattle.frame.specs.declared.sheet.Job.{Job}
+use Rattle.frame.specs.declared.fault.Fault.{Fault}
+use Rattle.frame.specs.declared.fault.Fault.the-variants.{Table}
+use Rattle.frame.specs.declared.fault.Verdict.{Verdict}
+use Rattle.frame.specs.declared.fault.Verdict.the-variants.{Accepted, Refused}
+use Rattle.frame.specs.declared.writer.Written.the-variants.{Length, Refusal}
+use Rattle.frame.specs.Numbers.{placeOf}
+use Rattle.frame.specs.Format.{headKind, jobKind, kindOf, bodyOf, sheetBytes}
+use Rattle.frame.specs.Tests.{firstFault, headFaults, jobFaults, benchCountFault, shareFault, jobCountFault, minutesFault, allowedFault, hyperEdgeVerdict}
+use Rattle.frame.specs.Writing.{andThen, jobsVerdict, writerVerdict, writeSheet}
+use Rattle.frame.specs.Reading.{Progress, accepted, refused, frameFaults, faultsAt, after, readSheet}
+use Rattle.frame.specs.Frames.{NoneHolds, Reached, start, past-foreign, past-sound, FaultHere, ends-inside, in-frame, no-end, heavy-hyper-edge}
+use Rattle.frame.proofs.WriterLaws.{length-sheetBytes, job-sound, jobs-bound, writerVerdict-sound}
+use Rattle.frame.proofs.WholeFrames.{verdict-cases}
+use Rattle.frame.proofs.FirstFault.{in-frame-number, lowest-hyper-edge, reached-length, read-too-long, read-fault, read-accepted}
+
+-- ── verdicts ──
+
+pub cond-refused : (b : Bool) (g : Fault) (v : Verdict) (f : Fault) → cond b (Refused g) v ≡ Refused f → (g ≡ f) ⊎ (v ≡ Refused f)
+cond-refused true g v f e = inl (cc)
+cond-refused false g v f e = inr e
+
+pub andThen-refused : (v w : Verdict) (f : Fault) → andThen v w ≡ Refused f → (v ≡ Refused f) ⊎ ((v ≡ Accepted) × (w ≡ Refused f))
+andThen-refused Accepted w f e = inr (refl, e)
+andThen-refused (Refused g) w f e = inl e
+
+-- ── the writer ──
+
+pub head-place : (h : Head) (at : ℕ) (f : Fault) → firstFault (headFaults h at) ≡ Refused f → placeOf f ≡ at
+head-place h at f e = elim (cond-refused (benchCountFault h) _ _ f e) [
+  | inl p ↦ sym (ap placeOf p)
+  | inr q ↦ elim (cond-refused (shareFault h) _ _ f q) [
+    | inl p ↦ sym (ap placeOf p)
+    | inr r ↦ let z : _≡_ {A = ℕ} 0 1 = cc in absurd (omega arith)
+  ]
+]
+
+pub job-place : (m n : ℕ) (j : Job) (at : ℕ) (f : Fault) → firstFault (jobFaults m n j at) ≡ Refused f → placeOf f ≡ at
+job-place m n j at f e = elim (cond-refused (jobCountFault n) _ _ f e) [
+  | inl p ↦ sym (ap placeOf p)
+  | inr q ↦ elim (cond-refused (minutesFault j) _ _ f q) [
+    | inl p ↦ sym (ap placeOf p)
+    | inr r ↦ elim (cond-refused (allowedFault m j) _ _ f r) [
+      | inl p ↦ sym (ap placeOf p)
+      | inr s ↦ let z : _≡_ {A = ℕ} 0 1 = cc in absurd (omega arith)
+    ]
+  ]
+]
+
+-- Behind a sound job its number is below 512.
+pub jobs-place : (m n : ℕ) (js : List Job) (f : Fault) → n ≤ 512 → jobsVerdict m n js ≡ Refused f → placeOf f ≤ 512
+unfolding jobsVerdict
+jobs-place m n [] f l e = let z : _≡_ {A = ℕ} 0 1 = cc in absurd (omega arith)
+jobs-place m n (j ∷ js) f l e = elim (andThen-refused (firstFault (jobFaults m n j n)) (jobsVerdict m (suc n) js) f e) [
+  | inl p ↦ omega (arith, job-place m n j n f p)
+  | inr q ↦ jobs-place m (suc n) js f (job-sound m n j n (q .0) .number-below-512) (q .1)
+]
+
+pub hyper-edge-place : (h : Head) (js : List Job) (f : Fault) → hyperEdgeVerdict h js ≡ Refused f → placeOf f < length js
+hyper-edge-place h js f e = let r = lowest-hyper-edge h js f e in omega (arith, ap placeOf (r .1), r .2 .is-job)
+
+pub writer-place : (h : Head) (js : List Job) (f : Fault) → writerVerdict h js ≡ Refused f → placeOf f ≤ 512
+unfolding writerVerdict
+writer-place h js f e = elim (andThen-refused (firstFault (headFaults h 0)) _ f e) [
+  | inl p ↦ omega (arith, head-place h 0 f p)
+  | inr q ↦ elim (andThen-refused (jobsVerdict (h .benches) 0 js) _ f (q .1)) [
+    | inl p ↦ jobs-place (h .benches) 0 js f (omega arith) p
+    | inr r ↦ omega (arith, hyper-edge-place h js f (r .1), jobs-bound (h .benches) 0 js (r .0) (omega arith))
+  ]
+]
+
+fitted-place : (b : Bool) (n : ℕ) (f : Fault) → cond b (Length n) (Refusal (Table 0)) ≡ Refusal f → placeOf f ≡ 0
+fitted-place true n f e = let z : _≡_ {A = ℕ} 0 1 = cc in absurd (omega arith)
+fitted-place false n f e = let g : Table 0 ≡ f = cc in sym (ap placeOf g)
+
+pub written-place : (h : Head) (js : List Job) (room : ℕ) (f : Fault) → writeSheet h js room ≡ Refusal f → placeOf f ≤ 512
+unfolding writeSheet
+written-place h js room f e = elim (verdict-cases (writerVerdict h js)) [
+  | inl a ↦ omega (arith, fitted-place (leb (length (sheetBytes h js)) room) (length (sheetBytes h js)) f (rw (a, writeSheet) at e))
+  | inr a ↦ let g : a .0 ≡ f = cc in writer-place h js f (a .1 ∙ ap Refused g)
+]
+
+fitted-length : (b : Bool) (m n : ℕ) → cond b (Length m) (Refusal (Table 0)) ≡ Length n → m ≡ n
+fitted-length true m n e = cc
+fitted-length false m n e = let z : _≡_ {A = ℕ} 0 1 = cc in absurd (omega arith)
+
+pub written-length : (h : Head) (js : List Job) (room n : ℕ) → writeSheet h js room ≡ Length n → (n ≡ 13 + 14 * length js) × (n ≤ 7181)
+unfolding writeSheet
+written-length h js room n e = elim (verdict-cases (writerVerdict h js)) [
+  | inl a ↦
+      let size : ℕ = length (sheetBytes h js) in
+      let same : size ≡ n = fitted-length (leb size room) size n (rw (a, writeSheet) at e) in
+      omega (arith, same, length-sheetBytes h js, writerVerdict-sound h js a .at-most-512-jobs)
+  | inr a ↦ let z : _≡_ {A = ℕ} 0 1 = cc in absurd (omega arith)
+]
+
+-- ── the reader ──
+
+few-after : (g : Progress) (at : ℕ) (f : List ℕ) → length (g .jobs) ≤ 512 → NoneHolds (faultsAt g at f)
+    → length (after g (kindOf f) (bodyOf f) .jobs) ≤ 512
+unfolding frameFaults after
+few-after g at f l n = elim (split (eqb (kindOf f) headKind)) [
+  | inl p ↦ rw p l
+  | inr p ↦ elim (split (eqb (kindOf f) jobKind)) [
+    | inl q ↦ let t = rw (p, q) at (n .1 .1 .1 .1) in rw (p, q, length-append) (omega tests)
+    | inr q ↦ rw (p, q) l
+  ]
+]
+
+pub reached-jobs : {s : List ℕ} {at : ℕ} {rest : List ℕ} {g : Progress} → Reached s at rest g → length (g .jobs) ≤ 512
+reached-jobs start = omega arith
+reached-jobs (past-foreign r w) = reached-jobs r
+reached-jobs (past-sound {at} {f} {rest} {g} r w v n) = few-after g at f (reached-jobs r) n
+
+pub read-jobs : (s : List ℕ) (h : Head) (js : List Job) → readSheet s ≡ accepted h js → length js ≤ 512
+read-jobs s h js e = let x = read-accepted s h js e .1 in omega (arith, reached-jobs (x .reached), ap length (x .jobs-read))
+
+fault-here-place : {s : List ℕ} {at : ℕ} {rest : List ℕ} {g : Progress} {f : Fault} → length s ≤ 65536 → Reached s at rest g
+    → FaultHere s at rest g f → placeOf f ≤ 65536
+fault-here-place l r (ends-inside h c) = omega (arith, reached-length r)
+fault-here-place {at} {g} {f} l r (in-frame frame later e w v t) = omega (arith, reached-length r, in-frame-number g at frame f t)
+fault-here-place l r (no-end e n) = l
+fault-here-place l r (heavy-hyper-edge e c low) = omega (arith, reached-jobs r, low .is-job)
+
+pub read-place : (s : List ℕ) (f : Fault) → readSheet s ≡ refused f → placeOf f ≤ 65536
+read-place s f e = elim (lt-or-le 65536 (length s)) [
+  | inl l ↦ let t = read-too-long s l in let p : placeOf f ≡ 0 = cc in omega arith
+  | inr l ↦ let x = read-fault s f l e in fault-here-place l (x .reached) (x .fault-here)
+]

@@ -1,0 +1,196 @@
+-- What each step of showing a reading does to the table, and what the reading says. A law's premises are what the calls before it ensure.
+-- Bytes of the table:
+--     number-put              a number put behind those that stand there
+--     head-put                the four numbers of a head, put one behind the other
+--     jobNumbers-append, length-jobNumbers    the numbers of jobs
+--     jobs-none, jobs-more    no job makes no numbers; a job's two numbers behind those of the first i
+--     all-put                 the numbers of the head and then those of the jobs
+-- What was read:
+--     stored-refused          a reading that refuses: the sheet is refused for that fault
+--     Stored, stored-accepted     a reading that accepts: what its sheet holds
+-- What is returned:
+--     fault-shown, no-room, all-shown     a fault, a table that is too short, and the numbers
+use Prim.Native.Nat.{ℕ, _+_, _*_, _≤_, _<_}
+use native.Mathlib.Numerals.{add-one}
+use native.Mathlib.Omega.{arith}
+use mathlib.Core.Path.{_≡_, refl, sym, ap, _∙_}
+use mathlib.Core.List.{List, [], _∷_, _++_, append-assoc, append-nil, map}
+use lib.ListN.{length, getD, take, drop, length-append, length-map, take-append-drop}
+use borrow.Author.Tests.{lt-ltb, le-ltb}
+use Rattle.sums.specs.Table.{table}
+use Rattle.sums.proofs.TableLaws.{length-table, table-snoc}
+use Rattle.bits.specs.Little.{littleOf, littleAll}
+use Rattle.bits.proofs.LittleLaws.{length-littleAll, littleAll-append, littleAll-one}
+use Rattle.frame.specs.declared.sheet.Head.{Head}
+use Rattle.frame.specs.declared.sheet.Job.{Job}
+use Rattle.frame.specs.declared.sheet.Sheet.{Sheet}
+use Rattle.frame.specs.declared.sheet.Reading.{Reading}
+use Rattle.frame.specs.declared.fault.Fault.{Fault}
+use Rattle.frame.specs.declared.fault.Fault.the-variants.{Table}
+use Rattle.frame.specs.declared.fault.Verdict.the-variants.{Accepted, Refused}
+use Rattle.frame.specs.Tests.{jobTable}
+use Rattle.frame.specs.Reading.{Read, accepted, refused, readSheet, stored, sheetOf}
+use Rattle.frame.proofs.WriterSteps.{written, written-after}
+use Rattle.frame.proofs.ReadSteps.{length-padded, table-padded}
+use Rattle.frame.proofs.Places.{read-jobs}
+use Rattle.yinqocha.specs.Door.{faultWord}
+use Rattle.inspect.specs.Inspect.{jobNumbers, numbersRead, sizeRead, inspectWord, inspectTable}
+
+-- ── numbers in the table ──
+
+pub number-put : (t : List ℕ) (at : ℕ) (ns : List ℕ) (v k : ℕ) {one two : List ℕ} → at ≤ length t → 8 * k ≡ at + length ns * 8
+    → one ≡ written t at (littleAll 8 ns) (8 * k) → two ≡ written one (8 * k) (littleOf 8 v) (8 * k + 8)
+    → two ≡ written t at (littleAll 8 (ns ++ v ∷ [])) (8 * k + 8)
+number-put t at ns v k h e first second =
+    second
+    ∙ rw (first, littleAll-append 8 ns (v ∷ []), littleAll-one 8 v)
+    (written-after t at (littleAll 8 ns) (littleOf 8 v) (8 * k) (8 * k + 8) h (omega (arith, length-littleAll 8 ns)) (omega arith))
+
+start-put : (t : List ℕ) (at : ℕ) → t ≡ written t at (littleAll 8 []) at
+unfolding littleAll
+start-put t at = rw (append-nil (take at t)) (sym (take-append-drop at t))
+
+pub head-put : (t : List ℕ) (h : Head) {one two three four : List ℕ}
+    → one ≡ written t 0 (littleOf 8 (h .benches)) 8 → two ≡ written one 8 (littleOf 8 (h .p)) 16
+    → three ≡ written two 16 (littleOf 8 (h .q)) 24 → four ≡ written three 24 (littleOf 8 (h .target)) 32
+    → four ≡ littleAll 8 (numbersRead h []) ++ drop 32 t
+unfolding jobNumbers
+head-put t h p q r s =
+    let a = h .benches in
+    let b = h .p in
+    let c = h .q in
+    let one = number-put t 0 [] a 0 (omega arith) refl (start-put t 0) p in
+    let two = number-put t 0 (a ∷ []) b 1 (omega arith) refl one q in
+    let three = number-put t 0 (a ∷ b ∷ []) c 2 (omega arith) refl two r in
+    number-put t 0 (a ∷ b ∷ c ∷ []) (h .target) 3 (omega arith) refl three s
+
+-- ── the numbers of the jobs ──
+
+pub jobNumbers-append : (first second : List Job) → jobNumbers (first ++ second) ≡ jobNumbers first ++ jobNumbers second
+unfolding jobNumbers
+jobNumbers-append [] second = refl
+jobNumbers-append (j ∷ first) second = ap (λ (ns : List ℕ). j .minutes ∷ j .allowed ∷ ns) (jobNumbers-append first second)
+
+pub length-jobNumbers : (js : List Job) → length (jobNumbers js) ≡ 2 * length js
+unfolding jobNumbers
+length-jobNumbers [] = refl
+length-jobNumbers (j ∷ js) = omega (arith, length-jobNumbers js)
+
+pub jobs-none : (t : List ℕ) → t ≡ written t 32 (littleAll 8 (jobNumbers [])) 32
+unfolding jobNumbers
+jobs-none t = start-put t 32
+
+jobNumbers-more : (i : ℕ) (job : ℕ → Job)
+    → jobNumbers (table (i + 1) job) ≡ jobNumbers (table i job) ++ job i .minutes ∷ [] ++ job i .allowed ∷ []
+unfolding jobNumbers
+jobNumbers-more i job =
+    ap (λ (n : ℕ). jobNumbers (table n job)) (add-one i)
+    ∙ ap jobNumbers (table-snoc i job)
+    ∙ jobNumbers-append (table i job) (job i ∷ [])
+    ∙ sym (append-assoc (jobNumbers (table i job)) (job i .minutes ∷ []) (job i .allowed ∷ []))
+
+pub jobs-more : (t ms bs : List ℕ) (i : ℕ) {one two three : List ℕ} → 32 ≤ length t
+    → one ≡ written t 32 (littleAll 8 (jobNumbers (jobTable i ms bs))) (32 + 16 * i)
+    → two ≡ written one (8 * (4 + 2 * i)) (littleOf 8 (getD ms i 0)) (8 * (4 + 2 * i) + 8)
+    → three ≡ written two (8 * (5 + 2 * i)) (littleOf 8 (getD bs i 0)) (8 * (5 + 2 * i) + 8)
+    → three ≡ written t 32 (littleAll 8 (jobNumbers (jobTable (i + 1) ms bs))) (32 + 16 * (i + 1))
+jobs-more t ms bs i {one} {two} {three} l first second third =
+    let job : ℕ → Job = λ n. record { minutes = getD ms n 0; allowed = getD bs n 0 } in
+    let ns : List ℕ = jobNumbers (table i job) in
+    let m : ℕ = getD ms i 0 in
+    let b : ℕ = getD bs i 0 in
+    let here : 32 + 16 * i ≡ 8 * (4 + 2 * i) = omega arith in
+    let between : 8 * (4 + 2 * i) + 8 ≡ 8 * (5 + 2 * i) = omega arith in
+    let end : 8 * (5 + 2 * i) + 8 ≡ 32 + 16 * (i + 1) = omega arith in
+    let numbers : length ns ≡ 2 * i = omega (arith, length-jobNumbers (table i job), length-table i job) in
+    let begun : two ≡ written t 32 (littleAll 8 (ns ++ m ∷ [])) (8 * (4 + 2 * i) + 8) =
+    number-put t 32 ns m (4 + 2 * i) l (omega arith) (first ∙ rw here) second in
+    let whole : three ≡ written t 32 (littleAll 8 (ns ++ m ∷ [] ++ b ∷ [])) (8 * (5 + 2 * i) + 8) =
+    number-put t 32 (ns ++ m ∷ []) b (5 + 2 * i) l (omega (arith, length-append ns (m ∷ []))) (begun ∙ rw between) third in
+    whole ∙ rw (end, jobNumbers-more i job)
+
+pub all-put : (t : List ℕ) (h : Head) (js : List Job) (n : ℕ) {one two : List ℕ}
+    → one ≡ littleAll 8 (numbersRead h []) ++ drop 32 t → two ≡ written one 32 (littleAll 8 (jobNumbers js)) (32 + 16 * n)
+    → two ≡ littleAll 8 (numbersRead h js) ++ drop (32 + 16 * n) t
+unfolding jobNumbers
+all-put t h js n first second =
+    let head : List ℕ = numbersRead h [] in
+    second
+    ∙ rw first (written-after t 0 (littleAll 8 head) (littleAll 8 (jobNumbers js)) 32 (32 + 16 * n) (omega arith) (omega (arith, length-littleAll 8 head)) (omega arith))
+    ∙ ap (λ (s : List ℕ). s ++ drop (32 + 16 * n) t) (sym (littleAll-append 8 head (jobNumbers js)))
+
+-- ── what was read ──
+
+apart {ℓ} : {A : Type ℓ} {f : Fault} → Accepted ≡ Refused f → A
+apart e = let z : _≡_ {A = ℕ} 0 1 = cc in absurd (omega arith)
+
+same-fault : {g f : Fault} → Refused g ≡ Refused f → g ≡ f
+same-fault e = cc
+
+verdict-refused : (r : Read) {f : Fault} → stored r .verdict ≡ Refused f → r ≡ refused f
+unfolding stored
+verdict-refused (accepted h js) a = apart a
+verdict-refused (refused g) a = ap refused (same-fault a)
+
+pub stored-refused : (r : Read) {x : Reading} {f : Fault} → x ≡ stored r → x .verdict ≡ Refused f → r ≡ refused f
+stored-refused r e a = verdict-refused r (sym (ap (λ (y : Reading). y .verdict) e) ∙ a)
+
+verdict-accepted : (r : Read) → stored r .verdict ≡ Accepted → (h : Head) × (js : List Job) × (r ≡ accepted h js) × (stored r .sheet ≡ sheetOf h js)
+unfolding stored
+verdict-accepted (accepted h js) a = (h, js, refl, refl)
+verdict-accepted (refused f) a = apart (sym a)
+
+pub record Stored (s : List ℕ) (x : Sheet) : Type 0 where
+  pub jobs : List Job
+  pub sheet-read : readSheet s ≡ accepted (x .head) jobs
+  pub job-count : length jobs ≡ x .count
+  pub few-jobs : x .count ≤ 512
+  pub minutes-length : length (x .minutes) ≡ 512
+  pub allowed-length : length (x .allowed) ≡ 512
+  pub job-table : jobTable (x .count) (x .minutes) (x .allowed) ≡ jobs
+
+pub stored-accepted : (s : List ℕ) {x : Reading} → x ≡ stored (readSheet s) → x .verdict ≡ Accepted → Stored s (x .sheet)
+stored-accepted s {x} e a =
+    let q = verdict-accepted (readSheet s) (sym (ap (λ (y : Reading). y .verdict) e) ∙ a) in
+    let js : List Job = q .1 in
+    let few = read-jobs s (q .0) js (q .2) in
+    let same : x .sheet ≡ sheetOf (q .0) js = ap (λ (y : Reading). y .sheet) e ∙ q .3 in
+    record {
+      jobs = js;
+      sheet-read = q .2 ∙ ap (λ (h : Head). accepted h js) (sym (ap (λ (y : Sheet). y .head) same));
+      job-count = sym (ap (λ (y : Sheet). y .count) same);
+      few-jobs = omega (arith, ap (λ (y : Sheet). y .count) same);
+      minutes-length = ap (λ (y : Sheet). length (y .minutes)) same ∙ length-padded (map (λ j. j .minutes) js) (rw length-map few);
+      allowed-length = ap (λ (y : Sheet). length (y .allowed)) same ∙ length-padded (map (λ j. j .allowed) js) (rw length-map few);
+      job-table = ap (λ (y : Sheet). jobTable (y .count) (y .minutes) (y .allowed)) same ∙ table-padded js;
+    }
+
+-- ── what is returned ──
+
+abbrev pub Shown : List ℕ → List ℕ → ℕ → List ℕ → Type 0
+Shown s t r after = (r ≡ inspectWord (readSheet s) (length t)) × (after ≡ inspectTable (readSheet s) t)
+
+module _ (s t : List ℕ) where
+  pub fault-shown : {x : Reading} {f : Fault} {r : ℕ} → x ≡ stored (readSheet s) → x .verdict ≡ Refused f → r ≡ faultWord f → Shown s t r t
+  unfolding inspectWord inspectTable
+  fault-shown e a w = let q = stored-refused (readSheet s) e a in (rw q w, rw q)
+
+  module _ (x : Sheet) (k : Stored s x) where
+    size : sizeRead (k .jobs) ≡ 32 + 16 * x .count
+    size = omega (arith, k .job-count)
+
+    pub no-room : {r : ℕ} → length t < 32 + 16 * x .count → r ≡ faultWord (Table 0) → Shown s t r t
+    unfolding inspectWord inspectTable
+    no-room l w =
+        let short = lt-ltb (length t) (sizeRead (k .jobs)) (omega (arith, size)) in
+        (rw (k .sheet-read, short) w, rw (k .sheet-read, short))
+
+    pub all-shown : {one two : List ℕ} → 32 + 16 * x .count ≤ length t
+        → one ≡ littleAll 8 (numbersRead (x .head) []) ++ drop 32 t
+        → two ≡ written one 32 (littleAll 8 (jobNumbers (jobTable (x .count) (x .minutes) (x .allowed)))) (32 + 16 * x .count)
+        → Shown s t (x .count) two
+    unfolding inspectWord inspectTable
+    all-shown l first second =
+        let room = le-ltb (length t) (sizeRead (k .jobs)) (omega (arith, size)) in
+        let shown = all-put t (x .head) (k .jobs) (x .count) first (second ∙ rw (k .job-table)) in
+        (rw (k .sheet-read, room) (sym (k .job-count)), rw (k .sheet-read, room, size) shown)

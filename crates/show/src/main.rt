@@ -1,0 +1,67 @@
+// Shows a sheet that is read from standard input: its head and jobs, or its first fault.
+use frame::Fault;
+use frame::Sheet;
+use frame::Verdict;
+
+fn main() {
+    // One byte more than a sheet may have, so that fault 1 can be seen.
+    let mut buffer = [0u8; 65537];
+    let n = io::read_full(0, &mut buffer);
+    let reading = frame::read(&buffer[..n]);
+    let verdict = reading.verdict;
+    match verdict {
+        Verdict::Refused(f) => show_fault(f),
+        Verdict::Accepted => {
+            let sheet = reading.sheet;
+            show_sheet(sheet);
+        }
+    }
+}
+
+fn show_fault(f: Fault) {
+    io::write_all(1, b"fault ");
+    io::print_decimal(1, f.number());
+    io::write_all(1, b" ");
+    io::print_decimal(1, f.place() as u64);
+    io::write_all(1, b"\n");
+}
+
+fn show_sheet(s: Sheet) {
+    let h = s.head;
+    io::print_decimal(1, h.benches);
+    io::write_all(1, b" benches, share ");
+    io::print_decimal(1, h.p);
+    io::write_all(1, b"/");
+    io::print_decimal(1, h.q);
+    io::write_all(1, b", target ");
+    io::print_decimal(1, h.target);
+    io::write_all(1, b" minutes, ");
+    io::print_decimal(1, s.count as u64);
+    io::write_all(1, b" jobs\n");
+    let count = s.count;
+    let mut n = 0;
+    while n < 512 {
+        if count <= n {
+            return;
+        }
+        show_job(n, s.minutes[n], s.allowed[n]);
+        n += 1;
+    }
+}
+
+fn show_job(n: usize, minutes: u64, allowed: u64) {
+    io::write_all(1, b"job ");
+    io::print_decimal(1, n as u64);
+    io::write_all(1, b": ");
+    io::print_decimal(1, minutes);
+    io::write_all(1, b" minutes, benches");
+    let mut b: u64 = 0;
+    while b < 64 {
+        if (allowed >> (63 - b)) % 2 == 1 {
+            io::write_all(1, b" ");
+            io::print_decimal(1, b);
+        }
+        b += 1;
+    }
+    io::write_all(1, b"\n");
+}

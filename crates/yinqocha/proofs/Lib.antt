@@ -1,0 +1,3 @@
+pub mod TableSteps
+pub mod WordLaws
+pub mod WriteSteps
