@@ -3,3 +3,4 @@ pub mod TableLaws
 pub mod LargestLaws
 pub mod SumLaws
 pub mod CountLaws
+pub mod MoreSumLaws

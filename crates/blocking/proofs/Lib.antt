@@ -1,0 +1,16 @@
+pub mod OrientationLaws
+pub mod ExplorationLaws
+pub mod Gifts
+pub mod BenchInequality
+pub mod Counting
+pub mod Activated
+pub mod Example
+pub mod Rival
+pub mod DayOfSheet
+pub mod DayLaws
+pub mod PlanBound
+pub mod ExplorationOfBoard
+pub mod NoMoveOfBoard
+pub mod NoneBlocks
+pub mod StateOfRun
+pub mod Theorems

@@ -1,0 +1,1 @@
+// The argument for blocking sets.

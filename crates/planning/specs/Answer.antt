@@ -1,0 +1,55 @@
+-- The answer for a sheet's head and jobs (document 01, "The three answers").
+--     loadOf d places v     the minutes of a bench under a plan, booked minutes included
+--     loadsOf, largestOf    the loads of all benches, and the greatest of them
+--     members m set         the benches of a set, rising
+--     Answer                a fault of the fields, or one of the three answers
+--     answerTo d            the answer of the run
+--     planSheet h js        the answer for fields: the faults 7 to 12 first
+use Prim.Native.Nat.{ℕ, zero, suc, _+_}
+use mathlib.Core.Bool.{Bool, cond}
+use mathlib.Core.List.{List, [], _∷_, _++_}
+use lib.ListN.{getD}
+use lib.Dec.{eqb}
+use Rattle.sums.specs.Sum.{on, sum, largest}
+use Rattle.sums.specs.Table.{table}
+use Rattle.frame.specs.declared.sheet.Head.{Head}
+use Rattle.frame.specs.declared.sheet.Job.{Job}
+use Rattle.frame.specs.declared.fault.Fault.{Fault}
+use Rattle.frame.specs.declared.fault.Verdict.the-variants.{Accepted, Refused}
+use Rattle.frame.specs.Writing.{writerVerdict}
+use Rattle.planning.specs.Day.{Day, dayOf}
+use Rattle.planning.specs.Run.{Outcome, planned, long, blocked, run}
+
+-- "entry b of the second is bench b's load"
+abbrev pub loadOf : Day → List ℕ → ℕ → ℕ
+loadOf d places v = d .booked v + sum (d .jobs) (λ j. on (eqb (getD places j 0) v) (d .minutes j))
+
+abbrev pub loadsOf : Day → List ℕ → List ℕ
+loadsOf d places = table (d .benches) (loadOf d places)
+
+abbrev pub largestOf : Day → List ℕ → ℕ
+largestOf d places = largest (d .benches) (loadOf d places)
+
+unfoldable pub members : ℕ → (ℕ → Bool) → List ℕ
+members zero set = []
+members (suc m) set = members m set ++ cond (set m) (m ∷ []) []
+
+pub data Answer : Type 0 where
+  -- the largest load, the moves, the places and the loads
+  plan : ℕ → ℕ → List ℕ → List ℕ → Answer
+  -- the job
+  tooLong : ℕ → Answer
+  -- the benches and the moves
+  none : List ℕ → ℕ → Answer
+  fault : Fault → Answer
+
+abbrev pub shown : Day → Outcome → Answer
+shown d (planned places moves) = plan (largestOf d places) moves places (loadsOf d places)
+shown d (long j) = tooLong j
+shown d (blocked set moves) = none (members (d .benches) set) moves
+
+abbrev pub answerTo : Day → Answer
+answerTo d = shown d (run d)
+
+abbrev pub planSheet : Head → List Job → Answer
+planSheet h js = elim (writerVerdict h js) [ Accepted ↦ answerTo (dayOf h js) | Refused f ↦ fault f ]

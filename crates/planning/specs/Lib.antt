@@ -1,0 +1,12 @@
+pub mod Day
+pub mod Board
+pub mod Forced
+pub mod Explore
+pub mod Push
+pub mod Settle
+pub mod Start
+pub mod Run
+pub mod Properties
+pub mod Answer
+pub mod Examples
+pub mod SoundDay
