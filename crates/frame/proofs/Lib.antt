@@ -8,7 +8,9 @@ pub mod WholeFrames
 pub mod ForeignFrames
 pub mod FirstFault
 pub mod HyperEdges
-pub mod ReadSteps
+pub mod SheetArrays
+pub mod JudgeLaws
+pub mod ReadState
 pub mod WriterSteps
 pub mod AcceptedLaws
 pub mod EnoughJobs

@@ -3,18 +3,31 @@ ghost use mathlib.Core.Path.{_≡_};
 ghost use Rattle.frame.specs.Numbers.{numberOf, placeOf};
 
 pub enum Fault {
+    // 1: the sheet is longer than 65,536 bytes.
     TooLong,
+    // 2: the sheet ends inside a frame, or without an end frame.
     Truncated(usize),
+    // 3: a version 1 frame of no known kind.
     UnknownKind(usize),
+    // 4: a version 1 frame out of its place.
     Misplaced(usize),
+    // 5: a body of another length than its kind has.
     WrongLength(usize),
+    // 6: a spare bit is 1.
     SpareBit(usize),
+    // 7: no bench or more than 64; from the writer also a target too wide.
     BenchCount(usize),
+    // 8: a bad share; from the writer also p or q too wide.
     Share(usize),
+    // 9: the 513th job.
     JobCount(usize),
+    // 10: 0 minutes; from the writer also minutes too wide.
     Minutes(usize),
+    // 11: no bench allowed, or one that the head lacks.
     Allowed(usize),
+    // 12: three or more benches and q × minutes > p × W; the place is the job.
     HeavyHyperEdge(usize),
+    // 13: a table or the output is too short.
     Table(usize),
 }
 

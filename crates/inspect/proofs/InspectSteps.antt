@@ -31,7 +31,7 @@ use Rattle.frame.specs.declared.fault.Verdict.the-variants.{Accepted, Refused}
 use Rattle.frame.specs.Tests.{jobTable}
 use Rattle.frame.specs.Reading.{Read, accepted, refused, readSheet, stored, sheetOf}
 use Rattle.frame.proofs.WriterSteps.{written, written-after}
-use Rattle.frame.proofs.ReadSteps.{length-padded, table-padded}
+use Rattle.frame.proofs.SheetArrays.{length-padded, table-padded}
 use Rattle.frame.proofs.Places.{read-jobs}
 use Rattle.yinqocha.specs.Door.{faultWord}
 use Rattle.inspect.specs.Inspect.{jobNumbers, numbersRead, sizeRead, inspectWord, inspectTable}

@@ -3,6 +3,7 @@
 use mathlib.Core.Path.{_≡_, refl}
 use mathlib.Core.List.{map}
 use Rattle.bits.specs.Bits.{isSet}
+use Rattle.sums.specs.Members.{members}
 use Rattle.closure.specs.Closure.{grow, closure, reach}
 use Rattle.frame.specs.Tests.{hyperEdgeVerdict}
 use Rattle.frame.specs.Writing.{jobsVerdict, writerVerdict}
@@ -13,7 +14,7 @@ use Rattle.planning.specs.Explore.{conflictSet, construct, activate, ope
 use Rattle.planning.specs.Settle.{follow, settleFrom}
 use Rattle.planning.specs.Start.{crowdedBench, oneCycle, peel, start}
 use Rattle.planning.specs.Run.{ownMinutes, answerAt, turns, run}
-use Rattle.planning.specs.Answer.{members, planSheet}
+use Rattle.planning.specs.Answer.{planSheet}
 use Rattle.planning.specs.Examples.{examples}
 
 pub examples-hold : map (λ e. planSheet (e .head) (e .jobs)) examples ≡ map (λ e. e .answer) examples

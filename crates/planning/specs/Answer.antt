@@ -1,17 +1,16 @@
 -- The answer for a sheet's head and jobs (document 01, "The three answers").
 --     loadOf d places v     the minutes of a bench under a plan, booked minutes included
 --     loadsOf, largestOf    the loads of all benches, and the greatest of them
---     members m set         the benches of a set, rising
 --     Answer                a fault of the fields, or one of the three answers
 --     answerTo d            the answer of the run
 --     planSheet h js        the answer for fields: the faults 7 to 12 first
-use Prim.Native.Nat.{ℕ, zero, suc, _+_}
-use mathlib.Core.Bool.{Bool, cond}
-use mathlib.Core.List.{List, [], _∷_, _++_}
+use Prim.Native.Nat.{ℕ, _+_}
+use mathlib.Core.List.{List}
 use lib.ListN.{getD}
 use lib.Dec.{eqb}
 use Rattle.sums.specs.Sum.{on, sum, largest}
 use Rattle.sums.specs.Table.{table}
+use Rattle.sums.specs.Members.{members}
 use Rattle.frame.specs.declared.sheet.Head.{Head}
 use Rattle.frame.specs.declared.sheet.Job.{Job}
 use Rattle.frame.specs.declared.fault.Fault.{Fault}
@@ -29,10 +28,6 @@ loadsOf d places = table (d .benches) (loadOf d places)
 
 abbrev pub largestOf : Day → List ℕ → ℕ
 largestOf d places = largest (d .benches) (loadOf d places)
-
-unfoldable pub members : ℕ → (ℕ → Bool) → List ℕ
-members zero set = []
-members (suc m) set = members m set ++ cond (set m) (m ∷ []) []
 
 pub data Answer : Type 0 where
   -- the largest load, the moves, the places and the loads

@@ -4,3 +4,4 @@ pub mod LargestLaws
 pub mod SumLaws
 pub mod CountLaws
 pub mod MoreSumLaws
+pub mod MembersLaws

@@ -2,3 +2,4 @@ pub mod Sum
 pub mod Search
 pub mod Table
 pub mod Argmax
+pub mod Members

@@ -1,5 +1,5 @@
 -- `read`: the loop keeps ReadState: what reading the sheet gives is what reading on from here gives. Each way through the body is a
--- law of ReadSteps.
+-- law of ReadState.
 use borrow.Author.Needs.{needs}
 use Prim.Native.Nat.{_-_, _<_}
 use mathlib.Core.Path.{_≡_, sym, ap, _∙_}
@@ -17,7 +17,8 @@ use Rattle.frame.specs.declared.sheet.Sheet.{Sheet}
 use Rattle.frame.specs.declared.fault.Verdict.{Verdict}
 use Rattle.frame.specs.declared.fault.Verdict.the-variants.{Accepted}
 use Rattle.frame.proofs.FirstFault.{read-too-long}
-use Rattle.frame.proofs.ReadSteps.{ReadState, Header, header-at, cut-header, cut-body, whole-frame, next-is, judged-is, judgement, job-room, state-start, state-cut, state-foreign, state-fault, state-head, state-job, state-end, state-over, state-minutes}
+use Rattle.frame.proofs.JudgeLaws.{judgement}
+use Rattle.frame.proofs.ReadState.{ReadState, Header, header-at, cut-header, cut-body, whole-frame, next-is, judged-is, job-room, state-start, state-cut, state-foreign, state-fault, state-head, state-job, state-end, state-over, state-minutes}
 use Rattle.frame.proofs.reader.read.Statement.{statement}
 use Rattle.frame.proofs.reader.read.Tie as tie
 
