@@ -20,14 +20,14 @@ use Rattle.sums.specs.Sum.{count}
 use Rattle.sums.proofs.CountLaws.{count-mono, count-prefix}
 use Rattle.sums.proofs.LargestLaws.{largest-le}
 use Rattle.sums.proofs.SearchLaws.{least-holds, least-before}
-use Rattle.frame.specs.declared.sheet.Head.{Head}
-use Rattle.frame.specs.declared.sheet.Job.{Job}
-use Rattle.frame.specs.Format.{allows}
-use Rattle.frame.specs.Tests.{jobAt, longest}
+use Rattle.fields.specs.declared.sheet.Head.{Head}
+use Rattle.fields.specs.declared.sheet.Job.{Job}
+use Rattle.fields.specs.Format.{allows}
+use Rattle.fields.specs.Tests.{jobAt, longest}
 use Rattle.frame.specs.Sound.{SoundSheet}
 use Rattle.frame.proofs.FirstFault.{none-hyper-edge}
-use Rattle.planning.specs.Day.{dayOf, choices, longJob}
-use Rattle.planning.specs.SoundDay.{SoundDay}
+use Rattle.algorithm.specs.Day.{dayOf, choices, longJob}
+use Rattle.algorithm.specs.SoundDay.{SoundDay}
 use Rattle.blocking.specs.Demand.{minutesOf, LongJob}
 
 module _ (h : Head) (js : List Job) where

@@ -23,10 +23,10 @@ use Rattle.bools.proofs.OrderLaws.{lt-or-le}
 use Rattle.sums.specs.Sum.{on}
 use Rattle.sums.specs.Search.{any}
 use Rattle.sums.proofs.SumLaws.{sum-cong}
-use Rattle.planning.specs.Board.{Board, Directions, touches, other, neutral, towards, away, rockLoad, load}
-use Rattle.planning.specs.Explore.{Explored, never, inConflict, activated}
-use Rattle.planning.specs.Properties.{SoundBoard, Facts, rnd, lev}
-use Rattle.planning.proofs.BoardLaws.{touches-rock, touches-end, touches-low, touches-high, other-low, other-high, other-touches, other-other, other-below, other-differs, touches-below, towards-unique}
+use Rattle.algorithm.specs.Board.{Board, Directions, touches, other, neutral, towards, away, rockLoad, load}
+use Rattle.algorithm.specs.Explore.{Explored, never, inConflict, activated}
+use Rattle.algorithm.specs.Properties.{SoundBoard, Facts, rnd, lev}
+use Rattle.algorithm.proofs.BoardLaws.{touches-rock, touches-end, touches-low, touches-high, other-low, other-high, other-touches, other-other, other-below, other-differs, touches-below, towards-unique}
 use Rattle.blocking.specs.Exploration.{Exploration, FatherAbove, inside, into}
 use Rattle.blocking.proofs.ExplorationLaws.{inside-intro, inside-rock, inside-head}
 

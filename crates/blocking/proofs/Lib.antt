@@ -5,6 +5,7 @@ pub mod BenchInequality
 pub mod Counting
 pub mod Activated
 pub mod Example
+pub mod DemandExamples
 pub mod Rival
 pub mod DayOfSheet
 pub mod DayLaws
@@ -13,4 +14,7 @@ pub mod ExplorationOfBoard
 pub mod NoMoveOfBoard
 pub mod NoneBlocks
 pub mod StateOfRun
+pub mod ShownLaws
+pub mod SetLaws
 pub mod Theorems
+pub mod Claim

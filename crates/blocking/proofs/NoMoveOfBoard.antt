@@ -26,13 +26,13 @@ use Rattle.bools.proofs.BoolLaws.{split, clash, and-intro, and-left, and-right,
 use Rattle.sums.specs.Sum.{on, sum, count}
 use Rattle.sums.specs.Search.{any}
 use Rattle.sums.proofs.SearchLaws.{any-intro, any-elim, all-false}
-use Rattle.planning.specs.Board.{Board, touches, other, neutral, towards, away, rockLoad, load}
-use Rattle.planning.specs.Explore.{Explored, inConflict, activated, father, child}
-use Rattle.planning.specs.Push.{leaf, lightFathers, canPush}
-use Rattle.planning.specs.Properties.{SoundBoard, Facts, rnd, lev}
-use Rattle.planning.proofs.BoardLaws.{touches-rock, touches-end, touches-below, other-low, other-high, other-touches, other-other, other-below}
+use Rattle.algorithm.specs.Board.{Board, touches, other, neutral, towards, away, rockLoad, load}
+use Rattle.algorithm.specs.Explore.{Explored, inConflict, activated, father, child}
+use Rattle.algorithm.specs.Push.{leaf, lightFathers, canPush}
+use Rattle.algorithm.specs.Properties.{SoundBoard, Facts, rnd, lev}
+use Rattle.algorithm.proofs.BoardLaws.{touches-rock, touches-end, touches-below, other-low, other-high, other-touches, other-other, other-below}
 use Rattle.blocking.specs.Exploration.{Exploration, FatherAbove, EarlierNeighbour, NoMoveLeft, Placement, bound, push-limit, inside, children, into}
-use Rattle.planning.specs.Properties.{Opened, JoinedBy}
+use Rattle.algorithm.specs.Properties.{Opened, JoinedBy}
 use Rattle.blocking.proofs.ExplorationLaws.{inside-rock, inside-head, inside-tail, father-above}
 use Rattle.blocking.proofs.OrientationLaws.{number-pos}
 use Rattle.blocking.proofs.Activated.{activated-blocks}

@@ -37,22 +37,22 @@ use Rattle.sums.proofs.CountLaws.{count-pos}
 use Rattle.sums.proofs.MoreSumLaws.{sum-on-add, sum-on-mul, sum-gather}
 use Rattle.sums.proofs.SearchLaws.{any-elim, any-none, all-intro, least-before}
 use Rattle.closure.proofs.ClosureLaws.{reach-refl}
-use Rattle.frame.specs.declared.sheet.Head.{Head}
-use Rattle.frame.specs.declared.sheet.Job.{Job}
-use Rattle.planning.specs.Day.{Day, dayOf, choices, heavy, pebble, lowest, highest, scale, small}
-use Rattle.planning.specs.SoundDay.{SoundDay}
-use Rattle.planning.specs.Board.{towards}
-use Rattle.planning.specs.Explore.{Explored, activated}
-use Rattle.planning.specs.Properties.{SoundBoard, Facts, lev}
-use Rattle.planning.specs.Properties.{JoinedBy}
-use Rattle.planning.specs.Push.{canPush, pushJob}
-use Rattle.planning.specs.Start.{State, joined, component, crowded}
-use Rattle.planning.specs.Run.{ownMinutes, boardOf, explored, congested, canMove}
+use Rattle.fields.specs.declared.sheet.Head.{Head}
+use Rattle.fields.specs.declared.sheet.Job.{Job}
+use Rattle.algorithm.specs.Day.{Day, dayOf, choices, heavy, pebble, lowest, highest, scale, small}
+use Rattle.algorithm.specs.SoundDay.{SoundDay}
+use Rattle.algorithm.specs.Board.{towards}
+use Rattle.algorithm.specs.Explore.{Explored, activated}
+use Rattle.algorithm.specs.Properties.{SoundBoard, Facts, lev}
+use Rattle.algorithm.specs.Properties.{JoinedBy}
+use Rattle.algorithm.specs.Push.{canPush, pushJob}
+use Rattle.algorithm.specs.Start.{State, joined, component, crowded}
+use Rattle.algorithm.specs.Run.{ownMinutes, boardOf, explored, congested, canMove}
 use Rattle.blocking.specs.Demand.{Placement as SheetPlacement, Blocking}
 use Rattle.blocking.specs.Exploration.{Placement, inside}
 use Rattle.blocking.specs.RunFacts.{SoundState, DayPlacement, PeeledPlaced, CrowdedUnplaceable}
 use Rattle.blocking.proofs.ExplorationLaws.{inside-rock}
-use Rattle.planning.proofs.RockLaws.{allowed-end}
+use Rattle.algorithm.proofs.RockLaws.{allowed-end}
 use Rattle.blocking.proofs.DayLaws.{one-choice}
 use Rattle.blocking.proofs.ExplorationOfBoard.{headOf, tailOf, explorationOf, activated-level, level-activated}
 use Rattle.blocking.proofs.NoMoveOfBoard.{board-blocks}

@@ -30,18 +30,18 @@ use Rattle.sums.proofs.SumLaws.{sum-le, sum-add, sum-at, sum-cong}
 use Rattle.sums.proofs.MoreSumLaws.{sum-on-mul}
 use Rattle.sums.proofs.SearchLaws.{any-elim, any-none, all-intro}
 use Rattle.sums.proofs.TableLaws.{getD-table}
-use Rattle.frame.specs.declared.sheet.Head.{Head}
-use Rattle.frame.specs.declared.sheet.Job.{Job}
-use Rattle.planning.specs.Day.{Day, dayOf, lowest, highest, scale, bound}
-use Rattle.planning.specs.Board.{Board, Directions, touches, neutral, towards, rockLoad, load}
-use Rattle.planning.specs.Explore.{Explored, never, activated}
-use Rattle.planning.specs.Properties.{SoundBoard, Facts, lev}
-use Rattle.planning.specs.Settle.{settle}
-use Rattle.planning.specs.Start.{State}
-use Rattle.planning.specs.Run.{ownMinutes, boardOf, placesOf, explored, congested}
+use Rattle.fields.specs.declared.sheet.Head.{Head}
+use Rattle.fields.specs.declared.sheet.Job.{Job}
+use Rattle.algorithm.specs.Day.{Day, dayOf, lowest, highest, scale, bound}
+use Rattle.algorithm.specs.Board.{Board, Directions, touches, neutral, towards, rockLoad, load}
+use Rattle.algorithm.specs.Explore.{Explored, never, activated}
+use Rattle.algorithm.specs.Properties.{SoundBoard, Facts, lev}
+use Rattle.algorithm.specs.Settle.{settle}
+use Rattle.algorithm.specs.Start.{State}
+use Rattle.algorithm.specs.Run.{ownMinutes, boardOf, placesOf, explored, congested}
 use Rattle.blocking.specs.Demand.{Assignment, loadOf, withinBound, keepsBound}
 use Rattle.blocking.specs.RunFacts.{SoundState, Settled}
-use Rattle.planning.proofs.RockLaws.{low-allowed, high-allowed}
+use Rattle.algorithm.proofs.RockLaws.{low-allowed, high-allowed}
 
 -- ── on the board ──
 

@@ -26,10 +26,10 @@ use Rattle.sums.proofs.SumLaws.{sum-gap, sum-at, sum-add, sum-le, on-le}
 use Rattle.sums.proofs.CountLaws.{sum-on-at-most}
 use Rattle.sums.proofs.MoreSumLaws.{sum-on-term, sum-gather}
 use Rattle.sums.proofs.SearchLaws.{all-intro, all-elim, all-false}
-use Rattle.frame.specs.declared.sheet.Head.{Head}
-use Rattle.frame.specs.declared.sheet.Job.{Job}
-use Rattle.frame.specs.Format.{allows}
-use Rattle.frame.specs.Tests.{jobAt}
+use Rattle.fields.specs.declared.sheet.Head.{Head}
+use Rattle.fields.specs.declared.sheet.Job.{Job}
+use Rattle.fields.specs.Format.{allows}
+use Rattle.fields.specs.Tests.{jobAt}
 use Rattle.frame.specs.Sound.{SoundHead}
 use Rattle.blocking.specs.Demand.{minutesOf, allowed, heavyJob, lightJob, isAssignment, Assignment, loadOf, withinTarget, keepsTarget, Placement, liesInside, weightInside, Blocking, LongJob}
 

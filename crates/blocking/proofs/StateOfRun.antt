@@ -12,15 +12,15 @@ use lib.ListN.{getD}
 use lib.Dec.{leb}
 use borrow.Author.Tests.{eqb-false}
 use Rattle.bools.proofs.BoolLaws.{split, and-false-left, not-intro-false}
-use Rattle.planning.specs.Day.{Day, rock, pebble, choices}
-use Rattle.planning.specs.Start.{State, start}
-use Rattle.planning.specs.Run.{boardOf, explored}
-use Rattle.planning.specs.SoundDay.{SoundDay, Uncrowded, Placement}
-use Rattle.planning.proofs.RockLaws.{rock-heavy}
-use Rattle.planning.proofs.Peeling.{start-allowed, start-left-rock, start-forced, crowded-no-placement}
-use Rattle.planning.proofs.SpreadLaws.{settle-left}
-use Rattle.planning.proofs.Moves.{Good}
-use Rattle.planning.proofs.DayFacts.{good-facts}
+use Rattle.algorithm.specs.Day.{Day, rock, pebble, choices}
+use Rattle.algorithm.specs.Start.{State, start}
+use Rattle.algorithm.specs.Run.{boardOf, explored}
+use Rattle.algorithm.specs.SoundDay.{SoundDay, Uncrowded, Placement}
+use Rattle.algorithm.proofs.RockLaws.{rock-heavy}
+use Rattle.algorithm.proofs.Peeling.{start-allowed, start-left-rock, start-forced, crowded-no-placement}
+use Rattle.algorithm.proofs.SpreadLaws.{settle-left}
+use Rattle.algorithm.proofs.Moves.{Good}
+use Rattle.algorithm.proofs.DayFacts.{good-facts}
 use Rattle.blocking.specs.RunFacts.{SoundState, DayPlacement, PeeledPlaced, CrowdedUnplaceable, Settled}
 use Rattle.blocking.proofs.PlanBound.{planDirections}
 

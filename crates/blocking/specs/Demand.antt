@@ -12,6 +12,7 @@
 --     weightInside            what weighs inside a set, for a placement
 --     Blocking                the blocking sets
 --     tooLong, LongJob        a job longer than the target: as a test, and as a fact
+--     moveBound               benches × light jobs that have a choice
 use Prim.Native.Nat.{ℕ, _+_, _*_, _<_}
 use mathlib.Core.Path.{_≡_}
 use mathlib.Core.Bool.{Bool, true, not, _&&_, _||_}
@@ -20,10 +21,10 @@ use lib.ListN.{length}
 use lib.Dec.{eqb, leb, ltb}
 use Rattle.sums.specs.Sum.{on, sum, count}
 use Rattle.sums.specs.Search.{all}
-use Rattle.frame.specs.declared.sheet.Head.{Head}
-use Rattle.frame.specs.declared.sheet.Job.{Job}
-use Rattle.frame.specs.Format.{allows}
-use Rattle.frame.specs.Tests.{jobAt}
+use Rattle.fields.specs.declared.sheet.Head.{Head}
+use Rattle.fields.specs.declared.sheet.Job.{Job}
+use Rattle.fields.specs.Format.{allows}
+use Rattle.fields.specs.Tests.{jobAt}
 
 -- The minutes of a job.
 abbrev pub minutesOf : List Job → ℕ → ℕ
@@ -102,3 +103,9 @@ tooLong h js j = ltb (h .target) (minutesOf js j)
 pub record LongJob (h : Head) (js : List Job) (j : ℕ) : Type 0 where
   pub is-job : j < length js
   pub longer : tooLong h js j ≡ true
+
+-- ── moves ──
+
+-- Benches × light jobs that have a choice.
+abbrev pub moveBound : Head → List Job → ℕ
+moveBound h js = h .benches * count (length js) (λ j. lightJob h js j && leb 2 (count (h .benches) (allowed h js j)))

@@ -3,3 +3,4 @@ pub mod Exploration
 pub mod Demand
 pub mod RunFacts
 pub mod Answers
+pub mod Claim

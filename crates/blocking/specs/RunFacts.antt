@@ -9,9 +9,9 @@ use mathlib.Core.Path.{_≡_}
 use mathlib.Core.Logic.{_⊎_}
 use mathlib.Core.Bool.{true, false}
 use lib.ListN.{getD}
-use Rattle.planning.specs.Day.{Day, heavy, rock}
-use Rattle.planning.specs.Board.{Board, Directions, touches, neutral, towards}
-use Rattle.planning.specs.Start.{State, crowded}
+use Rattle.algorithm.specs.Day.{Day, heavy, rock}
+use Rattle.algorithm.specs.Board.{Board, Directions, touches, neutral, towards}
+use Rattle.algorithm.specs.Start.{State, crowded}
 
 -- ── the states of the run ──
 

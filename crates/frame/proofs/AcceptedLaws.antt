@@ -15,13 +15,13 @@ use lib.Seq.{getD-append-seam}
 use lib.Dec.{eqb}
 use Rattle.bools.proofs.BoolLaws.{clash, split}
 use Rattle.bools.proofs.OrderLaws.{lt-or-le}
-use Rattle.frame.specs.declared.sheet.Head.{Head}
-use Rattle.frame.specs.declared.sheet.Job.{Job}
+use Rattle.fields.specs.declared.sheet.Head.{Head}
+use Rattle.fields.specs.declared.sheet.Job.{Job}
 use Rattle.frame.specs.declared.reader.Stage.{Stage}
 use Rattle.frame.specs.declared.reader.Stage.the-variants.{Start, Open, Closed}
-use Rattle.frame.specs.declared.fault.Verdict.the-variants.{Accepted}
-use Rattle.frame.specs.Format.{headKind, jobKind, kindOf, bodyOf, bodyLength, headOf, jobOf, spareOf}
-use Rattle.frame.specs.Tests.{firstFault, jobAt, noJob}
+use Rattle.fields.specs.declared.fault.Verdict.the-variants.{Accepted}
+use Rattle.fields.specs.Format.{headKind, jobKind, kindOf, bodyOf, bodyLength, headOf, jobOf, spareOf}
+use Rattle.fields.specs.Tests.{firstFault, jobAt, noJob}
 use Rattle.frame.specs.Sound.{SoundHead, SoundJob, SoundSheet}
 use Rattle.frame.specs.Reading.{Progress, accepted, nothingRead, knownKind, misplaced, contentFaults, frameFaults, faultsAt, after, readSheet}
 use Rattle.frame.specs.Frames.{Reached, start, past-foreign, past-sound}

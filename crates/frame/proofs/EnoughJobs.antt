@@ -15,13 +15,13 @@ use borrow.Author.Tests.{le-leb}
 use Rattle.bools.proofs.OrderLaws.{lt-or-le}
 use Rattle.sums.specs.Table.{table}
 use Rattle.sums.proofs.TableLaws.{table-cong, take-table-min}
-use Rattle.frame.specs.declared.sheet.Head.{Head}
-use Rattle.frame.specs.declared.sheet.Job.{Job}
-use Rattle.frame.specs.declared.fault.Fault.{Fault}
-use Rattle.frame.specs.declared.fault.Verdict.the-variants.{Refused}
+use Rattle.fields.specs.declared.sheet.Head.{Head}
+use Rattle.fields.specs.declared.sheet.Job.{Job}
+use Rattle.fields.specs.declared.fault.Fault.{Fault}
+use Rattle.fields.specs.declared.fault.Verdict.the-variants.{Refused}
 use Rattle.frame.specs.declared.writer.Written.{Written}
 use Rattle.frame.specs.declared.writer.Written.the-variants.{Refusal}
-use Rattle.frame.specs.Tests.{firstFault, headFaults, jobFaults}
+use Rattle.fields.specs.Tests.{firstFault, headFaults, jobFaults}
 use Rattle.frame.specs.Writing.{jobsOf, andThen, jobsVerdict, writerVerdict, writeSheet, output}
 use Rattle.frame.proofs.WriterLaws.{jobs-bound}
 use Rattle.frame.proofs.WholeFrames.{verdict-cases}

@@ -34,17 +34,17 @@ use Rattle.bools.proofs.BoolLaws.{split, tests}
 use Rattle.bools.proofs.OrderLaws.{lt-or-le, eq-or-ne, last-or-below}
 use Rattle.sums.specs.Search.{least}
 use Rattle.sums.proofs.SearchLaws.{least-found, least-none, least-holds, least-before}
-use Rattle.frame.specs.declared.sheet.Head.{Head}
-use Rattle.frame.specs.declared.sheet.Job.{Job}
+use Rattle.fields.specs.declared.sheet.Head.{Head}
+use Rattle.fields.specs.declared.sheet.Job.{Job}
 use Rattle.frame.specs.declared.reader.Stage.{Stage}
 use Rattle.frame.specs.declared.reader.Stage.the-variants.{Start, Open, Closed}
-use Rattle.frame.specs.declared.fault.Fault.{Fault}
-use Rattle.frame.specs.declared.fault.Fault.the-variants.{TooLong, Truncated, HeavyHyperEdge}
-use Rattle.frame.specs.declared.fault.Verdict.{Verdict}
-use Rattle.frame.specs.declared.fault.Verdict.the-variants.{Accepted, Refused}
-use Rattle.frame.specs.Numbers.{numberOf, placeOf}
-use Rattle.frame.specs.Format.{ours, headKind, jobKind, versionOf, kindOf, bodyOf, headOf, jobOf}
-use Rattle.frame.specs.Tests.{Test, firstFault, headFaults, jobFaults, hyperEdgeVerdict}
+use Rattle.fields.specs.declared.fault.Fault.{Fault}
+use Rattle.fields.specs.declared.fault.Fault.the-variants.{TooLong, Truncated, HeavyHyperEdge}
+use Rattle.fields.specs.declared.fault.Verdict.{Verdict}
+use Rattle.fields.specs.declared.fault.Verdict.the-variants.{Accepted, Refused}
+use Rattle.fields.specs.Numbers.{numberOf, placeOf}
+use Rattle.fields.specs.Format.{ours, headKind, jobKind, versionOf, kindOf, bodyOf, headOf, jobOf}
+use Rattle.fields.specs.Tests.{Test, firstFault, headFaults, jobFaults, hyperEdgeVerdict}
 use Rattle.frame.specs.Reading.{Progress, Read, accepted, refused, nothingRead, frameFaults, faultsAt, after, judged, endVerdict, ending, readFrom, readSheet}
 use Rattle.frame.specs.Frames.{WholeFrame, NoneHolds, FirstTest, readOn, Reached, start, past-foreign, past-sound, heavyHyperEdgeAt, LowestHeavyHyperEdge, FaultHere, ends-inside, in-frame, no-end, heavy-hyper-edge, SheetFault, SheetSound, Judgement, too-long, faulty, sound}
 use Rattle.frame.proofs.WholeFrames.{verdict-cases, whole-unique, frames-induction, readOn-past-foreign, readOn-past-sound, readOn-in-frame, readOn-cut, readSheet-within}

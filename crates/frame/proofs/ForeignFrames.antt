@@ -29,17 +29,17 @@ use borrow.Author.Tests.{eqb-true, lt-ltb, le-ltb, le-leb}
 use Rattle.bools.proofs.BoolLaws.{split, bool-ext, tests}
 use Rattle.bools.proofs.OrderLaws.{eq-or-ne}
 use Rattle.sums.specs.Search.{least}
-use Rattle.frame.specs.declared.sheet.Head.{Head}
-use Rattle.frame.specs.declared.sheet.Job.{Job}
+use Rattle.fields.specs.declared.sheet.Head.{Head}
+use Rattle.fields.specs.declared.sheet.Job.{Job}
 use Rattle.frame.specs.declared.reader.Stage.{Stage}
 use Rattle.frame.specs.declared.reader.Stage.the-variants.{Start, Open, Closed}
-use Rattle.frame.specs.declared.fault.Fault.{Fault}
-use Rattle.frame.specs.declared.fault.Fault.the-variants.{TooLong, Truncated, UnknownKind, Misplaced, WrongLength, SpareBit, BenchCount, Share, JobCount, Minutes, Allowed, HeavyHyperEdge, Table}
-use Rattle.frame.specs.declared.fault.Verdict.{Verdict}
-use Rattle.frame.specs.declared.fault.Verdict.the-variants.{Accepted, Refused}
-use Rattle.frame.specs.Numbers.{numberOf}
-use Rattle.frame.specs.Format.{ours, headKind, jobKind, versionOf, kindOf, frameSize, bodyOf, headOf, jobOf}
-use Rattle.frame.specs.Tests.{Test, firstFault, headFaults, jobFaults, hyperEdgeVerdict}
+use Rattle.fields.specs.declared.fault.Fault.{Fault}
+use Rattle.fields.specs.declared.fault.Fault.the-variants.{TooLong, Truncated, UnknownKind, Misplaced, WrongLength, SpareBit, BenchCount, Share, JobCount, Minutes, Allowed, HeavyHyperEdge, Table}
+use Rattle.fields.specs.declared.fault.Verdict.{Verdict}
+use Rattle.fields.specs.declared.fault.Verdict.the-variants.{Accepted, Refused}
+use Rattle.fields.specs.Numbers.{numberOf}
+use Rattle.fields.specs.Format.{ours, headKind, jobKind, versionOf, kindOf, frameSize, bodyOf, headOf, jobOf}
+use Rattle.fields.specs.Tests.{Test, firstFault, headFaults, jobFaults, hyperEdgeVerdict}
 use Rattle.frame.specs.Reading.{Progress, Read, accepted, refused, nothingRead, frameFaults, faultsAt, after, cut, judged, endVerdict, ending, readFrom, readSheet}
 use Rattle.frame.specs.Frames.{WholeFrame, Foreign, Row, no-frame, a-frame, Padded, unchanged, kept, added, addedBefore, movedBy, fromOn, movedReadBy, movedRead, readOn, heavyHyperEdgeAt}
 use Rattle.frame.proofs.ReadLaws.{readFrom-over, readFrom-cut, readFrom-foreign, readFrom-fault, readFrom-next}

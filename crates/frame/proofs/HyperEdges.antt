@@ -20,12 +20,12 @@ use Rattle.sums.specs.Sum.{count, largest}
 use Rattle.sums.proofs.LargestLaws.{largest-cong}
 use Rattle.sums.proofs.TableLaws.{length-table, getD-table}
 use Rattle.bits.proofs.SetBits.{count-isSet}
-use Rattle.frame.specs.declared.sheet.Head.{Head}
-use Rattle.frame.specs.declared.sheet.Job.{Job}
-use Rattle.frame.specs.declared.fault.Fault.the-variants.{HeavyHyperEdge}
-use Rattle.frame.specs.declared.fault.Verdict.the-variants.{Accepted, Refused}
-use Rattle.frame.specs.Format.{allows}
-use Rattle.frame.specs.Tests.{jobTable, jobAt, noJob, longest, heavyHyperEdge, hyperEdgeVerdict}
+use Rattle.fields.specs.declared.sheet.Head.{Head}
+use Rattle.fields.specs.declared.sheet.Job.{Job}
+use Rattle.fields.specs.declared.fault.Fault.the-variants.{HeavyHyperEdge}
+use Rattle.fields.specs.declared.fault.Verdict.the-variants.{Accepted, Refused}
+use Rattle.fields.specs.Format.{allows}
+use Rattle.fields.specs.Tests.{jobTable, jobAt, noJob, longest, heavyHyperEdge, hyperEdgeVerdict}
 use Rattle.frame.specs.Frames.{heavyHyperEdgeAt}
 use Rattle.frame.proofs.FirstFault.{hyper-edge-lowest, hyper-edge-none}
 

@@ -10,16 +10,16 @@ use native.Mathlib.Omega.{arith}
 use lib.ListN.{length, drop, length-drop}
 use lib.Dec.{eqb}
 use borrow.Author.Tests.{ne-eqb}
-use Rattle.frame.specs.declared.sheet.Head.{Head}
-use Rattle.frame.specs.declared.sheet.Job.{Job}
+use Rattle.fields.specs.declared.sheet.Head.{Head}
+use Rattle.fields.specs.declared.sheet.Job.{Job}
 use Rattle.frame.specs.declared.reader.Stage.the-variants.{Open, Closed}
 use Rattle.frame.specs.declared.reader.Frame.{Frame}
 use Rattle.frame.specs.declared.reader.Frame.the-variants as frame
-use Rattle.frame.specs.declared.fault.Fault.{Fault}
-use Rattle.frame.specs.declared.fault.Verdict.{Verdict}
-use Rattle.frame.specs.declared.fault.Verdict.the-variants.{Accepted, Refused}
-use Rattle.frame.specs.Format.{ours, headKind, jobKind, versionOf, kindOf, frameSize, bodyOf, headOf, jobOf}
-use Rattle.frame.specs.Tests.{firstFault, jobFaults}
+use Rattle.fields.specs.declared.fault.Fault.{Fault}
+use Rattle.fields.specs.declared.fault.Verdict.{Verdict}
+use Rattle.fields.specs.declared.fault.Verdict.the-variants.{Accepted, Refused}
+use Rattle.fields.specs.Format.{ours, headKind, jobKind, versionOf, kindOf, frameSize, bodyOf, headOf, jobOf}
+use Rattle.fields.specs.Tests.{firstFault, jobFaults}
 use Rattle.frame.specs.Sound.{SoundJob}
 use Rattle.frame.specs.Reading.{Progress, refused, faultsAt, after, cut, readFrom}
 use Rattle.frame.specs.Frames.{readOn}

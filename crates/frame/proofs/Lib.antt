@@ -1,6 +1,4 @@
 pub mod ReadLaws
-pub mod Fields
-pub mod TestLaws
 pub mod WriterLaws
 pub mod RoundTrip
 pub mod StageLaws
@@ -10,6 +8,7 @@ pub mod FirstFault
 pub mod HyperEdges
 pub mod SheetArrays
 pub mod JudgeLaws
+pub mod FrameAt
 pub mod ReadState
 pub mod WriterSteps
 pub mod AcceptedLaws

@@ -24,16 +24,16 @@ use lib.ListN.{length, length-append}
 use lib.Dec.{eqb, leb}
 use Rattle.bools.proofs.BoolLaws.{split, tests}
 use Rattle.bools.proofs.OrderLaws.{lt-or-le}
-use Rattle.frame.specs.declared.sheet.Head.{Head}
-use Rattle.frame.specs.declared.sheet.Job.{Job}
-use Rattle.frame.specs.declared.fault.Fault.{Fault}
-use Rattle.frame.specs.declared.fault.Fault.the-variants.{Table}
-use Rattle.frame.specs.declared.fault.Verdict.{Verdict}
-use Rattle.frame.specs.declared.fault.Verdict.the-variants.{Accepted, Refused}
+use Rattle.fields.specs.declared.sheet.Head.{Head}
+use Rattle.fields.specs.declared.sheet.Job.{Job}
+use Rattle.fields.specs.declared.fault.Fault.{Fault}
+use Rattle.fields.specs.declared.fault.Fault.the-variants.{Table}
+use Rattle.fields.specs.declared.fault.Verdict.{Verdict}
+use Rattle.fields.specs.declared.fault.Verdict.the-variants.{Accepted, Refused}
 use Rattle.frame.specs.declared.writer.Written.the-variants.{Length, Refusal}
-use Rattle.frame.specs.Numbers.{placeOf}
-use Rattle.frame.specs.Format.{headKind, jobKind, kindOf, bodyOf, sheetBytes}
-use Rattle.frame.specs.Tests.{firstFault, headFaults, jobFaults, benchCountFault, shareFault, jobCountFault, minutesFault, allowedFault, hyperEdgeVerdict}
+use Rattle.fields.specs.Numbers.{placeOf}
+use Rattle.fields.specs.Format.{headKind, jobKind, kindOf, bodyOf, sheetBytes}
+use Rattle.fields.specs.Tests.{firstFault, headFaults, jobFaults, benchCountFault, shareFault, jobCountFault, minutesFault, allowedFault, hyperEdgeVerdict}
 use Rattle.frame.specs.Writing.{andThen, jobsVerdict, writerVerdict, writeSheet}
 use Rattle.frame.specs.Reading.{Progress, accepted, refused, frameFaults, faultsAt, after, readSheet}
 use Rattle.frame.specs.Frames.{NoneHolds, Reached, start, past-foreign, past-sound, FaultHere, ends-inside, in-frame, no-end, heavy-hyper-edge}

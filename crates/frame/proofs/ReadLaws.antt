@@ -15,12 +15,12 @@ use lib.ListN.{length, drop, length-drop}
 use lib.Dec.{eqb, ltb}
 use borrow.Author.Tests.{eq-eqb, eqb-true, ltb-false}
 use Rattle.bools.proofs.BoolLaws.{or-false-right}
-use Rattle.frame.specs.declared.fault.Fault.{Fault}
-use Rattle.frame.specs.declared.fault.Fault.the-variants.{Truncated}
-use Rattle.frame.specs.declared.fault.Verdict.{Verdict}
-use Rattle.frame.specs.declared.fault.Verdict.the-variants.{Accepted, Refused}
-use Rattle.frame.specs.Format.{ours, headerSize, versionOf, kindOf, frameSize, bodyOf}
-use Rattle.frame.specs.Tests.{firstFault}
+use Rattle.fields.specs.declared.fault.Fault.{Fault}
+use Rattle.fields.specs.declared.fault.Fault.the-variants.{Truncated}
+use Rattle.fields.specs.declared.fault.Verdict.{Verdict}
+use Rattle.fields.specs.declared.fault.Verdict.the-variants.{Accepted, Refused}
+use Rattle.fields.specs.Format.{ours, headerSize, versionOf, kindOf, frameSize, bodyOf}
+use Rattle.fields.specs.Tests.{firstFault}
 use Rattle.frame.specs.Reading.{Progress, refused, faultsAt, after, cut, ending, readFrom}
 
 pub frameSize-pos : (rest : List ℕ) → 3 ≤ frameSize rest

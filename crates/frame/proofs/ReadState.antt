@@ -1,8 +1,8 @@
 -- What the program's loop over the frames keeps, and how each way through its body keeps it.
 --     ReadState s sheet stage at     reading s has come to byte at, and what it has read so far stands in sheet and stage
---     state-start, state-cut, state-foreign, state-fault, state-head, state-job, state-end     the loop
+--     state-start, state-fault, state-foreign, state-head, state-job, state-end     the loop
 --     job-room                       a sound job is not the 513th
---     Header, header-at, cut-header, cut-body, whole-frame, next-is, body-is, judged-is     the frame at byte at, by the header that was read
+--     next-is, found-is              where the frame at byte at ends, and what it is, by the answers of the program's functions
 --     state-count, state-minutes, state-jobs, state-over     after the loop
 use Prim.Native.Nat.{ℕ, _+_, _-_, _^_, _≤_, _<_}
 use mathlib.Core.Path.{_≡_, refl, sym, ap, ap₂, _∙_}
@@ -17,26 +17,28 @@ use borrow.Author.Tests.{lt-ltb, le-ltb}
 use Rattle.bools.proofs.BoolLaws.{or-left, or-right, or-false}
 use Rattle.bools.proofs.OrderLaws.{lt-or-le}
 use Rattle.bits.proofs.BitsLaws.{bits-lt}
-use Rattle.frame.specs.declared.sheet.Head.{Head}
-use Rattle.frame.specs.declared.sheet.Job.{Job}
-use Rattle.frame.specs.declared.sheet.Sheet.{Sheet}
+use Rattle.fields.specs.declared.sheet.Head.{Head}
+use Rattle.fields.specs.declared.sheet.Job.{Job}
+use Rattle.fields.specs.declared.sheet.Sheet.{Sheet}
+use Rattle.fields.specs.declared.sheet.Reading.{Reading}
 use Rattle.frame.specs.declared.reader.Stage.{Stage}
 use Rattle.frame.specs.declared.reader.Stage.the-variants.{Start, Open, Closed}
 use Rattle.frame.specs.declared.reader.Frame.{Frame}
 use Rattle.frame.specs.declared.reader.Frame.the-variants as frame
-use Rattle.frame.specs.declared.fault.Fault.{Fault}
-use Rattle.frame.specs.declared.fault.Fault.the-variants.{Truncated}
-use Rattle.frame.specs.declared.fault.Verdict.the-variants.{Accepted}
-use Rattle.frame.specs.Format.{ours, versionOf, kindOf, lengthOf, frameSize, bodyOf}
-use Rattle.frame.specs.Tests.{firstFault, jobTable, jobAt, noJob}
+use Rattle.fields.specs.declared.fault.Fault.{Fault}
+use Rattle.fields.specs.declared.fault.Verdict.{Verdict}
+use Rattle.fields.specs.declared.fault.Verdict.the-variants.{Accepted, Refused}
+use Rattle.fields.specs.Format.{ours, versionOf, kindOf, lengthOf, frameSize, bodyOf}
+use Rattle.fields.specs.Tests.{firstFault, jobTable, jobAt, noJob}
 use Rattle.frame.specs.Sound.{SoundJob}
-use Rattle.frame.specs.Reading.{Progress, refused, faultsAt, after, cut, endVerdict, judged, readSheet, padded, sheetOf, noHead}
+use Rattle.frame.specs.Reading.{Progress, refused, faultsAt, after, cut, endVerdict, judged, readSheet, stored, padded, sheetOf, noHead}
 use Rattle.frame.specs.Frames.{readOn}
-use Rattle.frame.specs.Steps.{frameOf}
+use Rattle.frame.specs.Steps.{frameAt, readingOf}
 use Rattle.frame.proofs.ReadLaws.{cut-false, readFrom-over}
-use Rattle.frame.proofs.WholeFrames.{readOn-cut, readSheet-within}
+use Rattle.frame.proofs.WholeFrames.{readSheet-within}
 use Rattle.frame.proofs.SheetArrays.{getD-padded, set-padded, table-padded}
-use Rattle.frame.proofs.JudgeLaws.{readOn-foreign, readOn-fault, readOn-next, judgement, frameOf-fault, frameOf-head, frameOf-job, frameOf-end}
+use Rattle.frame.proofs.JudgeLaws.{readOn-foreign, readOn-next, judgement, frameOf-head, frameOf-job, frameOf-end}
+use Rattle.frame.proofs.FrameAt.{found, found-fault, found-foreign, found-ours}
 
 -- ── the loop ──
 
@@ -73,12 +75,12 @@ module _ (s : List ℕ) (sheet : Sheet) (stage : Stage) (at : ℕ) (here : ReadS
   some : 0 < length rest
   some = rw length-drop (omega arith)
 
-  pub state-cut : cut rest ≡ true → readSheet s ≡ refused (Truncated at)
-  state-cut c = here .so-far ∙ readOn-cut rest at progress some c
+  pub state-fault : (f : Fault) → found progress at rest ≡ frame.Faulty f → readSheet s ≡ refused f
+  state-fault f e = here .so-far ∙ found-fault progress at rest some f e
 
-  module _ (whole : cut rest ≡ false) (next : ℕ) (is-next : next ≡ at + frameSize rest) where
-    next-within : next ≤ length s
-    next-within = omega (arith, is-next, cut-false rest whole, length-drop at s)
+  module _ (next : ℕ) (is-next : next ≡ at + frameSize rest) where
+    next-within : cut rest ≡ false → next ≤ length s
+    next-within whole = omega (arith, is-next, cut-false rest whole, length-drop at s)
 
     -- What is left behind the frame.
     left-behind : (g : Progress) → readOn (drop (frameSize rest) rest) (at + frameSize rest) g ≡ readOn (drop next s) next g
@@ -86,175 +88,154 @@ module _ (s : List ℕ) (sheet : Sheet) (stage : Stage) (at : ℕ) (here : ReadS
         ap (λ (xs : List ℕ). readOn xs (at + frameSize rest) g) (drop-drop (frameSize rest) at s)
         ∙ ap (λ (n : ℕ). readOn (drop n s) n g) (sym is-next)
 
-    pub state-foreign : eqb (versionOf rest) ours ≡ false → ReadState s sheet stage next
-    state-foreign v =
+    pub state-foreign : found progress at rest ≡ frame.Foreign → ReadState s sheet stage next
+    state-foreign e =
+        let w = found-foreign progress at rest e in
         record {
           jobs = here .jobs;
-          within = next-within;
+          within = next-within (w .0);
           same-sheet = here .same-sheet;
           at-most-512 = here .at-most-512;
           p-fits = here .p-fits;
           q-fits = here .q-fits;
           minutes-fit = here .minutes-fit;
-          so-far = here .so-far ∙ readOn-foreign rest at progress some whole v ∙ left-behind progress;
+          so-far = here .so-far ∙ readOn-foreign rest at progress some (w .0) (w .1) ∙ left-behind progress;
         }
 
-    module _ (v : eqb (versionOf rest) ours ≡ true) where
-      pub state-fault : (f : Fault) → judgement progress at rest ≡ frame.Faulty f → readSheet s ≡ refused f
-      state-fault f e = here .so-far ∙ readOn-fault rest at progress some whole f v (frameOf-fault progress at rest f e)
+    past : cut rest ≡ false → eqb (versionOf rest) ours ≡ true → (g : Progress) → firstFault (faultsAt progress at rest) ≡ Accepted
+        → after progress (kindOf rest) (bodyOf rest) ≡ g → readSheet s ≡ readOn (drop next s) next g
+    past whole v g ok e =
+        here .so-far
+        ∙ readOn-next rest at progress some whole v ok
+        ∙ left-behind (after progress (kindOf rest) (bodyOf rest))
+        ∙ ap (λ (x : Progress). readOn (drop next s) next x) e
 
-      past : (g : Progress) → firstFault (faultsAt progress at rest) ≡ Accepted → after progress (kindOf rest) (bodyOf rest) ≡ g
-          → readSheet s ≡ readOn (drop next s) next g
-      past g ok e =
-          here .so-far
-          ∙ readOn-next rest at progress some whole v ok
-          ∙ left-behind (after progress (kindOf rest) (bodyOf rest))
-          ∙ ap (λ (x : Progress). readOn (drop next s) next x) e
+    pub state-head : (h : Head) → found progress at rest ≡ frame.Head h
+        → ReadState s (record { head = h; count = sheet .count; minutes = sheet .minutes; allowed = sheet .allowed }) Open next
+    state-head h e =
+        let w = found-ours progress at rest (frame.Head h) refl e in
+        let read = frameOf-head progress at rest h (w .2) in
+        record {
+          jobs = here .jobs;
+          within = next-within (w .0);
+          same-sheet = ap (λ (x : Sheet). record { head = h; count = x .count; minutes = x .minutes; allowed = x .allowed }) (here .same-sheet);
+          at-most-512 = here .at-most-512;
+          p-fits = rw (read .1) (bits-lt (bodyOf rest) 7 7);
+          q-fits = rw (read .1) (bits-lt (bodyOf rest) 14 7);
+          minutes-fit = here .minutes-fit;
+          so-far = past (w .0) (w .1) _ (read .0) (read .2);
+        }
 
-      pub state-head : (h : Head) → judgement progress at rest ≡ frame.Head h
-          → ReadState s (record { head = h; count = sheet .count; minutes = sheet .minutes; allowed = sheet .allowed }) Open next
-      state-head h e =
-          let found = frameOf-head progress at rest h e in
+    pub state-end : found progress at rest ≡ frame.End → ReadState s sheet Closed next
+    state-end e =
+        let w = found-ours progress at rest frame.End refl e in
+        let read = frameOf-end progress at rest (w .2) in
+        record {
+          jobs = here .jobs;
+          within = next-within (w .0);
+          same-sheet = here .same-sheet;
+          at-most-512 = here .at-most-512;
+          p-fits = here .p-fits;
+          q-fits = here .q-fits;
+          minutes-fit = here .minutes-fit;
+          so-far = past (w .0) (w .1) _ (read .0) (read .1);
+        }
+
+    module _ (j : Job) (e : found progress at rest ≡ frame.Job j) where
+      whole : cut rest ≡ false
+      whole = found-ours progress at rest (frame.Job j) refl e .0
+
+      version : eqb (versionOf rest) ours ≡ true
+      version = found-ours progress at rest (frame.Job j) refl e .1
+
+      judged-job : judgement progress at rest ≡ frame.Job j
+      judged-job = found-ours progress at rest (frame.Job j) refl e .2
+
+      job-found : SoundJob (sheet .head .benches) (length (here .jobs)) j
+      job-found = frameOf-job progress at rest j judged-job .3
+
+      count-is : sheet .count ≡ length (here .jobs)
+      count-is = ap (λ (x : Sheet). x .count) (here .same-sheet)
+
+      pub job-room : sheet .count < 512
+      job-room = omega (arith, count-is, job-found)
+
+      jobs-length : length (here .jobs ++ (j ∷ [])) ≡ length (here .jobs) + 1
+      jobs-length = length-append (here .jobs) (j ∷ [])
+
+      one-job-more : record {
+        head = sheet .head;
+        count = sheet .count + 1;
+        minutes = set (sheet .minutes) (sheet .count) (j .minutes);
+        allowed = set (sheet .allowed) (sheet .count) (j .allowed);
+      } ≡ sheetOf (sheet .head) (here .jobs ++ (j ∷ []))
+      one-job-more =
+          let a : sheet .count + 1 ≡ length (here .jobs ++ (j ∷ [])) = omega (arith, count-is, jobs-length) in
+          let b : set (sheet .minutes) (sheet .count) (j .minutes) ≡ padded (map (λ x. x .minutes) (here .jobs ++ (j ∷ []))) =
+          ap₂ (λ (xs : List ℕ) (n : ℕ). set xs n (j .minutes)) (ap (λ (x : Sheet). x .minutes) (here .same-sheet)) count-is
+          ∙ set-padded (λ x. x .minutes) refl (here .jobs) j (job-found .number-below-512)
+          in
+          let c : set (sheet .allowed) (sheet .count) (j .allowed) ≡ padded (map (λ x. x .allowed) (here .jobs ++ (j ∷ []))) =
+          ap₂ (λ (xs : List ℕ) (n : ℕ). set xs n (j .allowed)) (ap (λ (x : Sheet). x .allowed) (here .same-sheet)) count-is
+          ∙ set-padded (λ x. x .allowed) refl (here .jobs) j (job-found .number-below-512)
+          in
+          rw (a, b, c)
+
+      more-minutes : (n : ℕ) → n < length (here .jobs ++ (j ∷ [])) → jobAt (here .jobs ++ (j ∷ [])) n .minutes < 2 ^ 20
+      more-minutes n h =
+          ⊎-elim
+          (λ lt. rw (List·getD-append (here .jobs) (j ∷ []) noJob n lt) (here .minutes-fit n lt))
+          (λ le. let last : n ≡ length (here .jobs) = omega (arith, jobs-length) in
+          rw (last, getD-append-seam (here .jobs) j [] noJob) (job-found .minutes-fit))
+          (lt-or-le n (length (here .jobs)))
+
+      pub state-job : ReadState s
+          (record {
+            head = sheet .head;
+            count = sheet .count + 1;
+            minutes = set (sheet .minutes) (sheet .count) (j .minutes);
+            allowed = set (sheet .allowed) (sheet .count) (j .allowed);
+          })
+          stage
+          next
+      state-job =
+          let read = frameOf-job progress at rest j judged-job in
           record {
-            jobs = here .jobs;
-            within = next-within;
-            same-sheet = ap (λ (x : Sheet). record { head = h; count = x .count; minutes = x .minutes; allowed = x .allowed }) (here .same-sheet);
-            at-most-512 = here .at-most-512;
-            p-fits = rw (found .1) (bits-lt (bodyOf rest) 7 7);
-            q-fits = rw (found .1) (bits-lt (bodyOf rest) 14 7);
-            minutes-fit = here .minutes-fit;
-            so-far = past _ (found .0) (found .2);
-          }
-
-      pub state-end : judgement progress at rest ≡ frame.End → ReadState s sheet Closed next
-      state-end e =
-          let found = frameOf-end progress at rest e in
-          record {
-            jobs = here .jobs;
-            within = next-within;
-            same-sheet = here .same-sheet;
-            at-most-512 = here .at-most-512;
+            jobs = here .jobs ++ (j ∷ []);
+            within = next-within whole;
+            same-sheet = one-job-more;
+            at-most-512 = omega (arith, jobs-length, job-found);
             p-fits = here .p-fits;
             q-fits = here .q-fits;
-            minutes-fit = here .minutes-fit;
-            so-far = past _ (found .0) (found .1);
+            minutes-fit = more-minutes;
+            so-far = past whole version _ (read .0) (read .2);
           }
 
-      module _ (j : Job) (e : judgement progress at rest ≡ frame.Job j) where
-        job-found : SoundJob (sheet .head .benches) (length (here .jobs)) j
-        job-found = frameOf-job progress at rest j e .3
-
-        count-is : sheet .count ≡ length (here .jobs)
-        count-is = ap (λ (x : Sheet). x .count) (here .same-sheet)
-
-        pub job-room : sheet .count < 512
-        job-room = omega (arith, count-is, job-found)
-
-        jobs-length : length (here .jobs ++ (j ∷ [])) ≡ length (here .jobs) + 1
-        jobs-length = length-append (here .jobs) (j ∷ [])
-
-        one-job-more : record {
-          head = sheet .head;
-          count = sheet .count + 1;
-          minutes = set (sheet .minutes) (sheet .count) (j .minutes);
-          allowed = set (sheet .allowed) (sheet .count) (j .allowed);
-        } ≡ sheetOf (sheet .head) (here .jobs ++ (j ∷ []))
-        one-job-more =
-            let a : sheet .count + 1 ≡ length (here .jobs ++ (j ∷ [])) = omega (arith, count-is, jobs-length) in
-            let b : set (sheet .minutes) (sheet .count) (j .minutes) ≡ padded (map (λ x. x .minutes) (here .jobs ++ (j ∷ []))) =
-            ap₂ (λ (xs : List ℕ) (n : ℕ). set xs n (j .minutes)) (ap (λ (x : Sheet). x .minutes) (here .same-sheet)) count-is
-            ∙ set-padded (λ x. x .minutes) refl (here .jobs) j (job-found .number-below-512)
-            in
-            let c : set (sheet .allowed) (sheet .count) (j .allowed) ≡ padded (map (λ x. x .allowed) (here .jobs ++ (j ∷ []))) =
-            ap₂ (λ (xs : List ℕ) (n : ℕ). set xs n (j .allowed)) (ap (λ (x : Sheet). x .allowed) (here .same-sheet)) count-is
-            ∙ set-padded (λ x. x .allowed) refl (here .jobs) j (job-found .number-below-512)
-            in
-            rw (a, b, c)
-
-        more-minutes : (n : ℕ) → n < length (here .jobs ++ (j ∷ [])) → jobAt (here .jobs ++ (j ∷ [])) n .minutes < 2 ^ 20
-        more-minutes n h =
-            ⊎-elim
-            (λ lt. rw (List·getD-append (here .jobs) (j ∷ []) noJob n lt) (here .minutes-fit n lt))
-            (λ le. let last : n ≡ length (here .jobs) = omega (arith, jobs-length) in
-            rw (last, getD-append-seam (here .jobs) j [] noJob) (job-found .minutes-fit))
-            (lt-or-le n (length (here .jobs)))
-
-        pub state-job : ReadState s
-            (record {
-              head = sheet .head;
-              count = sheet .count + 1;
-              minutes = set (sheet .minutes) (sheet .count) (j .minutes);
-              allowed = set (sheet .allowed) (sheet .count) (j .allowed);
-            })
-            stage
-            next
-        state-job =
-            let found = frameOf-job progress at rest j e in
-            record {
-              jobs = here .jobs ++ (j ∷ []);
-              within = next-within;
-              same-sheet = one-job-more;
-              at-most-512 = omega (arith, jobs-length, job-found);
-              p-fits = here .p-fits;
-              q-fits = here .q-fits;
-              minutes-fit = more-minutes;
-              so-far = past _ (found .0) (found .2);
-            }
-
--- ── the header that the program reads ──
-
-pub record Header (s : List ℕ) (at version kind size : ℕ) : Type 0 where
-  pub version-is : version ≡ versionOf (drop at s)
-  pub kind-is : kind ≡ kindOf (drop at s)
-  pub size-is : size ≡ lengthOf (drop at s)
+-- ── what the program asks for at byte at ──
 
 part-is : (s : List ℕ) (at : ℕ) → take (length s - at) (drop at s) ≡ drop at s
 part-is s at = take-all (length s - at) (drop at s) (rw length-drop (omega arith))
 
-pub header-at : (s : List ℕ) (at version kind size : ℕ)
-    → (version ≡ versionOf (take (length s - at) (drop at s)))
-    × (kind ≡ kindOf (take (length s - at) (drop at s)))
-    × (size ≡ lengthOf (take (length s - at) (drop at s)))
-    × (size < 65536)
-    → Header s at version kind size
-header-at s at version kind size e =
-    record {
-      version-is = e .0 ∙ ap versionOf (part-is s at);
-      kind-is = e .1 ∙ ap kindOf (part-is s at);
-      size-is = e .2 ∙ ap lengthOf (part-is s at);
-    }
+pub next-is : (s : List ℕ) (at size : ℕ) → size ≡ frameSize (take (length s - at) (drop at s)) → at + size ≡ at + frameSize (drop at s)
+next-is s at size e = ap (λ (n : ℕ). at + n) (e ∙ ap (λ (xs : List ℕ). frameSize xs) (part-is s at))
 
-pub cut-header : (s : List ℕ) (at : ℕ) → length s - at < 3 → cut (drop at s) ≡ true
-cut-header s at h = or-left _ (lt-ltb (length (drop at s)) 3 (rw length-drop h))
-
-module _ (s : List ℕ) (at version kind size : ℕ) (h : Header s at version kind size) where
-  pub cut-body : length s < at + 3 + size → cut (drop at s) ≡ true
-  cut-body long =
-      or-right (ltb (length (drop at s)) 3)
-      (lt-ltb (length (drop at s)) (frameSize (drop at s)) (rw length-drop (omega (arith, h .size-is))))
-
-  pub whole-frame : at < length s → at + 3 + size ≤ length s → cut (drop at s) ≡ false
-  whole-frame inside fits =
-      or-false
-      (le-ltb (length (drop at s)) 3 (rw length-drop (omega arith)))
-      (le-ltb (length (drop at s)) (frameSize (drop at s)) (rw length-drop (omega (arith, h .size-is))))
-
-  pub next-is : at + 3 + size ≡ at + frameSize (drop at s)
-  next-is = omega (arith, h .size-is)
-
-  pub body-is : take (at + 3 + size - (at + 3)) (drop (at + 3) s) ≡ bodyOf (drop at s)
-  body-is =
-      ap₂ (λ (n : ℕ) (xs : List ℕ). take n xs) (let e : at + 3 + size - (at + 3) ≡ size = omega arith in e ∙ h .size-is) (sym (drop-drop 3 at s))
-
-  pub judged-is : (sheet : Sheet) (stage : Stage) (here : ReadState s sheet stage at) (x : Frame)
-      → x ≡ frameOf stage (sheet .head .benches) (sheet .count) at kind (take (at + 3 + size - (at + 3)) (drop (at + 3) s))
-      → x ≡ judgement (record { stage = stage; head = sheet .head; jobs = here .jobs }) at (drop at s)
-  judged-is sheet stage here x e =
-      e
-      ∙ ap (λ (n : ℕ). frameOf stage (sheet .head .benches) n at kind (take (at + 3 + size - (at + 3)) (drop (at + 3) s))) (ap (λ (y : Sheet). y .count) (here .same-sheet))
-      ∙ ap₂ (λ (k : ℕ) (xs : List ℕ). frameOf stage (sheet .head .benches) (length (here .jobs)) at k xs) (h .kind-is) body-is
+pub found-is : (s : List ℕ) (sheet : Sheet) (stage : Stage) (at : ℕ) (here : ReadState s sheet stage at) (x y : Frame)
+    → x ≡ frameAt stage (sheet .head .benches) (sheet .count) at (take (length s - at) (drop at s)) → x ≡ y
+    → found (record { stage = stage; head = sheet .head; jobs = here .jobs }) at (drop at s) ≡ y
+found-is s sheet stage at here x y e w =
+    sym (
+    e
+    ∙ ap (λ (n : ℕ). frameAt stage (sheet .head .benches) n at (take (length s - at) (drop at s))) (ap (λ (z : Sheet). z .count) (here .same-sheet))
+    ∙ ap (λ (xs : List ℕ). frameAt stage (sheet .head .benches) (length (here .jobs)) at xs) (part-is s at)
+    )
+    ∙ w
 
 -- ── after the loop ──
+
+reading-judged : (v : Verdict) (h : Head) (js : List Job) (sheet : Sheet) → sheet ≡ sheetOf h js → readingOf v sheet ≡ stored (judged v h js)
+unfolding stored
+reading-judged Accepted h js sheet e = ap (λ (x : Sheet). record { verdict = Accepted; sheet = x }) e
+reading-judged (Refused f) h js sheet e = refl
 
 module _ (s : List ℕ) (sheet : Sheet) (stage : Stage) (at : ℕ) (here : ReadState s sheet stage at) where
   pub state-count : sheet .count ≡ length (here .jobs)
@@ -271,9 +252,14 @@ module _ (s : List ℕ) (sheet : Sheet) (stage : Stage) (at : ℕ) (here : ReadS
   pub state-jobs : jobTable (sheet .count) (sheet .minutes) (sheet .allowed) ≡ here .jobs
   state-jobs = ap (λ (x : Sheet). jobTable (x .count) (x .minutes) (x .allowed)) (here .same-sheet) ∙ table-padded (here .jobs)
 
-  pub state-over : length s ≤ at
-      → readSheet s ≡ judged (endVerdict stage at (sheet .head) (jobTable (sheet .count) (sheet .minutes) (sheet .allowed))) (sheet .head) (here .jobs)
-  state-over h =
+  pub state-over : length s ≤ at → (r : Reading)
+      → r ≡ readingOf (endVerdict stage at (sheet .head) (jobTable (sheet .count) (sheet .minutes) (sheet .allowed))) sheet
+      → r ≡ stored (readSheet s)
+  state-over over r e =
+      e
+      ∙ rw state-jobs
+      (reading-judged (endVerdict stage at (sheet .head) (here .jobs)) (sheet .head) (here .jobs) sheet (here .same-sheet)
+      ∙ ap stored (sym (
       here .so-far
       ∙ readFrom-over (length (drop at s)) (drop at s) at (record { stage = stage; head = sheet .head; jobs = here .jobs }) (rw length-drop (omega arith))
-      ∙ ap (λ (js : List Job). judged (endVerdict stage at (sheet .head) js) (sheet .head) (here .jobs)) (sym state-jobs)
+      )))

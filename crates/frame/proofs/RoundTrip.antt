@@ -28,12 +28,12 @@ use borrow.Author.Tests.{eq-eqb, ne-eqb, le-ltb}
 use Rattle.bools.proofs.BoolLaws.{or-false}
 use Rattle.bits.specs.Layout.{packed, field, Fit}
 use Rattle.bits.proofs.LayoutLaws.{length-packed, field-packed, field-packed-append}
-use Rattle.frame.specs.declared.sheet.Head.{Head}
-use Rattle.frame.specs.declared.sheet.Job.{Job}
+use Rattle.fields.specs.declared.sheet.Head.{Head}
+use Rattle.fields.specs.declared.sheet.Job.{Job}
 use Rattle.frame.specs.declared.reader.Stage.the-variants.{Start, Open, Closed}
-use Rattle.frame.specs.declared.fault.Verdict.the-variants.{Accepted}
-use Rattle.frame.specs.Format.{ours, headKind, jobKind, endKind, headerLayout, headLayout, jobLayout, headerSize, versionOf, kindOf, lengthOf, frameSize, bodyOf, headOf, jobOf, spareOf, frameBytes, headFrame, jobFrame, endFrame, jobFrames, sheetBytes}
-use Rattle.frame.specs.Tests.{firstFault, headFaults, jobFaults, jobAt}
+use Rattle.fields.specs.declared.fault.Verdict.the-variants.{Accepted}
+use Rattle.fields.specs.Format.{ours, headKind, jobKind, endKind, headerLayout, headLayout, jobLayout, headerSize, versionOf, kindOf, lengthOf, frameSize, bodyOf, headOf, jobOf, spareOf, frameBytes, headFrame, jobFrame, endFrame, jobFrames, sheetBytes}
+use Rattle.fields.specs.Tests.{firstFault, headFaults, jobFaults, jobAt}
 use Rattle.frame.specs.Reading.{Progress, accepted, nothingRead, frameFaults, faultsAt, after, cut, readFrom, readSheet}
 use Rattle.frame.specs.Writing.{writerVerdict}
 use Rattle.frame.specs.Sound.{SoundHead, SoundJob}

@@ -10,9 +10,9 @@ use native.Mathlib.Omega.{arith}
 use lib.ListN.{length, getD, set, replicate, length-map, length-append, length-replicate, List·getD-append, List·getD-map}
 use lib.Seq.{set-at, append-snoc}
 use Rattle.sums.proofs.TableLaws.{table-cong, table-getD}
-use Rattle.frame.specs.declared.sheet.Job.{Job}
+use Rattle.fields.specs.declared.sheet.Job.{Job}
 use Rattle.frame.specs.declared.reader.Frame.the-variants as frame
-use Rattle.frame.specs.Tests.{jobTable, jobAt, noJob}
+use Rattle.fields.specs.Tests.{jobTable, jobAt, noJob}
 use Rattle.frame.specs.Reading.{padded}
 
 module _ (f : Job → ℕ) (none : f noJob ≡ 0) (js : List Job) where

@@ -11,7 +11,7 @@ use denote.Enum.Declared.{tagOf}
 use Rattle.frame.proofs.reader.Stage.{the-type}
 use Rattle.frame.specs.declared.reader.Stage.{Stage}
 use Rattle.frame.specs.declared.reader.Stage.the-variants.{Start, Open, Closed}
-use Rattle.frame.specs.Format.{headKind, jobKind, endKind}
+use Rattle.fields.specs.Format.{headKind, jobKind, endKind}
 use Rattle.frame.specs.Reading.{misplaced}
 
 abbrev pub tag : Stage → ℕ

@@ -30,12 +30,12 @@ use borrow.Author.Tests.{eq-eqb, ne-eqb, eqb-true, le-ltb, ltb-false}
 use Rattle.bools.proofs.BoolLaws.{split, or-false, or-false-left, tests}
 use Rattle.bools.proofs.OrderLaws.{measure-induction}
 use Rattle.bits.proofs.LayoutLaws.{field-append, field-take}
-use Rattle.frame.specs.declared.fault.Fault.{Fault}
-use Rattle.frame.specs.declared.fault.Fault.the-variants.{Truncated}
-use Rattle.frame.specs.declared.fault.Verdict.{Verdict}
-use Rattle.frame.specs.declared.fault.Verdict.the-variants.{Accepted, Refused}
-use Rattle.frame.specs.Format.{ours, headerLayout, headerSize, versionOf, kindOf, lengthOf, frameSize, bodyOf}
-use Rattle.frame.specs.Tests.{firstFault}
+use Rattle.fields.specs.declared.fault.Fault.{Fault}
+use Rattle.fields.specs.declared.fault.Fault.the-variants.{Truncated}
+use Rattle.fields.specs.declared.fault.Verdict.{Verdict}
+use Rattle.fields.specs.declared.fault.Verdict.the-variants.{Accepted, Refused}
+use Rattle.fields.specs.Format.{ours, headerLayout, headerSize, versionOf, kindOf, lengthOf, frameSize, bodyOf}
+use Rattle.fields.specs.Tests.{firstFault}
 use Rattle.frame.specs.Reading.{Progress, refused, nothingRead, faultsAt, after, cut, readFrom, readSheet}
 use Rattle.frame.specs.Frames.{WholeFrame, readOn}
 use Rattle.frame.proofs.ReadLaws.{cut-false, frameSize-pos, readFrom-enough, readFrom-cut, readFrom-foreign, readFrom-fault, readFrom-next}

@@ -38,13 +38,13 @@ use Rattle.sums.specs.Search.{any}
 use Rattle.sums.proofs.SearchLaws.{any-intro, any-elim, any-false, any-none}
 use Rattle.bits.specs.Layout.{packed}
 use Rattle.bits.proofs.LayoutLaws.{length-packed}
-use Rattle.frame.specs.declared.sheet.Head.{Head}
-use Rattle.frame.specs.declared.sheet.Job.{Job}
-use Rattle.frame.specs.declared.fault.Fault.{Fault}
-use Rattle.frame.specs.declared.fault.Verdict.{Verdict}
-use Rattle.frame.specs.declared.fault.Verdict.the-variants.{Accepted, Refused}
-use Rattle.frame.specs.Format.{headerLayout, headLayout, jobLayout, ours, headKind, jobKind, endKind, headFrame, jobFrame, endFrame, jobFrames, sheetBytes, frameBytes, allows}
-use Rattle.frame.specs.Tests.{firstFault, headFaults, jobFaults, noJob, jobAt, benchCountFault, shareFault, jobCountFault, minutesFault, allowedFault}
+use Rattle.fields.specs.declared.sheet.Head.{Head}
+use Rattle.fields.specs.declared.sheet.Job.{Job}
+use Rattle.fields.specs.declared.fault.Fault.{Fault}
+use Rattle.fields.specs.declared.fault.Verdict.{Verdict}
+use Rattle.fields.specs.declared.fault.Verdict.the-variants.{Accepted, Refused}
+use Rattle.fields.specs.Format.{headerLayout, headLayout, jobLayout, ours, headKind, jobKind, endKind, headFrame, jobFrame, endFrame, jobFrames, sheetBytes, frameBytes, allows}
+use Rattle.fields.specs.Tests.{firstFault, headFaults, jobFaults, noJob, jobAt, benchCountFault, shareFault, jobCountFault, minutesFault, allowedFault}
 use Rattle.frame.specs.Writing.{andThen, jobsVerdict, writerVerdict}
 use Rattle.frame.specs.Sound.{SoundHead, SoundJob, SoundSheet}
 

@@ -34,15 +34,15 @@ use Rattle.bits.specs.Bits.{bytesOf}
 use Rattle.bits.specs.Layout.{joined}
 use Rattle.bits.proofs.BitsLaws.{pow-256}
 use Rattle.bits.proofs.BytesLaws.{length-bytesOf, getD-bytesOf, bytesOf-append}
-use Rattle.frame.specs.declared.sheet.Head.{Head}
-use Rattle.frame.specs.declared.sheet.Job.{Job}
-use Rattle.frame.specs.declared.fault.Fault.{Fault}
-use Rattle.frame.specs.declared.fault.Fault.the-variants.{Table}
-use Rattle.frame.specs.declared.fault.Verdict.{Verdict}
-use Rattle.frame.specs.declared.fault.Verdict.the-variants.{Accepted, Refused}
+use Rattle.fields.specs.declared.sheet.Head.{Head}
+use Rattle.fields.specs.declared.sheet.Job.{Job}
+use Rattle.fields.specs.declared.fault.Fault.{Fault}
+use Rattle.fields.specs.declared.fault.Fault.the-variants.{Table}
+use Rattle.fields.specs.declared.fault.Verdict.{Verdict}
+use Rattle.fields.specs.declared.fault.Verdict.the-variants.{Accepted, Refused}
 use Rattle.frame.specs.declared.writer.Written.the-variants.{Length, Refusal}
-use Rattle.frame.specs.Format.{ours, headKind, jobKind, endKind, headerLayout, headLayout, jobLayout, headFrame, jobFrame, jobFrames, sheetBytes}
-use Rattle.frame.specs.Tests.{firstFault, headFaults, jobFaults, noJob, jobAt, jobTable, hyperEdgeVerdict}
+use Rattle.fields.specs.Format.{ours, headKind, jobKind, endKind, headerLayout, headLayout, jobLayout, headFrame, jobFrame, jobFrames, sheetBytes}
+use Rattle.fields.specs.Tests.{firstFault, headFaults, jobFaults, noJob, jobAt, jobTable, hyperEdgeVerdict}
 use Rattle.frame.specs.Writing.{jobsVerdict, writerVerdict, fitted, writeSheet}
 use Rattle.frame.specs.Sound.{SoundSheet}
 use Rattle.frame.proofs.WriterLaws.{headValues, jobValues, length-headBody, length-jobBody, length-headFrame, length-jobFrames, length-sheetBytes, jobFrames-append, head-sound, jobsVerdict-sound, writerVerdict-sound, jobsVerdict-drop, jobsVerdict-fault, jobsVerdict-over}

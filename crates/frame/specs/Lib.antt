@@ -1,6 +1,3 @@
-pub mod Numbers
-pub mod Format
-pub mod Tests
 pub mod Reading
 pub mod Steps
 pub mod Writing

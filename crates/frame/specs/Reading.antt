@@ -14,18 +14,18 @@ use mathlib.Core.Bool.{Bool, true, false, cond, not, _||_}
 use mathlib.Core.List.{List, [], _∷_, _++_, map}
 use lib.ListN.{length, drop, replicate}
 use lib.Dec.{eqb, ltb}
-use Rattle.frame.specs.declared.sheet.Head.{Head}
-use Rattle.frame.specs.declared.sheet.Job.{Job}
-use Rattle.frame.specs.declared.sheet.Sheet.{Sheet}
-use Rattle.frame.specs.declared.sheet.Reading.{Reading}
+use Rattle.fields.specs.declared.sheet.Head.{Head}
+use Rattle.fields.specs.declared.sheet.Job.{Job}
+use Rattle.fields.specs.declared.sheet.Sheet.{Sheet}
+use Rattle.fields.specs.declared.sheet.Reading.{Reading}
 use Rattle.frame.specs.declared.reader.Stage.{Stage}
 use Rattle.frame.specs.declared.reader.Stage.the-variants.{Start, Open, Closed}
-use Rattle.frame.specs.declared.fault.Fault.{Fault}
-use Rattle.frame.specs.declared.fault.Fault.the-variants.{TooLong, Truncated, UnknownKind, Misplaced, WrongLength, SpareBit}
-use Rattle.frame.specs.declared.fault.Verdict.{Verdict}
-use Rattle.frame.specs.declared.fault.Verdict.the-variants.{Accepted, Refused}
-use Rattle.frame.specs.Format.{ours, headKind, jobKind, endKind, headerSize, versionOf, kindOf, frameSize, bodyOf, bodyLength, headOf, jobOf, spareOf}
-use Rattle.frame.specs.Tests.{Test, firstFault, headFaults, jobFaults, hyperEdgeVerdict}
+use Rattle.fields.specs.declared.fault.Fault.{Fault}
+use Rattle.fields.specs.declared.fault.Fault.the-variants.{TooLong, Truncated, UnknownKind, Misplaced, WrongLength, SpareBit}
+use Rattle.fields.specs.declared.fault.Verdict.{Verdict}
+use Rattle.fields.specs.declared.fault.Verdict.the-variants.{Accepted, Refused}
+use Rattle.fields.specs.Format.{ours, headKind, jobKind, endKind, headerSize, versionOf, kindOf, frameSize, bodyOf, bodyLength, headOf, jobOf, spareOf}
+use Rattle.fields.specs.Tests.{Test, firstFault, headFaults, jobFaults, hyperEdgeVerdict}
 
 -- Start: the head is still to come. Open: the end frame is. Closed: both have come.
 pub record Progress : Type 0 where

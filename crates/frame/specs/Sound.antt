@@ -7,11 +7,11 @@ use mathlib.Core.Bool.{true}
 use mathlib.Core.List.{List}
 use mathlib.Core.Path.{_≡_}
 use lib.ListN.{length}
-use Rattle.frame.specs.declared.sheet.Head.{Head}
-use Rattle.frame.specs.declared.sheet.Job.{Job}
-use Rattle.frame.specs.declared.fault.Verdict.the-variants.{Accepted}
-use Rattle.frame.specs.Format.{allows}
-use Rattle.frame.specs.Tests.{jobAt, hyperEdgeVerdict}
+use Rattle.fields.specs.declared.sheet.Head.{Head}
+use Rattle.fields.specs.declared.sheet.Job.{Job}
+use Rattle.fields.specs.declared.fault.Verdict.the-variants.{Accepted}
+use Rattle.fields.specs.Format.{allows}
+use Rattle.fields.specs.Tests.{jobAt, hyperEdgeVerdict}
 
 pub record SoundHead (h : Head) : Type 0 where
   pub some-bench : 0 < h .benches

@@ -10,15 +10,15 @@ use mathlib.Core.Bool.{cond}
 use mathlib.Core.List.{List, [], _∷_, _++_}
 use lib.ListN.{length, drop}
 use lib.Dec.{leb}
-use Rattle.frame.specs.declared.sheet.Head.{Head}
-use Rattle.frame.specs.declared.sheet.Job.{Job}
-use Rattle.frame.specs.declared.fault.Fault.the-variants.{Table}
-use Rattle.frame.specs.declared.fault.Verdict.{Verdict}
-use Rattle.frame.specs.declared.fault.Verdict.the-variants.{Accepted, Refused}
+use Rattle.fields.specs.declared.sheet.Head.{Head}
+use Rattle.fields.specs.declared.sheet.Job.{Job}
+use Rattle.fields.specs.declared.fault.Fault.the-variants.{Table}
+use Rattle.fields.specs.declared.fault.Verdict.{Verdict}
+use Rattle.fields.specs.declared.fault.Verdict.the-variants.{Accepted, Refused}
 use Rattle.frame.specs.declared.writer.Written.{Written}
 use Rattle.frame.specs.declared.writer.Written.the-variants.{Length, Refusal}
-use Rattle.frame.specs.Format.{sheetBytes}
-use Rattle.frame.specs.Tests.{firstFault, headFaults, jobFaults, jobTable, hyperEdgeVerdict}
+use Rattle.fields.specs.Format.{sheetBytes}
+use Rattle.fields.specs.Tests.{firstFault, headFaults, jobFaults, jobTable, hyperEdgeVerdict}
 
 abbrev pub jobsOf : List ℕ → List ℕ → List Job
 jobsOf ms bs = jobTable (max (length ms) (length bs)) ms bs

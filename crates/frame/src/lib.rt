@@ -1,21 +1,17 @@
 // The sheet: bytes to a head and jobs, or to the first fault, and back.
 // `read` and `write` are the entry points; neither asks anything of its caller.
-mod bytes;
-mod fault;
-mod header;
+mod hyper_edges;
 mod reader;
-mod sheet;
-mod tests;
 mod writer;
 
-pub use bytes::byte;
-pub use fault::Fault;
-pub use fault::Verdict;
-pub use header::FrameHeader;
+pub use fields::Fault;
+pub use fields::FrameHeader;
+pub use fields::Head;
+pub use fields::Job;
+pub use fields::Reading;
+pub use fields::Sheet;
+pub use fields::Verdict;
+pub use fields::byte;
 pub use reader::read;
-pub use sheet::Head;
-pub use sheet::Job;
-pub use sheet::Reading;
-pub use sheet::Sheet;
 pub use writer::Written;
 pub use writer::write;

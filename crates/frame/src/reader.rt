@@ -1,21 +1,20 @@
 // Reading: frames in sheet order, each judged by the faults 2 to 11, then fault 12.
-use crate::fault::Fault;
-use crate::fault::Verdict;
-use crate::header;
-use crate::header::FrameHeader;
-use crate::sheet::Head;
-use crate::sheet::Job;
-use crate::sheet::Reading;
-use crate::sheet::Sheet;
-use crate::tests;
+use crate::hyper_edges;
+use fields::Fault;
+use fields::FrameHeader;
+use fields::Head;
+use fields::Job;
+use fields::Reading;
+use fields::Sheet;
+use fields::Verdict;
 ghost use mathlib.Core.Path.{_≡_};
 ghost use Prim.Native.Nat.{ℕ, _<_, _^_};
 ghost use mathlib.Core.List.{[]};
 ghost use lib.ListN.{getD};
-ghost use Rattle.frame.specs.Format.{headKind, jobKind, endKind};
-ghost use Rattle.frame.specs.Tests.{jobTable};
+ghost use Rattle.fields.specs.Format.{headKind, jobKind, endKind, frameSize};
+ghost use Rattle.fields.specs.Tests.{jobTable};
 ghost use Rattle.frame.specs.Reading.{Read, readSheet, stored, sheetOf, noHead, endVerdict};
-ghost use Rattle.frame.specs.Steps.{frameOf};
+ghost use Rattle.frame.specs.Steps.{frameOf, frameAt, readingOf};
 
 // Which frames may come: the head, jobs or the end, or none of version 1.
 pub enum Stage {
@@ -24,9 +23,10 @@ pub enum Stage {
     Closed,
 }
 
-// What a frame of version 1 turns out to be.
+// What a frame turns out to be.
 pub enum Frame {
     Faulty(Fault),
+    Foreign,
     Head(Head),
     Job(Job),
     End,
@@ -43,39 +43,37 @@ pub fn read(s: &[u8]) -> Reading
     let mut stage = Stage::Start;
     let mut at = 0;
     while at < s.len() {
-        let left = s.len() - at;
-        let header = FrameHeader::read(&s[at..]);
-        if left < FrameHeader::SIZE {
-            return refusal(Fault::Truncated(at));
-        }
-        let body = at + FrameHeader::SIZE;
-        let next = body + header.length;
-        if s.len() < next {
-            return refusal(Fault::Truncated(at));
-        }
-        if header.version == FrameHeader::VERSION {
-            let n = sheet.count;
-            let benches = sheet.head.benches;
-            match judge(&s[body..next], at, header.kind, stage, benches, n) {
-                Frame::Faulty(f) => {
-                    return refusal(f);
-                }
-                Frame::Head(h) => {
-                    sheet.head = h;
-                    stage = Stage::Open;
-                }
-                Frame::Job(j) => {
-                    sheet.minutes[n] = j.minutes;
-                    sheet.allowed[n] = j.allowed;
-                    sheet.count = n + 1;
-                }
-                Frame::End => {
-                    stage = Stage::Closed;
-                }
+        let n = sheet.count;
+        let benches = sheet.head.benches;
+        let next = at + frame_size(&s[at..]);
+        match frame_at(&s[at..], at, stage, benches, n) {
+            Frame::Faulty(f) => {
+                return refusal(f);
+            }
+            Frame::Foreign => {}
+            Frame::Head(h) => {
+                sheet.head = h;
+                stage = Stage::Open;
+            }
+            Frame::Job(j) => {
+                sheet.minutes[n] = j.minutes;
+                sheet.allowed[n] = j.allowed;
+                sheet.count = n + 1;
+            }
+            Frame::End => {
+                stage = Stage::Closed;
             }
         }
         at = next;
     }
+    ended(stage, at, sheet)
+}
+
+// After the last frame, at byte `at`: the sheet, unless it has fault 2 or 12.
+fn ended(stage: Stage, at: usize, sheet: Sheet) -> Reading
+    requires { ⌜ (sheet .head .p < 128) × (sheet .head .q < 128) × ((n : ℕ) → n < sheet .count → getD (sheet .minutes) n 0 < 2 ^ 20) ⌝ }
+    ensures { λ r. ⌜ r ≡ readingOf (endVerdict stage at (sheet .head) (jobTable (sheet .count) (sheet .minutes) (sheet .allowed))) sheet ⌝ }
+{
     let head = sheet.head;
     let count = sheet.count;
     match finish(stage, at, head, count, &sheet.minutes, &sheet.allowed) {
@@ -85,6 +83,30 @@ pub fn read(s: &[u8]) -> Reading
             sheet,
         },
     }
+}
+
+// The bytes of the frame at the front of `rest`, header and body.
+fn frame_size(rest: &[u8]) -> usize
+    ensures { λ r. ⌜ (r ≡ frameSize (now (rest .entry))) × (r < 65539) ⌝ }
+{
+    let header = FrameHeader::read(rest);
+    FrameHeader::SIZE + header.length
+}
+
+// Faults 2 to 11 of the frame at the front of `rest`, or what it holds. It begins at byte `at` of the sheet.
+fn frame_at(rest: &[u8], at: usize, stage: Stage, benches: u64, n: usize) -> Frame
+    ensures { λ r. ⌜ r ≡ frameAt stage benches n at (now (rest .entry)) ⌝ }
+{
+    let header = FrameHeader::read(rest);
+    let start = FrameHeader::SIZE;
+    let end = start + header.length;
+    if rest.len() < end {
+        return Frame::Faulty(Fault::Truncated(at));
+    }
+    if header.version != FrameHeader::VERSION {
+        return Frame::Foreign;
+    }
+    judge(&rest[start..end], at, header.kind, stage, benches, n)
 }
 
 // A sheet with no jobs and no head.
@@ -134,11 +156,11 @@ fn judge_head(body: &[u8], at: usize, stage: Stage) -> Frame
     if body.len() != FrameHeader::HEAD_LENGTH {
         return Frame::Faulty(Fault::WrongLength(at));
     }
-    if header::head_spare(body) != 0 {
+    if fields::head_spare(body) != 0 {
         return Frame::Faulty(Fault::SpareBit(at));
     }
-    let h = header::read_head(body);
-    match tests::check_head(h, at) {
+    let h = fields::read_head(body);
+    match fields::check_head(h, at) {
         Verdict::Refused(f) => Frame::Faulty(f),
         Verdict::Accepted => Frame::Head(h),
     }
@@ -153,11 +175,11 @@ fn judge_job(body: &[u8], at: usize, stage: Stage, benches: u64, n: usize) -> Fr
     if body.len() != FrameHeader::JOB_LENGTH {
         return Frame::Faulty(Fault::WrongLength(at));
     }
-    if header::job_spare(body) != 0 {
+    if fields::job_spare(body) != 0 {
         return Frame::Faulty(Fault::SpareBit(at));
     }
-    let j = header::read_job(body);
-    match tests::check_job(benches, n, j, at) {
+    let j = fields::read_job(body);
+    match fields::check_job(benches, n, j, at) {
         Verdict::Refused(f) => Frame::Faulty(f),
         Verdict::Accepted => Frame::Job(j),
     }
@@ -188,7 +210,7 @@ fn finish<'a>(
     ensures { λ r. ⌜ r ≡ endVerdict stage at h (jobTable count (now (minutes .entry)) (now (allowed .entry))) ⌝ }
 {
     match stage {
-        Stage::Closed => tests::check_hyper_edges(h, count, minutes, allowed),
+        Stage::Closed => hyper_edges::check_hyper_edges(h, count, minutes, allowed),
         Stage::Start => Verdict::Refused(Fault::Truncated(at)),
         Stage::Open => Verdict::Refused(Fault::Truncated(at)),
     }

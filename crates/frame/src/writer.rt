@@ -1,17 +1,17 @@
 // Writing: the tests 7 to 12, room for the output, then the frames.
-use crate::fault::Fault;
-use crate::fault::Verdict;
-use crate::header::FrameHeader;
-use crate::sheet::Head;
-use crate::sheet::Job;
-use crate::tests;
+use crate::hyper_edges;
+use fields::Fault;
+use fields::FrameHeader;
+use fields::Head;
+use fields::Job;
+use fields::Verdict;
 ghost use mathlib.Core.Path.{_≡_};
 ghost use Prim.Native.Nat.{ℕ, _+_, _*_, _^_, _≤_, _<_, max};
 ghost use mathlib.Core.List.{_++_};
 ghost use lib.ListN.{length, take, drop, getD};
 ghost use Rattle.bits.specs.Bits.{bytesOf};
-ghost use Rattle.frame.specs.Format.{headFrame, jobFrame, jobFrames};
-ghost use Rattle.frame.specs.Tests.{jobTable};
+ghost use Rattle.fields.specs.Format.{headFrame, jobFrame, jobFrames};
+ghost use Rattle.fields.specs.Tests.{jobTable};
 ghost use Rattle.frame.specs.Writing.{jobsOf, jobsVerdict, writerVerdict, writeSheet, output};
 
 // The length of what was written, or why nothing was.
@@ -51,11 +51,11 @@ fn longer(a: usize, b: usize) -> usize
 fn check<'a>(h: Head, n: usize, minutes: &'a [u64], allowed: &'a [u64]) -> Verdict
     ensures { λ r. ⌜ r ≡ writerVerdict h (jobTable n (now (minutes .entry)) (now (allowed .entry))) ⌝ }
 {
-    match tests::check_head(h, 0) {
+    match fields::check_head(h, 0) {
         Verdict::Refused(f) => Verdict::Refused(f),
         Verdict::Accepted => match check_jobs(h.benches, n, minutes, allowed) {
             Verdict::Refused(f) => Verdict::Refused(f),
-            Verdict::Accepted => tests::check_hyper_edges(h, n, minutes, allowed),
+            Verdict::Accepted => hyper_edges::check_hyper_edges(h, n, minutes, allowed),
         },
     }
 }
@@ -67,10 +67,10 @@ fn check_jobs(benches: u64, n: usize, minutes: &[u64], allowed: &[u64]) -> Verdi
     let mut i = 0;
     while i < n {
         let j = Job {
-            minutes: tests::entry(minutes, i),
-            allowed: tests::entry(allowed, i),
+            minutes: hyper_edges::entry(minutes, i),
+            allowed: hyper_edges::entry(allowed, i),
         };
-        match tests::check_job(benches, i, j, i) {
+        match fields::check_job(benches, i, j, i) {
             Verdict::Refused(f) => {
                 return Verdict::Refused(f);
             }
@@ -117,8 +117,8 @@ fn put_jobs(n: usize, minutes: &[u64], allowed: &[u64], out: &mut [u8])
     let mut i = 0;
     while i < n {
         let j = Job {
-            minutes: tests::entry(minutes, i),
-            allowed: tests::entry(allowed, i),
+            minutes: hyper_edges::entry(minutes, i),
+            allowed: hyper_edges::entry(allowed, i),
         };
         put_job(j, out, 10 + 14 * i);
         i += 1;

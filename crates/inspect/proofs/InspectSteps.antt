@@ -21,14 +21,14 @@ use Rattle.sums.specs.Table.{table}
 use Rattle.sums.proofs.TableLaws.{length-table, table-snoc}
 use Rattle.bits.specs.Little.{littleOf, littleAll}
 use Rattle.bits.proofs.LittleLaws.{length-littleAll, littleAll-append, littleAll-one}
-use Rattle.frame.specs.declared.sheet.Head.{Head}
-use Rattle.frame.specs.declared.sheet.Job.{Job}
-use Rattle.frame.specs.declared.sheet.Sheet.{Sheet}
-use Rattle.frame.specs.declared.sheet.Reading.{Reading}
-use Rattle.frame.specs.declared.fault.Fault.{Fault}
-use Rattle.frame.specs.declared.fault.Fault.the-variants.{Table}
-use Rattle.frame.specs.declared.fault.Verdict.the-variants.{Accepted, Refused}
-use Rattle.frame.specs.Tests.{jobTable}
+use Rattle.fields.specs.declared.sheet.Head.{Head}
+use Rattle.fields.specs.declared.sheet.Job.{Job}
+use Rattle.fields.specs.declared.sheet.Sheet.{Sheet}
+use Rattle.fields.specs.declared.sheet.Reading.{Reading}
+use Rattle.fields.specs.declared.fault.Fault.{Fault}
+use Rattle.fields.specs.declared.fault.Fault.the-variants.{Table}
+use Rattle.fields.specs.declared.fault.Verdict.the-variants.{Accepted, Refused}
+use Rattle.fields.specs.Tests.{jobTable}
 use Rattle.frame.specs.Reading.{Read, accepted, refused, readSheet, stored, sheetOf}
 use Rattle.frame.proofs.WriterSteps.{written, written-after}
 use Rattle.frame.proofs.SheetArrays.{length-padded, table-padded}

@@ -7,7 +7,7 @@ ghost use Prim.Native.Nat.{_+_, _*_, _≤_};
 ghost use mathlib.Core.List.{[], _++_};
 ghost use lib.ListN.{length, take, drop};
 ghost use Rattle.bits.specs.Little.{littleAll};
-ghost use Rattle.frame.specs.Tests.{jobTable};
+ghost use Rattle.fields.specs.Tests.{jobTable};
 ghost use Rattle.frame.specs.Reading.{readSheet};
 ghost use Rattle.inspect.specs.Inspect.{inspectWord, inspectTable, jobNumbers, numbersRead};
 

@@ -5,6 +5,7 @@
 --     load-more               a turn of the loop that loads a table stores its next entry
 --     load-all                then all of its entries stand there, or 513
 --     put-byte, put-all       a turn of the loop that puts a number stores the next of its bytes; after eight turns they all stand there
+--     put-none, put-some      a table without room for an entry, and one with room
 use Prim.Native.Nat.{ℕ, _+_, _-_, _*_, _/_, _%_, _^_, _≤_, _<_, min}
 use native.Mathlib.Nat.{min-comm}
 use native.Mathlib.Numerals.{add-one}
@@ -13,12 +14,13 @@ use mathlib.Core.Path.{_≡_, sym, _∙_}
 use mathlib.Core.List.{List, _++_}
 use lib.ListN.{length, getD, take, drop, set, length-drop}
 use lib.Seq.{take-all, take-suc-set, paste, paste-suc}
+use borrow.Author.Tests.{le-leb, lt-leb}
 use Rattle.sums.specs.Table.{table}
 use Rattle.sums.proofs.TableLaws.{table-snoc, take-table-min}
 use Rattle.bits.specs.Little.{little, littleOf}
 use Rattle.bits.proofs.BitsLaws.{pow-256}
 use Rattle.bits.proofs.LittleLaws.{length-littleOf, getD-littleOf, little-over}
-use Rattle.yinqocha.specs.Door.{entriesOf, entryOf, numbersOf}
+use Rattle.yinqocha.specs.Door.{entriesOf, entryOf, numbersOf, putEntry}
 
 -- ── an entry ──
 
@@ -56,3 +58,11 @@ put-byte t at v i l h =
 
 pub put-all : (t : List ℕ) (at v i : ℕ) → i ≡ 8 → paste t at (littleOf 8 v) i ≡ take at t ++ littleOf 8 v ++ drop (at + 8) t
 put-all t at v i e = rw (e, take-all 8 (littleOf 8 v) (omega (arith, length-littleOf 8 v)))
+
+pub put-none : (t : List ℕ) (n v : ℕ) → length t < 8 * n + 8 → t ≡ putEntry t n v
+unfolding putEntry
+put-none t n v l = rw (lt-leb (8 * n + 8) (length t) l)
+
+pub put-some : (t : List ℕ) (n v : ℕ) → 8 * n + 8 ≤ length t → putEntry t n v ≡ take (8 * n) t ++ littleOf 8 v ++ drop (8 * n + 8) t
+unfolding putEntry
+put-some t n v l = rw (le-leb (8 * n + 8) (length t) l)

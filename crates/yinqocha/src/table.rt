@@ -1,10 +1,10 @@
 // Tables at the door: numbers of 8 bytes each, the least significant byte first.
 ghost use mathlib.Core.Path.{_≡_};
-ghost use Prim.Native.Nat.{_+_, _*_, _≤_, _<_, min};
+ghost use Prim.Native.Nat.{_+_, _≤_, _<_};
 ghost use mathlib.Core.List.{_++_};
 ghost use lib.ListN.{length, take, drop};
 ghost use Rattle.bits.specs.Little.{little, littleOf};
-ghost use Rattle.yinqocha.specs.Door.{entriesOf, entryOf, numbersOf};
+ghost use Rattle.yinqocha.specs.Door.{entriesOf, entryOf, putEntry};
 
 // How many entries a table has; a begun entry counts.
 pub fn entries(t: &[u8]) -> usize
@@ -61,27 +61,21 @@ fn part8(s: &[u8]) -> u64
         + frame::byte(s, 0)
 }
 
-// Fills the front of `into` with the entries of a table, as many as there are and fit, and says how many.
-pub fn load(t: &[u8], into: &mut [u64; 513]) -> usize
-    requires { ⌜ length (now into) ≡ 513 ⌝ }
-    ensures { λ r. ⌜ (r ≡ min (entriesOf (now (t .entry))) 513) × (take r (now (into .exit)) ≡ take 513 (numbersOf (now (t .entry)))) ⌝ }
+// Entry n of a table becomes v; a table without room for the entry keeps its contents.
+pub fn put(t: &mut [u8], n: usize, v: u64)
+    ensures { λ _. ⌜ now (t .exit) ≡ putEntry (now (t .entry)) n v ⌝ }
 {
-    let all = entries(t);
-    let n = if all < 513 { all } else { 513 };
-    let mut i = 0;
-    while i < n {
-        into[i] = entry(t, i);
-        i += 1;
+    if t.len() / 8 <= n {
+        return;
     }
-    n
+    put_at(t, 8 * n, v);
 }
 
-// Entry n of a table becomes v.
-pub fn put(t: &mut [u8], n: usize, v: u64)
-    requires { ⌜ 8 * n + 8 ≤ length (now t) ⌝ }
-    ensures { λ _. ⌜ now (t .exit) ≡ take (8 * n) (now (t .entry)) ++ littleOf 8 v ++ drop (8 * n + 8) (now (t .entry)) ⌝ }
+// The eight bytes of v, the lowest first, at byte `at` of a table.
+fn put_at(t: &mut [u8], at: usize, v: u64)
+    requires { ⌜ at + 8 ≤ length (now t) ⌝ }
+    ensures { λ _. ⌜ now (t .exit) ≡ take at (now (t .entry)) ++ littleOf 8 v ++ drop (at + 8) (now (t .entry)) ⌝ }
 {
-    let at = 8 * n;
     let mut i = 0;
     while i < 8 {
         t[at + i] = ((v >> (8 * i)) % 256) as u8;

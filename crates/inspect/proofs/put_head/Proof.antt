@@ -1,6 +1,9 @@
 -- Four numbers put one behind the other are the head's.
 use denote.Ref.{now}
 use borrow.Author.Needs.{needs}
+use native.Mathlib.Omega.{arith}
+use mathlib.Core.Path.{_∙_}
+use Rattle.yinqocha.proofs.TableSteps.{put-some}
 use Rattle.inspect.proofs.InspectSteps.{head-put}
 use Rattle.inspect.proofs.put_head.Statement.{statement}
 use Rattle.inspect.proofs.put_head.Tie as tie
@@ -27,7 +30,11 @@ returns c =
     let two = three .before .before .before .before in
     let one = two .before .before .before .before in
     let a = one .before .before .before .args in
-    head-put (now (a .table)) (a .h) (one .put .ensures) (two .put2 .ensures) (three .put3 .ensures) (four .put4 .ensures)
+    head-put (now (a .table)) (a .h)
+    (one .put .ensures ∙ put-some _ 0 _ (omega arith))
+    (two .put2 .ensures ∙ put-some _ 1 _ (omega arith))
+    (three .put3 .ensures ∙ put-some _ 2 _ (omega arith))
+    (four .put4 .ensures ∙ put-some _ 3 _ (omega arith))
 
 pub put-head-spec : {M : Type 1} → statement M
 put-head-spec =

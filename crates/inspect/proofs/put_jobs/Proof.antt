@@ -4,8 +4,10 @@ use native.Mathlib.Omega.{arith}
 use mathlib.Core.Path.{_≡_, refl, _∙_}
 use lib.ListN.{length}
 use denote.Ref.{now}
+use borrow.Author.Needs.{needs}
+use Rattle.yinqocha.proofs.TableSteps.{put-some}
 use Rattle.bits.specs.Little.{littleAll}
-use Rattle.frame.specs.Tests.{jobTable}
+use Rattle.fields.specs.Tests.{jobTable}
 use Rattle.frame.proofs.WriterSteps.{written}
 use Rattle.inspect.specs.Inspect.{jobNumbers}
 use Rattle.inspect.proofs.InspectSteps.{jobs-none, jobs-more}
@@ -35,7 +37,7 @@ shared-slice-read-put : tie.Need-shared-slice-read-put Inv-loop μ-loop
 shared-slice-read-put c = omega arith
 
 put-requires : tie.Need-put-requires Inv-loop μ-loop
-put-requires c κs = omega arith
+put-requires c κs = search needs
 
 mul-put-3 : tie.Need-mul-put-3 Inv-loop μ-loop
 mul-put-3 c = omega arith
@@ -50,7 +52,7 @@ shared-slice-read-put-2 : tie.Need-shared-slice-read-put-2 Inv-loop μ-loop
 shared-slice-read-put-2 c = omega arith
 
 put-requires-2 : tie.Need-put-requires-2 Inv-loop μ-loop
-put-requires-2 c κs = omega arith
+put-requires-2 c κs = search needs
 
 add-i : tie.Need-add-i Inv-loop μ-loop
 add-i c = omega arith
@@ -65,7 +67,8 @@ loop-again c =
     let l = first .before .before .before .before in
     let a = l .before .before .before .before .args in
     let more = jobs-more (now (a .table)) (now (a .minutes)) (now (a .allowed)) (l .loop .i) (omega arith) (l .loop .inv .2)
-    (first .put .ensures) (second .put2 .ensures) in
+    (first .put .ensures ∙ put-some _ (4 + 2 * l .loop .i) _ (omega arith))
+    (second .put2 .ensures ∙ put-some _ (5 + 2 * l .loop .i) _ (omega arith)) in
     (omega arith, second .put2 .kept .0 ∙ first .put .kept .0 ∙ l .loop .inv .1, more)
 
 same-length : tie.Need-same-length Inv-loop μ-loop

@@ -1,13 +1,13 @@
 -- `judge_job`: at each return the tests that led there decide which of the faults 4 to 6 and 9 to 11 is first.
-use Rattle.frame.specs.declared.fault.Verdict.{Verdict}
+use Rattle.fields.specs.declared.fault.Verdict.{Verdict}
 use Rattle.frame.specs.declared.reader.Frame.the-variants.{Job}
-use Rattle.frame.specs.Tests.{firstFault, jobFaults}
+use Rattle.fields.specs.Tests.{firstFault, jobFaults}
 use borrow.Author.Tests.{eq-eqb, ne-eqb}
 use mathlib.Core.Path.{sym, ap, _∙_}
 use lib.ListN.{length}
 use denote.Ref.{now}
 use Rattle.bits.specs.Layout.{field}
-use Rattle.frame.specs.Format.{jobLayout, jobOf}
+use Rattle.fields.specs.Format.{jobLayout, jobOf}
 use Rattle.frame.specs.Steps.{frameOf, sound}
 use Rattle.frame.specs.Reading.{frameFaults}
 use Rattle.frame.proofs.StageLaws.{misplaced-unless-open}

@@ -1,7 +1,7 @@
 -- The verdict is that of the first test that refuses; a head and jobs that pass have numbers that fit what the last test computes.
 use denote.Ref.{now}
 use borrow.Author.Needs.{needs}
-use Rattle.frame.specs.Tests.{jobTable}
+use Rattle.fields.specs.Tests.{jobTable}
 use Rattle.frame.proofs.WriterSteps.{head-fault, job-fault, all-checked, hyper-edges-ready}
 use Rattle.frame.proofs.writer.check.Statement.{statement}
 use Rattle.frame.proofs.writer.check.Tie as tie

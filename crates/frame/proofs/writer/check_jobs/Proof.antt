@@ -4,7 +4,7 @@ use native.Mathlib.Omega.{arith}
 use mathlib.Core.Path.{_≡_, refl, sym, _∙_}
 use denote.Ref.{now}
 use borrow.Author.Needs.{needs}
-use Rattle.frame.specs.Tests.{jobTable}
+use Rattle.fields.specs.Tests.{jobTable}
 use Rattle.frame.specs.Writing.{jobsVerdict}
 use Rattle.frame.proofs.WriterSteps.{verdictFrom, jobs-sound, jobs-fault, jobs-over}
 use Rattle.frame.proofs.writer.check_jobs.Statement.{statement}

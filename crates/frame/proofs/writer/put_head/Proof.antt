@@ -1,5 +1,4 @@
 -- The header and the fields are put one behind the other; together they are the head's frame.
-use lib.Dec.{lit<}
 use denote.Ref.{now}
 use borrow.Author.Needs.{needs}
 use Rattle.frame.proofs.WriterSteps.{head-put}
@@ -43,7 +42,7 @@ returns : tie.Need-returns
 returns c =
     let first = c .before .before .before .before .before .before in
     let start = first .before .before .before .before .before .before .before .before in
-    head-put (now (start .args .out)) (start .args .h) (start .pre .4) (first .before .packed .ensures (lit< tt) (lit< tt))
+    head-put (now (start .args .out)) (start .args .h) (start .pre .4) (first .before .packed .ensures)
     (first .put .ensures) (c .before .before .put2 .ensures)
 
 pub put-head-spec : {M : Type 1} → statement M

@@ -1,5 +1,4 @@
 -- The header and the two parts of the body are put one behind the other; together they are the job's frame.
-use lib.Dec.{lit<}
 use denote.Ref.{now}
 use borrow.Author.Needs.{needs}
 use Rattle.frame.proofs.WriterSteps.{job-put}
@@ -41,7 +40,7 @@ returns c =
     let second = c .before .before .before .before .before .before .before in
     let first = second .before .before .before .before .before .before in
     let start = first .before .before .before .before in
-    job-put (now (start .args .out)) (start .args .j) (start .args .at) (start .pre .1) (first .before .packed .ensures (lit< tt) (lit< tt))
+    job-put (now (start .args .out)) (start .args .j) (start .args .at) (start .pre .1) (first .before .packed .ensures)
     (first .put .ensures) (second .put2 .ensures) (c .before .before .put3 .ensures)
 
 pub put-job-spec : {M : Type 1} → statement M

@@ -5,8 +5,8 @@ use mathlib.Core.Path.{_≡_, refl, _∙_}
 use lib.ListN.{length}
 use denote.Ref.{now}
 use borrow.Author.Needs.{needs}
-use Rattle.frame.specs.Format.{jobFrames}
-use Rattle.frame.specs.Tests.{jobTable}
+use Rattle.fields.specs.Format.{jobFrames}
+use Rattle.fields.specs.Tests.{jobTable}
 use Rattle.frame.proofs.WriterSteps.{written, jobs-none, jobs-more}
 use Rattle.frame.proofs.writer.put_jobs.Statement.{statement}
 use Rattle.frame.proofs.writer.put_jobs.Tie as tie

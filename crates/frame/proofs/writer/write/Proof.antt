@@ -2,10 +2,9 @@
 use native.Mathlib.Omega.{arith}
 use mathlib.Core.Path.{refl}
 use lib.ListN.{length}
-use lib.Dec.{lit<}
 use denote.Ref.{now}
 use borrow.Author.Needs.{needs}
-use Rattle.frame.specs.Tests.{jobTable}
+use Rattle.fields.specs.Tests.{jobTable}
 use Rattle.frame.specs.Writing.{output}
 use Rattle.frame.proofs.WriterSteps.{refused, no-room, all-written, head-ready, few-jobs, minutes-ready, sheet-put}
 use Rattle.frame.proofs.writer.write.Statement.{statement}
@@ -92,7 +91,7 @@ returns-3 c =
     let returned = all-written (a .h) (n .result) (now (a .minutes)) (now (a .allowed)) (checked .check .ensures) (told .enum-told .given .1)
     (length (now (a .out))) (room .if1 .left) in
     let sheet = sheet-put (now (a .out)) (a .h) (now (a .minutes)) (now (a .allowed)) (n .result) (room .if1 .left)
-    (head .put-head .ensures) (jobs .put-jobs .ensures) (c .before .before .before .packed .ensures (lit< tt) (lit< tt)) (c .before .before .put .ensures) in
+    (head .put-head .ensures) (jobs .put-jobs .ensures) (c .before .before .before .packed .ensures) (c .before .before .put .ensures) in
     (rw (← n .ensures) returned, rw (← n .ensures) sheet)
 
 pub write-spec : {M : Type 1} → statement M

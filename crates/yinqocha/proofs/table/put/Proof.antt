@@ -1,79 +1,30 @@
--- The loop's invariant: the first i of v's eight bytes stand at entry n, and all else is as it was.
-use Prim.Native.Nat.{_-_, _*_, _≤_}
+-- `put`: where the table has room for the entry, its eight bytes are put there.
+use borrow.Author.Needs.{needs}
 use native.Mathlib.Omega.{arith}
-use mathlib.Core.Path.{_≡_, refl, _∙_}
-use lib.ListN.{length, length-set}
-use lib.Seq.{paste, paste-zero}
+use mathlib.Core.Path.{sym, _∙_}
 use denote.Ref.{now}
-use Rattle.bits.specs.Little.{littleOf}
-use Rattle.yinqocha.proofs.TableSteps.{put-byte, put-all}
+use Rattle.yinqocha.proofs.TableSteps.{put-none, put-some}
 use Rattle.yinqocha.proofs.table.put.Statement.{statement}
 use Rattle.yinqocha.proofs.table.put.Tie as tie
 
-abbrev Inv-loop : tie.InvT-loop
-Inv-loop t₀ n v at i₀ t i = (i ≤ 8) × (length t ≡ length t₀) × (t ≡ paste t₀ (8 * n) (littleOf 8 v) i)
-
-abbrev μ-loop : tie.MeasureT-loop
-μ-loop t₀ n v at i₀ t i = 8 - i
-
-mul-at : tie.Need-mul-at Inv-loop μ-loop
-mul-at c = omega arith
-
-loop-holds : tie.Need-loop-holds Inv-loop μ-loop
-loop-holds c = (omega arith, refl, paste-zero (now (c .args .t)) (8 * c .args .n) (littleOf 8 (c .args .v)))
-
-mul-t : tie.Need-mul-t Inv-loop μ-loop
-mul-t c = omega arith
-
-shr-t : tie.Need-shr-t Inv-loop μ-loop
-shr-t c = omega arith
-
-cast-t : tie.Need-cast-t Inv-loop μ-loop
-cast-t c = omega arith
-
-add-t : tie.Need-add-t Inv-loop μ-loop
-add-t c = omega arith
-
-slice-write-t : tie.Need-slice-write-t Inv-loop μ-loop
-slice-write-t c = omega arith
-
-add-i : tie.Need-add-i Inv-loop μ-loop
-add-i c = omega arith
-
-loop-less : tie.Need-loop-less Inv-loop μ-loop
-loop-less c = omega arith
-
-loop-again : tie.Need-loop-again Inv-loop μ-loop
-loop-again c =
-    let a = c .before .before .args in
-    let l = c .before .loop in
-    let step = put-byte (now (a .t)) (8 * a .n) (a .v) (l .i) (c .loop-test .taken) (c .before .before .pre) in
-    (omega arith, simp length-set (l .inv .1), rw (l .inv .2) step)
-
-same-length : tie.Need-same-length Inv-loop μ-loop
-same-length c = c .before .loop .inv .1
-
-returns : tie.Need-returns Inv-loop μ-loop
+returns : tie.Need-returns
 returns c =
     let a = c .before .before .args in
-    let l = c .before .loop in
-    l .inv .2 ∙ put-all (now (a .t)) (8 * a .n) (a .v) (l .i) (omega arith)
+    put-none (now (a .t)) (a .n) (a .v) (omega arith)
+
+mul-put-at : tie.Need-mul-put-at
+mul-put-at c = search needs
+
+put-at-requires : tie.Need-put-at-requires
+put-at-requires c κs = search needs
+
+same-length : tie.Need-same-length
+same-length c = search needs
+
+returns-2 : tie.Need-returns-2
+returns-2 c =
+    let a = c .before .before .before .before .before .before .args in
+    c .before .before .put-at .ensures ∙ sym (put-some (now (a .t)) (a .n) (a .v) (omega arith))
 
 pub put-spec : {M : Type 1} → statement M
-put-spec =
-    tie.close
-    (tie.spec
-    Inv-loop
-    μ-loop
-    mul-at
-    loop-holds
-    mul-t
-    shr-t
-    cast-t
-    add-t
-    slice-write-t
-    add-i
-    loop-less
-    loop-again
-    same-length
-    returns)
+put-spec = tie.close (tie.spec returns mul-put-at put-at-requires same-length returns-2)

@@ -15,26 +15,22 @@ load-requires-2 c κs = search needs
 array-share-prefix-first : tie.Need-array-share-prefix-first
 array-share-prefix-first c =
     let x = c .before .before .load in
-    let a = c .before .before .before .before .before .before .before .args in
-    loaded-fits (now (a .minutes)) (x .last .1 .0) (x .result) (x .ensures .0) (x .ensures .1)
+    loaded-fits _ (x .last .1 .0) (x .result) (x .ensures .0) (x .ensures .1)
 
 slice-aggregate-write : tie.Need-slice-aggregate-write
 slice-aggregate-write c =
     let x = c .before .before .before .load in
-    let a = c .before .before .before .before .before .before .before .before .args in
-    loaded-length (now (a .minutes)) (x .last .1 .0) (x .result) (x .ensures .0) (x .ensures .1)
+    loaded-length _ (x .last .1 .0) (x .result) (x .ensures .0) (x .ensures .1)
 
 array-share-prefix-second : tie.Need-array-share-prefix-second
 array-share-prefix-second c =
     let x = c .before .load2 in
-    let a = c .before .before .before .before .before .before .before .before .args in
-    loaded-fits (now (a .allowed)) (x .last .1 .0) (x .result) (x .ensures .0) (x .ensures .1)
+    loaded-fits _ (x .last .1 .0) (x .result) (x .ensures .0) (x .ensures .1)
 
 slice-aggregate-write-2 : tie.Need-slice-aggregate-write-2
 slice-aggregate-write-2 c =
     let x = c .before .before .load2 in
-    let a = c .before .before .before .before .before .before .before .before .before .args in
-    loaded-length (now (a .allowed)) (x .last .1 .0) (x .result) (x .ensures .0) (x .ensures .1)
+    loaded-length _ (x .last .1 .0) (x .result) (x .ensures .0) (x .ensures .1)
 
 write-requires : tie.Need-write-requires
 write-requires c κs = search needs

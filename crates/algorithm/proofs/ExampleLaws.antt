@@ -1,0 +1,36 @@
+-- The examples hold of the meaning itself.
+--     examples-hold     for every row of the table the answer is the one that document 01 gives
+--     one-move          example 8 reaches a state by a move, so that the theorems about such states are not empty
+--     errors-shut-out   for every row of the second table the answer is not that of a run with the error
+use mathlib.Core.Path.{_≡_, refl}
+use mathlib.Core.List.{[], _∷_, map}
+use Rattle.bits.specs.Bits.{isSet}
+use Rattle.sums.specs.Members.{members}
+use Rattle.closure.specs.Closure.{grow, closure, reach}
+use Rattle.fields.specs.Tests.{hyperEdgeVerdict}
+use Rattle.frame.specs.Writing.{jobsVerdict, writerVerdict}
+use Rattle.algorithm.specs.Day.{Day, dayOf, lowest, highest, longJob}
+use Rattle.algorithm.specs.Board.{rockLoad}
+use Rattle.algorithm.specs.Forced.{inner, outer}
+use Rattle.algorithm.specs.Explore.{conflictSet, construct, activate, openRound, rounds, explore}
+use Rattle.algorithm.specs.Settle.{follow, settleFrom}
+use Rattle.algorithm.specs.Start.{crowdedBench, oneCycle, peel, start}
+use Rattle.algorithm.specs.Run.{ownMinutes, nextState, answerAt, turns, run}
+use Rattle.algorithm.specs.States.{Reached, at-start, by-move}
+use Rattle.algorithm.specs.Answer.{planSheet}
+use Rattle.algorithm.specs.Examples.{bay, both, examples, errorExamples}
+
+pub examples-hold : map (λ e. planSheet (e .head) (e .jobs)) examples ≡ map (λ e. e .answer) examples
+unfolding examples isSet grow closure reach hyperEdgeVerdict jobsVerdict writerVerdict lowest highest longJob rockLoad inner outer conflictSet construct activate openRound rounds explore follow settleFrom crowdedBench oneCycle peel start ownMinutes answerAt turns run members
+examples-hold = refl
+
+abbrev day8 : Day
+day8 = dayOf (bay 2 4 7 4) (both 2 ∷ both 2 ∷ both 2 ∷ both 2 ∷ [])
+
+pub one-move : Reached day8 1 (nextState day8 (start day8))
+unfolding isSet grow closure reach lowest highest longJob rockLoad inner outer conflictSet construct activate openRound rounds explore crowdedBench oneCycle peel start ownMinutes
+one-move = by-move (at-start refl refl) refl
+
+pub errors-shut-out : map (λ e. planSheet (e .head) (e .jobs)) errorExamples ≡ map (λ e. e .answer) errorExamples
+unfolding errorExamples isSet grow closure reach hyperEdgeVerdict jobsVerdict writerVerdict lowest highest longJob rockLoad inner outer conflictSet construct activate openRound rounds explore follow settleFrom crowdedBench oneCycle peel start ownMinutes answerAt turns run members
+errors-shut-out = refl

@@ -1,0 +1,81 @@
+-- The starred bay examples of document 01 as one table: head, jobs, and the answer that the document gives.
+--     Example          one row
+--     examples         the table, in the document's order; 9 and 10 have several rows
+--     errorExamples    sheets on which an error in the run would change the answer
+-- Proved in ExampleLaws.
+use Prim.Native.Nat.{ℕ, _+_, _^_}
+use mathlib.Core.List.{List, [], _∷_}
+use Rattle.fields.specs.declared.sheet.Head.{Head}
+use Rattle.fields.specs.declared.sheet.Job.{Job}
+use Rattle.fields.specs.declared.fault.Fault.the-variants.{Share, HeavyHyperEdge}
+use Rattle.algorithm.specs.Answer.{Answer, plan, tooLong, none, fault}
+
+pub record Example : Type 0 where
+  pub head : Head
+  pub jobs : List Job
+  pub answer : Answer
+
+-- Benches, share and target.
+abbrev pub bay : ℕ → ℕ → ℕ → ℕ → Head
+bay m p q t = record { benches = m; p = p; q = q; target = t }
+
+-- Minutes, on bench 0, on bench 1, on both of these, on benches 0 and 2, and on all three.
+abbrev pub first : ℕ → Job
+first n = record { minutes = n; allowed = 2 ^ 63 }
+
+abbrev pub second : ℕ → Job
+second n = record { minutes = n; allowed = 2 ^ 62 }
+
+abbrev pub both : ℕ → Job
+both n = record { minutes = n; allowed = 2 ^ 63 + 2 ^ 62 }
+
+abbrev pub outside : ℕ → Job
+outside n = record { minutes = n; allowed = 2 ^ 63 + 2 ^ 61 }
+
+abbrev pub three : ℕ → Job
+three n = record { minutes = n; allowed = 2 ^ 63 + 2 ^ 62 + 2 ^ 61 }
+
+abbrev pub row : Head → List Job → Answer → Example
+row h js a = record { head = h; jobs = js; answer = a }
+
+unfoldable pub examples : List Example
+examples =
+    -- 1. One bench, no job, T = 0: plan, largest load 0, 0 moves.
+    row (bay 1 4 7 0) [] (plan 0 0 [] (0 ∷ []))
+    -- 2. One bench, one job of 5 on it, T = 5: plan, 5, 0 moves.
+    ∷ row (bay 1 4 7 5) (first 5 ∷ []) (plan 5 0 (0 ∷ []) (5 ∷ []))
+    -- 3. The same with T = 4: long, job 0.
+    ∷ row (bay 1 4 7 4) (first 5 ∷ []) (tooLong 0)
+    -- 4. Two benches, three jobs of 5 on both, T = 8: none, benches 0 and 1, 0 moves.
+    ∷ row (bay 2 4 7 8) (both 5 ∷ both 5 ∷ both 5 ∷ []) (none (0 ∷ 1 ∷ []) 0)
+    -- 5. The same with T = 9: all on bench 0; plan, 15, 0 moves.
+    ∷ row (bay 2 4 7 9) (both 5 ∷ both 5 ∷ both 5 ∷ []) (plan 15 0 (0 ∷ 0 ∷ 0 ∷ []) (15 ∷ 0 ∷ []))
+    -- 6. Two jobs of 5 on both, T = 5: job 0 on bench 1, job 1 on bench 0.
+    ∷ row (bay 2 4 7 5) (both 5 ∷ both 5 ∷ []) (plan 5 0 (1 ∷ 0 ∷ []) (5 ∷ 5 ∷ []))
+    -- 7. One job of 5 on both of two benches, T = 5: bench 1.
+    ∷ row (bay 2 4 7 5) (both 5 ∷ []) (plan 5 0 (1 ∷ []) (0 ∷ 5 ∷ []))
+    -- 8. Two benches, four jobs of 2 on both, T = 4: job 0 moves to bench 1; plan, 6, 1 move.
+    ∷ row (bay 2 4 7 4) (both 2 ∷ both 2 ∷ both 2 ∷ both 2 ∷ []) (plan 6 1 (1 ∷ 0 ∷ 0 ∷ 0 ∷ []) (6 ∷ 2 ∷ []))
+    -- 9. Share 5/9: fault 8. Share 99/100 is taken, 7/7 is not.
+    ∷ row (bay 1 5 9 5) [] (fault (Share 0))
+    ∷ row (bay 1 99 100 5) [] (plan 0 0 [] (0 ∷ []))
+    ∷ row (bay 1 7 7 5) [] (fault (Share 0))
+    -- 10. Three benches, jobs of 7 on bench 0 and 4 on all: taken. With 5 for 4: fault 12, job 1.
+    ∷ row (bay 3 4 7 7) (first 7 ∷ three 4 ∷ []) (plan 11 0 (0 ∷ 0 ∷ []) (11 ∷ 0 ∷ 0 ∷ []))
+    ∷ row (bay 3 4 7 7) (first 7 ∷ three 5 ∷ []) (fault (HeavyHyperEdge 1))
+    ∷ []
+
+unfoldable pub errorExamples : List Example
+errorExamples =
+    -- "Trusting a forced orientation": at first bench 0 forces job 0 to bench 1 and so overloads it. After job 2 has moved to bench 2, bench 1
+    -- forces job 0 to bench 0. Kept on bench 1 it would end the run with none, bench 1; and yet the rival keeps every bench within 3, with job 0
+    -- on bench 0 and jobs 2 and 3 on bench 2.
+    row (bay 3 2 3 3) (both 3 ∷ second 3 ∷ outside 1 ∷ three 2 ∷ []) (plan 5 1 (0 ∷ 1 ∷ 2 ∷ 0 ∷ []) (5 ∷ 3 ∷ 1 ∷ []))
+    -- "Rounding (2q + p) × T / (3q) down": the jobs of 6 are under the limit of Rule 2 (126 < 144), so bench 1 has level 0 like bench 0, and no
+    -- job can be pushed. With the limit rounded to 6 bench 1 would have level 1, and job 0 be pushed there: plan, 13, 1 move.
+    ∷ row (bay 2 4 7 8) (both 3 ∷ both 6 ∷ both 6 ∷ first 7 ∷ second 3 ∷ []) (none (0 ∷ 1 ∷ []) 0)
+    -- With one loop over all benches in FORCED ORIENTATIONS, bench 1 would be given both rocks in one turn: none, benches 0 and 1, 0 moves.
+    ∷ row (bay 2 4 7 3) (both 3 ∷ both 1 ∷ first 2 ∷ both 3 ∷ []) (plan 5 1 (1 ∷ 1 ∷ 0 ∷ 0 ∷ []) (5 ∷ 4 ∷ []))
+    -- With PUSH up to the bound, job 3 would be pushed to bench 1, whose load is above (5q − 2p) × T (84 > 81): none, bench 0, 1 move.
+    ∷ row (bay 2 4 7 3) (both 2 ∷ first 3 ∷ first 3 ∷ both 1 ∷ both 2 ∷ []) (none (0 ∷ 1 ∷ []) 0)
+    ∷ []

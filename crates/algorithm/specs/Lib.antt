@@ -1,0 +1,13 @@
+pub mod Day
+pub mod Board
+pub mod Forced
+pub mod Explore
+pub mod Push
+pub mod Settle
+pub mod Start
+pub mod Run
+pub mod Properties
+pub mod Answer
+pub mod Examples
+pub mod SoundDay
+pub mod States

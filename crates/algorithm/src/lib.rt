@@ -1,0 +1,1 @@
+// Algorithm 2: definitions and theorems; no code.

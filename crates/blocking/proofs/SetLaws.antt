@@ -1,0 +1,116 @@
+-- A set of benches as a number: the bits of setOf are the benches of its list, if they rise.
+--     Rising bs           each entry of the list is above those before it
+--     setOf-lt            the number of a rising list of benches from c on is below 2 ^ (64 - c)
+--     isSet-setOf         its bits are the benches of the list
+use Prim.Native.Nat.{ℕ, zero, suc, _+_, _-_, _*_, _/_, _%_, _^_, _≤_, _<_}
+use mathlib.Core.Path.{_≡_, refl, sym, ap, subst, _∙_}
+use mathlib.Core.Logic.{inl, inr}
+use mathlib.Core.Bool.{Bool, true, false, _||_}
+use mathlib.Core.List.{List, [], _∷_}
+use native.Mathlib.Nat.{mod-lt}
+use native.Mathlib.Omega.{arith}
+use lib.ListN.{length, getD}
+use lib.Dec.{eqb}
+use lib.Pow.{pow-pos, pow-mono, pow-add, split as pow-split, high}
+use borrow.Author.Tests.{ne-eqb, eq-eqb}
+use Rattle.bools.proofs.OrderLaws.{lt-or-le, eq-or-ne}
+use Rattle.sums.specs.Search.{any}
+use Rattle.bits.specs.Bits.{isSet}
+use Rattle.bits.proofs.SetBits.{isSet-zero}
+use Rattle.planning.specs.Planner.{setOf}
+use Rattle.blocking.specs.Answers.{oneOf}
+
+-- ── one binary digit ──
+
+digit-at : (k r : ℕ) → r < 2 ^ k → (2 ^ k + r) / 2 ^ k % 2 ≡ 1
+digit-at k r l =
+    let e : 2 ^ k + r ≡ 1 * 2 ^ k + r = omega arith in
+    ap (λ (x : ℕ). x / 2 ^ k % 2) e ∙ ap (λ (x : ℕ). x % 2) (high 1 k l)
+
+digit-above : (k x : ℕ) → x < 2 ^ k → x / 2 ^ k % 2 ≡ 0
+digit-above k x l =
+    let e : x ≡ 0 * 2 ^ k + x = omega arith in
+    ap (λ (x : ℕ). x / 2 ^ k % 2) e ∙ ap (λ (x : ℕ). x % 2) (high 0 k l)
+
+even-part : (x y : ℕ) → (2 * x + y) % 2 ≡ y % 2
+even-part x y = omega arith
+
+-- With k = 1 + d + j the number 2 ^ k + r is (2 × 2 ^ d + r / 2 ^ j) × 2 ^ j + r % 2 ^ j.
+digit-below : (d j r : ℕ) → (2 ^ (suc d + j) + r) / 2 ^ j % 2 ≡ r / 2 ^ j % 2
+digit-below d j r =
+    let e : 2 ^ (suc d + j) + r ≡ (2 * 2 ^ d + r / 2 ^ j) * 2 ^ j + r % 2 ^ j = omega (arith, pow-add 2 (suc d) j, ap (λ (x : ℕ). x * 2 ^ j) (pow-two d), pow-split r j) in
+    ap (λ (x : ℕ). x / 2 ^ j % 2) e ∙ ap (λ (x : ℕ). x % 2) (high (2 * 2 ^ d + r / 2 ^ j) j (mod-below r j)) ∙ even-part (2 ^ d) (r / 2 ^ j)
+  where
+    pow-two : (d : ℕ) → 2 ^ suc d ≡ 2 * 2 ^ d
+    pow-two d = omega arith
+
+    mod-below : (r j : ℕ) → r % 2 ^ j < 2 ^ j
+    mod-below r j = mod-lt r (pow-pos j)
+
+-- ── one bench more, below those of the rest ──
+
+isSet-more : (a r v : ℕ) → a < 64 → v < 64 → r < 2 ^ (63 - a) → isSet 64 (2 ^ (63 - a) + r) v ≡ (eqb a v || isSet 64 r v)
+unfolding isSet
+isSet-more a r v la lv lr = elim (lt-or-le a v) [
+  | inl less ↦
+      let d : ℕ = v - suc a in
+      let e : 63 - a ≡ suc d + (63 - v) = omega arith in
+      let other : eqb a v ≡ false = ne-eqb a v (λ same. omega arith) in
+      rw other (ap (λ (k : ℕ). eqb ((2 ^ k + r) / 2 ^ (63 - v) % 2) 1) e ∙ ap (λ (x : ℕ). eqb x 1) (digit-below d (63 - v) r))
+  | inr up ↦ elim (eq-or-ne a v) [
+    | inl same ↦ rw (eq-eqb a v same, ← same) (ap (λ (x : ℕ). eqb x 1) (digit-at (63 - a) r lr))
+    | inr other ↦
+        let more : 2 ^ suc (63 - a) ≤ 2 ^ (63 - v) = pow-mono (omega arith) in
+        rw (ne-eqb a v other)
+        (ap (λ (x : ℕ). eqb x 1) (digit-above (63 - v) (2 ^ (63 - a) + r) (omega (arith, more, lr))
+        ∙ sym (digit-above (63 - v) r (omega (arith, more, lr)))))
+  ]
+]
+
+-- ── rising lists of benches ──
+
+abbrev pub Rising : List ℕ → Type 0
+Rising bs = (i k : ℕ) → i < k → k < length bs → getD bs i 0 < getD bs k 0
+
+rising-rest : (a : ℕ) (bs : List ℕ) → Rising (a ∷ bs) → Rising bs
+rising-rest a bs rise i k l lk = rise (suc i) (suc k) (omega arith) (omega arith)
+
+rising-above : (a : ℕ) (bs : List ℕ) → Rising (a ∷ bs) → (i : ℕ) → i < length bs → suc a ≤ getD bs i 0
+rising-above a bs rise i l = rise 0 (suc i) (omega arith) (omega arith)
+
+one-less : (a x : ℕ) → x < 2 ^ (64 - suc a) → x < 2 ^ (63 - a)
+one-less a x l = let e : 64 - suc a ≡ 63 - a = omega arith in subst (λ (k : ℕ). x < 2 ^ k) e l
+
+pub setOf-lt : (c : ℕ) (bs : List ℕ) → Rising bs → ((i : ℕ) → i < length bs → c ≤ getD bs i 0) → ((i : ℕ) → i < length bs → getD bs i 0 < 64)
+    → setOf bs < 2 ^ (64 - c)
+unfolding setOf
+setOf-lt c [] rise from below = pow-pos (64 - c)
+setOf-lt c (a ∷ bs) rise from below =
+    let rest : setOf bs < 2 ^ (63 - a) =
+    one-less a (setOf bs) (setOf-lt (suc a) bs (rising-rest a bs rise) (rising-above a bs rise) (λ i l. below (suc i) (omega arith))) in
+    let first : c ≤ a = from 0 (omega arith) in
+    let last : a < 64 = below 0 (omega arith) in
+    let more : 2 ^ suc (63 - a) ≤ 2 ^ (64 - c) = pow-mono (omega arith) in
+    omega (arith, more, rest)
+
+any-front : (n : ℕ) (f : ℕ → Bool) → any (suc n) f ≡ (f 0 || any n (λ i. f (suc i)))
+any-front zero f = or-comm (f 0)
+  where
+    or-comm : (b : Bool) → (false || b) ≡ (b || false)
+    or-comm true = refl
+    or-comm false = refl
+any-front (suc n) f = ap (λ (b : Bool). b || f (suc n)) (any-front n f) ∙ or-assoc (f 0) (any n (λ i. f (suc i))) (f (suc n))
+  where
+    or-assoc : (a b c : Bool) → ((a || b) || c) ≡ (a || (b || c))
+    or-assoc true b c = refl
+    or-assoc false b c = refl
+
+pub isSet-setOf : (bs : List ℕ) → Rising bs → ((i : ℕ) → i < length bs → getD bs i 0 < 64) → (v : ℕ) → v < 64 → isSet 64 (setOf bs) v ≡ oneOf bs v
+unfolding setOf
+isSet-setOf [] rise below v lv = isSet-zero 64 v
+isSet-setOf (a ∷ bs) rise below v lv =
+    let rest : (i : ℕ) → i < length bs → getD bs i 0 < 64 = λ i l. below (suc i) (omega arith) in
+    isSet-more a (setOf bs) v (below 0 (omega arith)) lv
+    (one-less a (setOf bs) (setOf-lt (suc a) bs (rising-rest a bs rise) (rising-above a bs rise) rest))
+    ∙ ap (λ (b : Bool). eqb a v || b) (isSet-setOf bs (rising-rest a bs rise) rest v lv)
+    ∙ sym (any-front (length bs) (λ i. eqb (getD (a ∷ bs) i 0) v))

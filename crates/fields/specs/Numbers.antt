@@ -1,0 +1,50 @@
+-- The number and the place of each fault (document 01, "Faults, in checking order"): one definition for every case of the program's
+-- enum, used by all contracts. A number that is added later is a new case.
+--     numberOf f     the number that users see
+--     placeOf f      the place that users see: the frame's first byte, the sheet's length, a job's number, or 0
+use Prim.Native.Nat.{ℕ}
+use Rattle.fields.specs.declared.fault.Fault.{Fault}
+use Rattle.fields.specs.declared.fault.Fault.the-variants.{TooLong, Truncated, UnknownKind, Misplaced, WrongLength, SpareBit, BenchCount, Share, JobCount, Minutes, Allowed, HeavyHyperEdge, Table}
+
+abbrev pub numberOf : Fault → ℕ
+-- "The sheet is longer than 65,536 bytes (place 0)."
+numberOf TooLong = 1
+-- "The sheet ends inside a frame of any version (place: that frame), or its frames are over and none was an end frame."
+numberOf (Truncated at) = 2
+-- "A version 1 frame has a kind other than 1, 2, 3."
+numberOf (UnknownKind at) = 3
+-- "A version 1 frame is out of its place: a job or end before the head, a second head, or any after the end."
+numberOf (Misplaced at) = 4
+-- "The body length is not that of its kind."
+numberOf (WrongLength at) = 5
+-- "A spare bit is 1."
+numberOf (SpareBit at) = 6
+-- "The head has 0 benches or more than 64."
+numberOf (BenchCount at) = 7
+-- "The share is bad: q is 0, or 7p < 4q, or p ≥ q."
+numberOf (Share at) = 8
+-- "It is the 513th job."
+numberOf (JobCount at) = 9
+-- "A job has 0 minutes."
+numberOf (Minutes at) = 10
+-- "A job allows no bench, or a bench the head lacks."
+numberOf (Allowed at) = 11
+-- "a job allows three or more benches and q × minutes > p × W (place: the lowest such job number)"
+numberOf (HeavyHyperEdge job) = 12
+-- "The table of places is shorter than the jobs, or the table of loads shorter than the benches (place 0)"; the output does not fit.
+numberOf (Table at) = 13
+
+abbrev pub placeOf : Fault → ℕ
+placeOf TooLong = 0
+placeOf (Truncated at) = at
+placeOf (UnknownKind at) = at
+placeOf (Misplaced at) = at
+placeOf (WrongLength at) = at
+placeOf (SpareBit at) = at
+placeOf (BenchCount at) = at
+placeOf (Share at) = at
+placeOf (JobCount at) = at
+placeOf (Minutes at) = at
+placeOf (Allowed at) = at
+placeOf (HeavyHyperEdge job) = job
+placeOf (Table at) = at

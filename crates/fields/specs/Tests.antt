@@ -1,0 +1,94 @@
+-- The tests of faults 7 to 12, the same for the reader and the writer (document 01, "Faults, in checking order").
+--     firstFault tests        the fault of the first test that holds
+--     benchCountFault h       7        shareFault h    8
+--     jobCountFault n         9        minutesFault j  10      allowedFault m j   11
+--     headFaults h at         7 and 8, in this order, with their place
+--     jobFaults m n j at      9 to 11 for job n, in this order, with their place
+--     jobAt js n, jobTable n ms bs    job n of a list; jobs given by two tables
+--     longest js              W, the longest job's minutes
+--     heavyHyperEdge h w j    what 12 says of a job
+--     hyperEdgeVerdict h js   12: the lowest such job
+-- Tests of a width can hold for numbers handed to the writer only: a field that was read fits its width.
+use Prim.Native.Nat.{ℕ, _*_, _^_}
+use mathlib.Core.Bool.{Bool, cond, not, _&&_, _||_}
+use mathlib.Core.List.{List, [], _∷_}
+use lib.ListN.{length, getD}
+use lib.Dec.{eqb, leb, ltb}
+use Rattle.sums.specs.Sum.{count, largest}
+use Rattle.sums.specs.Search.{any, least}
+use Rattle.sums.specs.Table.{table}
+use Rattle.fields.specs.declared.sheet.Head.{Head}
+use Rattle.fields.specs.declared.sheet.Job.{Job}
+use Rattle.fields.specs.declared.fault.Fault.{Fault}
+use Rattle.fields.specs.declared.fault.Fault.the-variants.{BenchCount, Share, JobCount, Minutes, Allowed, HeavyHyperEdge}
+use Rattle.fields.specs.declared.fault.Verdict.{Verdict}
+use Rattle.fields.specs.declared.fault.Verdict.the-variants.{Accepted, Refused}
+use Rattle.fields.specs.Format.{allows}
+
+-- A test and the fault that it stands for.
+pub record Test : Type 0 where
+  pub holds : Bool
+  pub fault : Fault
+
+abbrev pub firstFault : List Test → Verdict
+firstFault [] = Accepted
+firstFault (t ∷ ts) = cond (t .holds) (Refused (t .fault)) (firstFault ts)
+
+-- "7. The head has 0 benches or more than 64." Target too wide for its field: 7 too.
+abbrev pub benchCountFault : Head → Bool
+benchCountFault h = eqb (h .benches) 0 || ltb 64 (h .benches) || leb (2 ^ 30) (h .target)
+
+-- "8. The share is bad: q is 0, or 7p < 4q, or p ≥ q." p or q too wide for its field: 8 too.
+abbrev pub shareFault : Head → Bool
+shareFault h =
+    eqb (h .q) 0 || ltb (7 * h .p) (4 * h .q) || leb (h .q) (h .p) || leb (2 ^ 7) (h .p) || leb (2 ^ 7) (h .q)
+
+-- "9. It is the 513th job." n is the job's number, from 0.
+abbrev pub jobCountFault : ℕ → Bool
+jobCountFault n = leb 512 n
+
+-- "10. A job has 0 minutes." Minutes too wide for their field: 10 too.
+abbrev pub minutesFault : Job → Bool
+minutesFault j = eqb (j .minutes) 0 || leb (2 ^ 20) (j .minutes)
+
+-- "11. A job allows no bench, or a bench the head lacks." m is the head's number of benches.
+abbrev pub allowedFault : ℕ → Job → Bool
+allowedFault m j = not (any 64 (allows j)) || any 64 (λ b. leb m b && allows j b)
+
+abbrev pub headFaults : Head → ℕ → List Test
+headFaults h at =
+    record { holds = benchCountFault h; fault = BenchCount at }
+    ∷ record { holds = shareFault h; fault = Share at }
+    ∷ []
+
+abbrev pub jobFaults : ℕ → ℕ → Job → ℕ → List Test
+jobFaults m n j at =
+    record { holds = jobCountFault n; fault = JobCount at }
+    ∷ record { holds = minutesFault j; fault = Minutes at }
+    ∷ record { holds = allowedFault m j; fault = Allowed at }
+    ∷ []
+
+-- Stands past the end of a list of jobs.
+abbrev pub noJob : Job
+noJob = record { minutes = 0; allowed = 0 }
+
+abbrev pub jobAt : List Job → ℕ → Job
+jobAt js n = getD js n noJob
+
+-- The first n jobs of two tables: minutes, and benches allowed. What a table lacks is 0.
+abbrev pub jobTable : ℕ → List ℕ → List ℕ → List Job
+jobTable n ms bs = table n (λ i. record { minutes = getD ms i 0; allowed = getD bs i 0 })
+
+-- "W the longest job's minutes"
+abbrev pub longest : List Job → ℕ
+longest js = largest (length js) (λ n. jobAt js n .minutes)
+
+-- "a job allows three or more benches and q × minutes > p × W"
+abbrev pub heavyHyperEdge : Head → ℕ → Job → Bool
+heavyHyperEdge h w j = leb 3 (count 64 (allows j)) && ltb (h .p * w) (h .q * j .minutes)
+
+-- "12. After the whole sheet: … (place: the lowest such job number)"
+unfoldable pub hyperEdgeVerdict : Head → List Job → Verdict
+hyperEdgeVerdict h js =
+    let n = least (length js) (λ n. heavyHyperEdge h (longest js) (jobAt js n)) in
+    cond (ltb n (length js)) (Refused (HeavyHyperEdge n)) Accepted

@@ -1,0 +1,130 @@
+-- The frame at the front of the bytes that are left, as the program finds it (`frameAt`).
+-- From the program's tests to its answer:
+--     Header                              the header that was read is that of the frame
+--     at-short                            the bytes end inside the frame
+--     at-foreign, at-ours                 a whole frame of another version; one of version 1, judged by its kind
+-- From the answer to how reading goes on:
+--     found                               the answer, for the progress so far
+--     found-fault                         the sheet is refused
+--     found-foreign, found-ours           the frame is whole, and of another version; of version 1
+use Prim.Native.Nat.{ℕ, _+_, _-_, _≤_, _<_}
+use mathlib.Core.Path.{_≡_, refl, sym, ap, ap₂, _∙_}
+use mathlib.Core.Logic.{_⊎_, inl, inr, ⊎-elim}
+use mathlib.Core.Bool.{Bool, true, false, cond}
+use mathlib.Core.List.{List}
+use native.Mathlib.Omega.{arith}
+use lib.ListN.{length, take, drop}
+use lib.Dec.{eqb, ltb}
+use borrow.Author.Tests.{lt-ltb, le-ltb, eq-eqb, ne-eqb}
+use Rattle.bools.proofs.BoolLaws.{clash, or-right, or-false}
+use Rattle.fields.specs.declared.sheet.Head.{Head}
+use Rattle.fields.specs.declared.sheet.Job.{Job}
+use Rattle.fields.specs.declared.fault.Fault.{Fault}
+use Rattle.fields.specs.declared.fault.Fault.the-variants.{Truncated}
+use Rattle.fields.specs.declared.fault.Verdict.{Verdict}
+use Rattle.fields.specs.declared.fault.Verdict.the-variants.{Accepted, Refused}
+use Rattle.frame.specs.declared.reader.Stage.{Stage}
+use Rattle.frame.specs.declared.reader.Frame.{Frame}
+use Rattle.frame.specs.declared.reader.Frame.the-variants as frame
+use Rattle.fields.specs.Format.{ours, headKind, jobKind, versionOf, kindOf, lengthOf, frameSize, bodyOf, headOf, jobOf}
+use Rattle.fields.specs.Tests.{firstFault}
+use Rattle.frame.specs.Reading.{Progress, refused, faultsAt, cut}
+use Rattle.frame.specs.Frames.{readOn}
+use Rattle.frame.specs.Steps.{frameOf, frameAt, contentOf, sound}
+use Rattle.frame.proofs.WholeFrames.{readOn-cut}
+use Rattle.frame.proofs.JudgeLaws.{readOn-fault, judgement, frameOf-fault}
+
+-- ── from the tests to the answer ──
+
+pub record Header (rest : List ℕ) (version kind size : ℕ) : Type 0 where
+  pub version-is : version ≡ versionOf rest
+  pub kind-is : kind ≡ kindOf rest
+  pub size-is : size ≡ lengthOf rest
+
+module _ (stage : Stage) (m n at : ℕ) (rest : List ℕ) where
+  at-cut : cut rest ≡ true → frame.Faulty (Truncated at) ≡ frameAt stage m n at rest
+  unfolding frameAt
+  at-cut c = rw c
+
+  module _ (version kind size : ℕ) (h : Header rest version kind size) where
+    pub at-short : length rest < 3 + size → frame.Faulty (Truncated at) ≡ frameAt stage m n at rest
+    at-short l =
+        at-cut (or-right (ltb (length rest) 3) (lt-ltb (length rest) (frameSize rest) (omega (arith, h .size-is))))
+
+    module _ (fits : 3 + size ≤ length rest) where
+      at-whole : cut rest ≡ false
+      at-whole =
+          or-false (le-ltb (length rest) 3 (omega arith)) (le-ltb (length rest) (frameSize rest) (omega (arith, h .size-is)))
+
+      pub at-foreign : (version ≡ 1 → ⊥) → frame.Foreign ≡ frameAt stage m n at rest
+      unfolding frameAt
+      at-foreign v = rw (at-whole, ne-eqb (versionOf rest) ours (λ e. v (h .version-is ∙ e)))
+
+      pub at-ours : version ≡ 1 → (x : Frame) → x ≡ frameOf stage m n at kind (take (3 + size - 3) (drop 3 rest))
+          → x ≡ frameAt stage m n at rest
+      unfolding frameAt
+      at-ours v x e =
+          let whole-size : 3 + size - 3 ≡ lengthOf rest = omega (arith, h .size-is) in
+          rw (at-whole, eq-eqb (versionOf rest) ours (sym (h .version-is) ∙ v))
+          (e ∙ ap₂ (λ (k z : ℕ). frameOf stage m n at k (take z (drop 3 rest))) (h .kind-is) whole-size)
+
+-- ── from the answer to how reading goes on ──
+
+-- A frame of version 1 without a fault.
+abbrev pub holdsSomething : Frame → Bool
+holdsSomething (frame.Faulty f) = false
+holdsSomething frame.Foreign = false
+holdsSomething (frame.Head h) = true
+holdsSomething (frame.Job j) = true
+holdsSomething frame.End = true
+
+picked : (b c : Bool) (f : Fault) (v x : Frame) → cond b (frame.Faulty f) (cond c v frame.Foreign) ≡ x → holdsSomething x ≡ true
+    → (b ≡ false) × (c ≡ true) × (v ≡ x)
+picked true c f v x e h = clash h (sym (ap holdsSomething e))
+picked false true f v x e h = (refl, refl, e)
+picked false false f v x e h = clash h (sym (ap holdsSomething e))
+
+picked-fault : (b c : Bool) (f : Fault) (v : Frame) (f′ : Fault) → cond b (frame.Faulty f) (cond c v frame.Foreign) ≡ frame.Faulty f′
+    → ((b ≡ true) × (f ≡ f′)) ⊎ ((b ≡ false) × (c ≡ true) × (v ≡ frame.Faulty f′))
+picked-fault true c f v f′ e = inl (refl, cc)
+picked-fault false true f v f′ e = inr (refl, refl, e)
+picked-fault false false f v f′ e = let z : _≡_ {A = ℕ} 0 1 = cc in absurd (omega arith)
+
+picked-foreign : (b c : Bool) (f : Fault) (v : Frame) → (v ≡ frame.Foreign → ⊥) → cond b (frame.Faulty f) (cond c v frame.Foreign) ≡ frame.Foreign
+    → (b ≡ false) × (c ≡ false)
+picked-foreign true c f v k e = let z : _≡_ {A = ℕ} 0 1 = cc in absurd (omega arith)
+picked-foreign false true f v k e = absurd (k e)
+picked-foreign false false f v k e = (refl, refl)
+
+content-not-foreign : (b c : Bool) (h : Head) (j : Job) → cond b (frame.Head h) (cond c (frame.Job j) frame.End) ≡ frame.Foreign → ⊥
+content-not-foreign true c h j e = let z : _≡_ {A = ℕ} 0 1 = cc in omega arith
+content-not-foreign false true h j e = let z : _≡_ {A = ℕ} 0 1 = cc in omega arith
+content-not-foreign false false h j e = let z : _≡_ {A = ℕ} 0 1 = cc in omega arith
+
+sound-not-foreign : (v : Verdict) (x : Frame) → (x ≡ frame.Foreign → ⊥) → sound v x ≡ frame.Foreign → ⊥
+sound-not-foreign Accepted x k e = k e
+sound-not-foreign (Refused f) x k e = let z : _≡_ {A = ℕ} 0 1 = cc in omega arith
+
+module _ (g : Progress) (at : ℕ) (rest : List ℕ) where
+  abbrev pub found : Frame
+  found = frameAt (g .stage) (g .head .benches) (length (g .jobs)) at rest
+
+  pub found-fault : 0 < length rest → (f : Fault) → found ≡ frame.Faulty f → readOn rest at g ≡ refused f
+  unfolding frameAt
+  found-fault some f e =
+      ⊎-elim
+      (λ w. readOn-cut rest at g some (w .0) ∙ ap (λ (x : Fault). refused x) (w .1))
+      (λ w. readOn-fault rest at g some (w .0) f (w .1) (frameOf-fault g at rest f (w .2)))
+      (picked-fault (cut rest) (eqb (versionOf rest) ours) (Truncated at) (judgement g at rest) f e)
+
+  pub found-foreign : found ≡ frame.Foreign → (cut rest ≡ false) × (eqb (versionOf rest) ours ≡ false)
+  unfolding frameAt frameOf
+  found-foreign e =
+      picked-foreign (cut rest) (eqb (versionOf rest) ours) (Truncated at) (judgement g at rest)
+      (sound-not-foreign (firstFault (faultsAt g at rest)) (contentOf (kindOf rest) (bodyOf rest))
+      (content-not-foreign (eqb (kindOf rest) headKind) (eqb (kindOf rest) jobKind) (headOf (bodyOf rest)) (jobOf (bodyOf rest)))) e
+
+  pub found-ours : (x : Frame) → holdsSomething x ≡ true → found ≡ x
+      → (cut rest ≡ false) × (eqb (versionOf rest) ours ≡ true) × (judgement g at rest ≡ x)
+  unfolding frameAt
+  found-ours x h e = picked (cut rest) (eqb (versionOf rest) ours) (Truncated at) (judgement g at rest) x e h

@@ -1,0 +1,5 @@
+pub mod BufferLaws
+pub mod DigitLaws
+pub mod LineExamples
+pub mod LineSteps
+pub mod TextSize

@@ -1,0 +1,91 @@
+// The lines of an answer.
+use crate::buffer;
+use crate::decimal;
+use planning::Answer;
+ghost use mathlib.Core.List.{[], _∷_, map};
+ghost use lib.ListN.{length};
+ghost use Rattle.sums.specs.Members.{members};
+ghost use Rattle.bits.specs.Bits.{isSet};
+ghost use Rattle.lines.specs.Buffer.{Front, Puts};
+ghost use Rattle.lines.specs.Lines.{digits, space, newline, line, spaced, jobLines, linesOf};
+
+// Writes the text of an answer to the front of `out`, and returns its length; `places` has the bench of each job.
+// A text that does not fit is cut off, and the length returned is that of `out`.
+pub fn text(answer: Answer, places: &[u64], out: &mut [u8]) -> usize
+    ensures { λ r. ⌜ Front (now (out .entry)) (linesOf answer (now (places .entry))) (now (out .exit)) r ⌝ }
+{
+    match answer {
+        Answer::Plan(largest, moves) => {
+            let mut end = buffer::bytes(out, 0, b"plan ");
+            end = pair(out, end, largest, moves);
+            jobs(out, end, places)
+        }
+        Answer::Long(job) => {
+            let mut end = buffer::bytes(out, 0, b"long");
+            end = word(out, end, job as u64);
+            end_line(out, end)
+        }
+        Answer::None(set, moves) => {
+            let mut end = buffer::bytes(out, 0, b"none");
+            end = word(out, end, moves);
+            end = benches(out, end, set);
+            end_line(out, end)
+        }
+        Answer::Fault(f) => {
+            let end = buffer::bytes(out, 0, b"fault ");
+            pair(out, end, f.number(), f.place() as u64)
+        }
+    }
+}
+
+// Puts a line of two numbers.
+fn pair(out: &mut [u8], at: usize, x: u64, y: u64) -> usize
+    ensures { λ r. ⌜ Puts (now (out .entry)) at (line (digits x ∷ digits y ∷ [])) (now (out .exit)) r ⌝ }
+{
+    let mut end = decimal::number(out, at, x);
+    end = word(out, end, y);
+    end_line(out, end)
+}
+
+// Puts a space and a number.
+fn word(out: &mut [u8], at: usize, x: u64) -> usize
+    ensures { λ r. ⌜ Puts (now (out .entry)) at (space ∷ digits x) (now (out .exit)) r ⌝ }
+{
+    let end = buffer::byte(out, at, b' ');
+    decimal::number(out, end, x)
+}
+
+// Puts a newline.
+fn end_line(out: &mut [u8], at: usize) -> usize
+    ensures { λ r. ⌜ Puts (now (out .entry)) at (newline ∷ []) (now (out .exit)) r ⌝ }
+{
+    buffer::byte(out, at, b'\n')
+}
+
+// Puts the line of each job.
+fn jobs(out: &mut [u8], at: usize, places: &[u64]) -> usize
+    ensures { λ r. ⌜ Puts (now (out .entry)) at (jobLines (length (now (places .entry))) (now (places .entry))) (now (out .exit)) r ⌝ }
+{
+    let mut end = buffer::within(at, out.len());
+    let mut j = 0;
+    while j < places.len() {
+        end = pair(out, end, j as u64, places[j]);
+        j += 1;
+    }
+    end
+}
+
+// Puts the benches of a set, rising, each behind a space.
+fn benches(out: &mut [u8], at: usize, set: u64) -> usize
+    ensures { λ r. ⌜ Puts (now (out .entry)) at (spaced (map digits (members 64 (isSet 64 set)))) (now (out .exit)) r ⌝ }
+{
+    let mut end = buffer::within(at, out.len());
+    let mut b: u64 = 0;
+    while b < 64 {
+        if (set >> (63 - b)) % 2 == 1 {
+            end = word(out, end, b);
+        }
+        b += 1;
+    }
+    end
+}

@@ -1,0 +1,250 @@
+-- The comparison of plans follows its definition.
+--     all-fails-here, all-more, all-holds     a search for an index that fails: found, not yet, not at all
+--     other-length, right-length     a list of another length than the jobs, and of theirs
+--     listed-loads              the loads of a list, from the tables filled with it
+--     same-sums                 where entries are sums, the same entries are the same sums
+--     gives-is, sums-fit, same-is     of the tables and of the day: a bench of each set, small sums, the same loads
+--     first-faulty, second-faulty, found-same, found-different     the four answers for a sound sheet
+--     refused-is, accepted-is   the answer for the bytes
+use Prim.Native.Nat.{ℕ, _+_, _*_, _≤_, _<_, _^_}
+use mathlib.Core.Path.{_≡_, refl, sym, ap, ap₂, _∙_}
+use mathlib.Core.Bool.{Bool, true, false, cond, not, _&&_}
+use mathlib.Core.Logic.{inl, inr}
+use mathlib.Core.List.{List}
+use native.Mathlib.Omega.{arith}
+use lib.ListN.{length, getD, replicate, length-replicate, getD-replicate}
+use lib.Dec.{eqb}
+use borrow.Author.Tests.{eq-eqb, ne-eqb, lt-ltb, le-ltb, le-leb, lt-leb}
+use Rattle.bools.proofs.BoolLaws.{split, not-true, not-false}
+use Rattle.bools.proofs.OrderLaws.{lt-or-le, last-or-below}
+use Rattle.sums.specs.Sum.{on, sum}
+use Rattle.sums.specs.Search.{all}
+use Rattle.sums.proofs.SearchLaws.{all-intro, all-fails, all-cong}
+use Rattle.sums.proofs.SumLaws.{on-le, sum-cong, sum-bound}
+use Rattle.bits.specs.Bits.{isSet}
+use Rattle.fields.specs.declared.sheet.Head.{Head}
+use Rattle.fields.specs.declared.sheet.Job.{Job}
+use Rattle.fields.specs.declared.sheet.Sheet.{Sheet}
+use Rattle.fields.specs.declared.sheet.Reading.{Reading}
+use Rattle.fields.specs.declared.fault.Fault.{Fault}
+use Rattle.fields.specs.declared.fault.Fault.the-variants.{Table}
+use Rattle.fields.specs.declared.fault.Verdict.the-variants.{Accepted, Refused}
+use Rattle.fields.specs.Tests.{jobAt}
+use Rattle.frame.specs.Reading.{Read, accepted, refused, readSheet, stored, sheetOf}
+use Rattle.frame.proofs.AcceptedLaws.{accepted-sound}
+use Rattle.frame.proofs.SheetArrays.{getD-padded}
+use Rattle.algorithm.specs.Day.{dayOf}
+use Rattle.algorithm.specs.Answer.{loadOf}
+use Rattle.planning.specs.declared.answer.Compared.{Compared}
+use Rattle.planning.specs.declared.answer.Compared.the-variants.{Same, Different, Fault as ComparedFault}
+use Rattle.planning.specs.Planner.{givesEach, sameLoads, comparePlans}
+use Rattle.planning.specs.PushArrays.{hasAt}
+use Rattle.planning.specs.Held.{amountOn}
+use Rattle.planning.specs.StartArrays.{filled}
+use Rattle.planning.specs.CompareArrays.{minutesOn, comparedOf, Tables}
+use Rattle.planning.proofs.StartLaws.{getD-filled}
+
+-- ── a search for an index that fails ──
+
+pub all-more : (f : ℕ → Bool) (r : ℕ) {t : Bool} → ((i : ℕ) → i < r → f i ≡ true) → t ≡ f r → t ≡ true → (i : ℕ) → i < r + 1 → f i ≡ true
+all-more f r before e p i l = elim (last-or-below {i = i} {n = r} (omega arith)) [
+  | inl same ↦ rw same (sym e ∙ p)
+  | inr below ↦ before i below
+]
+
+module _ (n : ℕ) (f : ℕ → Bool) (r : ℕ) where
+  pub all-fails-here : {t : Bool} → r < n → t ≡ f r → t ≡ false → false ≡ all n f
+  all-fails-here h e p = sym (all-fails n f r h (sym e ∙ p))
+
+  pub all-holds : n ≤ r → ((i : ℕ) → i < r → f i ≡ true) → true ≡ all n f
+  all-holds h before = sym (all-intro n f (λ i l. before i (omega arith)))
+
+-- ── lists ──
+
+pub other-length : (n jobs : ℕ) (b : Bool) → (n ≡ jobs → ⊥) → false ≡ (eqb n jobs && b)
+other-length n jobs b ne = rw (ne-eqb n jobs ne)
+
+pub right-length : (n jobs : ℕ) {b t : Bool} → n ≡ jobs → t ≡ b → t ≡ (eqb n jobs && b)
+right-length n jobs e q = rw (eq-eqb n jobs e) q
+
+-- ── loads ──
+
+-- Tables of k entries, filled with the minutes and with the list.
+module _ (k jobs : ℕ) (minutes list : List ℕ) (room : jobs ≤ k) {amount place : List ℕ}
+    (ea : amount ≡ filled jobs (λ i. getD minutes i 0) (replicate {A = ℕ} k 0)) (ep : place ≡ filled jobs (λ i. getD list i 0) (replicate {A = ℕ} k 0)) where
+  amounts-are : (v : ℕ) → sum jobs (amountOn amount (replicate k false) place v) ≡ sum jobs (minutesOn minutes list v)
+  amounts-are v =
+      sum-cong jobs (amountOn amount (replicate k false) place v) (minutesOn minutes list v)
+      (λ j h.
+      let wide : j < length (replicate {A = ℕ} k 0) = omega (arith, length-replicate {A = ℕ} k 0) in
+      let a : getD amount j 0 ≡ getD minutes j 0 =
+      ap (λ (x : List ℕ). getD x j 0) ea ∙ getD-filled (λ i. getD minutes i 0) jobs (replicate {A = ℕ} k 0) j 0 h wide in
+      let p : getD place j 0 ≡ getD list j 0 =
+      ap (λ (x : List ℕ). getD x j 0) ep ∙ getD-filled (λ i. getD list i 0) jobs (replicate {A = ℕ} k 0) j 0 h wide in
+      rw (getD-replicate k j false false (omega arith), a, p))
+
+  pub listed-loads : (m : ℕ) (load : List ℕ)
+      → ((u : ℕ) → u < length (replicate {A = ℕ} m 0) → getD {A = ℕ} (replicate {A = ℕ} m 0) u 0 + sum jobs (amountOn amount (replicate k false) place u) < 2 ^ 63
+      → getD load u 0 ≡ getD {A = ℕ} (replicate {A = ℕ} m 0) u 0 + sum jobs (amountOn amount (replicate k false) place u))
+      → (v : ℕ) → v < m → sum jobs (minutesOn minutes list v) < 2 ^ 63 → getD load v 0 ≡ sum jobs (minutesOn minutes list v)
+  listed-loads m load own v h fits =
+      let same = amounts-are v in
+      let none : getD {A = ℕ} (replicate {A = ℕ} m 0) v 0 ≡ 0 = getD-replicate {A = ℕ} m v 0 0 h in
+      own v (omega (arith, length-replicate {A = ℕ} m 0)) (omega (arith, same, none)) ∙ omega (arith, same, none)
+
+pub same-sums : (n : ℕ) (one two : List ℕ) (f g : ℕ → ℕ) {r : Bool} → ((v : ℕ) → v < n → getD one v 0 ≡ f v) → ((v : ℕ) → v < n → getD two v 0 ≡ g v)
+    → r ≡ all n (λ v. eqb (getD one v 0) (getD two v 0)) → r ≡ all n (λ v. eqb (f v) (g v))
+same-sums n one two f g p q e =
+    e ∙ all-cong n (λ v. eqb (getD one v 0) (getD two v 0)) (λ v. eqb (f v) (g v)) (λ v h. ap₂ eqb (p v h) (q v h))
+
+-- ── the answer ──
+
+module _ (a b c : Bool) where
+  -- By whether each list gives each job a bench, and whether the loads are the same.
+  abbrev answer : Compared
+  answer = cond a (cond b (cond c Same Different) (ComparedFault (Table 1))) (ComparedFault (Table 0))
+
+  faulty-first : a ≡ false → ComparedFault (Table 0) ≡ answer
+  faulty-first p = rw p
+
+  faulty-second : a ≡ true → b ≡ false → ComparedFault (Table 1) ≡ answer
+  faulty-second p q = rw (p, q)
+
+  both-given : a ≡ true → b ≡ true → c ≡ true → Same ≡ answer
+  both-given p q r = rw (p, q, r)
+
+  both-differ : a ≡ true → b ≡ true → c ≡ false → Different ≡ answer
+  both-differ p q r = rw (p, q, r)
+
+-- ── a sound sheet ──
+
+module _ (h : Head) (js : List Job) (benches jobs : ℕ) (minutes allowed : List ℕ) (T : Tables h js benches jobs minutes allowed) where
+  -- No set has a bench beyond the head's.
+  has-is : (j v : ℕ) → j < length js → hasAt (getD allowed j 0) v ≡ dayOf h js .allows j v
+  has-is j v l = elim (lt-or-le v (h .benches)) [
+    | inl b ↦ rw (T .allowed-are j l, lt-ltb v (h .benches) b, le-leb v 63 (omega (arith, T .sound .head .at-most-64-benches)))
+    | inr b ↦ elim (lt-or-le 63 v) [
+      | inl far ↦ rw (lt-leb v 63 far, le-ltb v (h .benches) b)
+      | inr near ↦ elim (split (isSet 64 (jobAt js j .allowed) v)) [
+        | inl p ↦ absurd (omega (arith, T .sound .jobs j l .allows-below v (omega arith) p))
+        | inr p ↦ rw (T .allowed-are j l, p, le-leb v 63 near, le-ltb v (h .benches) b)
+      ]
+    ]
+  ]
+
+  pub gives-is : (list : List ℕ)
+      → (eqb (length list) jobs && all jobs (λ j. hasAt (getD allowed j 0) (getD list j 0))) ≡ givesEach (dayOf h js) list
+  gives-is list =
+      ap (λ (n : ℕ). eqb (length list) n && all n (λ j. hasAt (getD allowed j 0) (getD list j 0))) (T .jobs-are)
+      ∙ ap (λ (b : Bool). eqb (length list) (length js) && b)
+      (all-cong (length js) (λ j. hasAt (getD allowed j 0) (getD list j 0)) (λ j. dayOf h js .allows j (getD list j 0)) (λ j l. has-is j (getD list j 0) l))
+
+  pub few-jobs : jobs ≤ 512
+  few-jobs = omega (arith, T .jobs-are, T .sound .at-most-512-jobs)
+
+  pub few-benches : benches ≤ 64
+  few-benches = omega (arith, T .benches-are, T .sound .head .at-most-64-benches)
+
+  pub sums-fit : (list : List ℕ) (v : ℕ) → sum jobs (minutesOn minutes list v) < 2 ^ 63
+  sums-fit list v =
+      let each : sum jobs (minutesOn minutes list v) ≤ jobs * 1048576 =
+      sum-bound jobs 1048576 (minutesOn minutes list v)
+      (λ j l.
+      let in-list : j < length js = omega (arith, T .jobs-are) in
+      omega (arith, on-le (eqb (getD list j 0) v) (getD minutes j 0), T .minutes-are j in-list, T .sound .jobs j in-list .minutes-fit)) in
+      let few = few-jobs in
+      omega arith
+
+  load-is : (list : List ℕ) (v : ℕ) → sum jobs (minutesOn minutes list v) ≡ loadOf (dayOf h js) list v
+  load-is list v =
+      let same : sum (length js) (minutesOn minutes list v) ≡ sum (length js) (λ j. on (eqb (getD list j 0) v) (jobAt js j .minutes)) =
+      sum-cong (length js) (minutesOn minutes list v) (λ j. on (eqb (getD list j 0) v) (jobAt js j .minutes))
+      (λ j l. ap (on (eqb (getD list j 0) v)) (T .minutes-are j l)) in
+      ap (λ (n : ℕ). sum n (minutesOn minutes list v)) (T .jobs-are) ∙ omega (arith, same)
+
+  pub same-is : (first second : List ℕ)
+      → all benches (λ v. eqb (sum jobs (minutesOn minutes first v)) (sum jobs (minutesOn minutes second v))) ≡ sameLoads (dayOf h js) first second
+  same-is first second =
+      ap (λ (n : ℕ). all n (λ v. eqb (sum jobs (minutesOn minutes first v)) (sum jobs (minutesOn minutes second v)))) (T .benches-are)
+      ∙ all-cong (h .benches) (λ v. eqb (sum jobs (minutesOn minutes first v)) (sum jobs (minutesOn minutes second v)))
+      (λ v. eqb (loadOf (dayOf h js) first v) (loadOf (dayOf h js) second v))
+      (λ v l. ap₂ eqb (load-is first v) (load-is second v))
+
+  -- What the calls find: whether each list gives each job a bench, and whether the loads are the same.
+  module _ (first second : List ℕ) {t : Bool} (e : t ≡ (eqb (length first) jobs && all jobs (λ j. hasAt (getD allowed j 0) (getD first j 0)))) where
+    pub first-faulty : not t ≡ true → ComparedFault (Table 0) ≡ comparedOf (dayOf h js) first second
+    first-faulty n =
+        faulty-first (givesEach (dayOf h js) first) (givesEach (dayOf h js) second) (sameLoads (dayOf h js) first second)
+        (sym (e ∙ gives-is first) ∙ not-true t n)
+
+    module _ (n : not t ≡ false) {u : Bool} (f : u ≡ (eqb (length second) jobs && all jobs (λ j. hasAt (getD allowed j 0) (getD second j 0)))) where
+      given-first : givesEach (dayOf h js) first ≡ true
+      given-first = sym (e ∙ gives-is first) ∙ not-false t n
+
+      pub second-faulty : not u ≡ true → ComparedFault (Table 1) ≡ comparedOf (dayOf h js) first second
+      second-faulty m =
+          faulty-second (givesEach (dayOf h js) first) (givesEach (dayOf h js) second) (sameLoads (dayOf h js) first second)
+          given-first (sym (f ∙ gives-is second) ∙ not-true u m)
+
+      module _ (m : not u ≡ false) {w : Bool}
+          (g : jobs ≤ 512 → benches ≤ 64 → ((list : List ℕ) → (v : ℕ) → sum jobs (minutesOn minutes list v) < 2 ^ 63)
+          → w ≡ all benches (λ v. eqb (sum jobs (minutesOn minutes first v)) (sum jobs (minutesOn minutes second v)))) where
+        given-second : givesEach (dayOf h js) second ≡ true
+        given-second = sym (f ∙ gives-is second) ∙ not-false u m
+
+        same-found : w ≡ sameLoads (dayOf h js) first second
+        same-found = g few-jobs few-benches sums-fit ∙ same-is first second
+
+        pub found-same : w ≡ true → Same ≡ comparedOf (dayOf h js) first second
+        found-same p =
+            both-given (givesEach (dayOf h js) first) (givesEach (dayOf h js) second) (sameLoads (dayOf h js) first second)
+            given-first given-second (sym same-found ∙ p)
+
+        pub found-different : w ≡ false → Different ≡ comparedOf (dayOf h js) first second
+        found-different p =
+            both-differ (givesEach (dayOf h js) first) (givesEach (dayOf h js) second) (sameLoads (dayOf h js) first second)
+            given-first given-second (sym same-found ∙ p)
+
+-- ── the bytes ──
+
+apart {ℓ} : {A : Type ℓ} {f : Fault} → Accepted ≡ Refused f → A
+apart e = let z : _≡_ {A = ℕ} 0 1 = cc in absurd (omega arith)
+
+same-fault : {g f : Fault} → Refused g ≡ Refused f → g ≡ f
+same-fault e = cc
+
+verdict-refused : (r : Read) {f : Fault} → stored r .verdict ≡ Refused f → r ≡ refused f
+unfolding stored
+verdict-refused (accepted h js) a = apart a
+verdict-refused (refused g) a = ap refused (same-fault a)
+
+verdict-accepted : (r : Read) → stored r .verdict ≡ Accepted → (h : Head) × (js : List Job) × (r ≡ accepted h js) × (stored r .sheet ≡ sheetOf h js)
+unfolding stored
+verdict-accepted (accepted h js) a = (h, js, refl, refl)
+verdict-accepted (refused f) a = apart (sym a)
+
+tables-of : (s : List ℕ) (h : Head) (js : List Job) (x : Sheet) → readSheet s ≡ accepted h js → x ≡ sheetOf h js
+    → Tables h js (x .head .benches) (x .count) (x .minutes) (x .allowed)
+tables-of s h js x e same =
+    record {
+      sound = accepted-sound s h js e;
+      benches-are = ap (λ (y : Sheet). y .head .benches) same;
+      jobs-are = ap (λ (y : Sheet). y .count) same;
+      minutes-are = λ j l. ap (λ (y : Sheet). getD (y .minutes) j 0) same ∙ getD-padded (λ k. k .minutes) refl js j l;
+      allowed-are = λ j l. ap (λ (y : Sheet). getD (y .allowed) j 0) same ∙ getD-padded (λ k. k .allowed) refl js j l;
+    }
+
+module _ (s first second : List ℕ) where
+  pub refused-is : {x : Reading} {f : Fault} → x ≡ stored (readSheet s) → x .verdict ≡ Refused f → ComparedFault f ≡ comparePlans s first second
+  unfolding comparePlans
+  refused-is e a =
+      rw (verdict-refused (readSheet s) (sym (ap (λ (y : Reading). y .verdict) e) ∙ a), comparePlans)
+
+  pub accepted-is : (x : Reading) {r : Compared} → x ≡ stored (readSheet s) → x .verdict ≡ Accepted
+      → ((h : Head) → (js : List Job) → Tables h js (x .sheet .head .benches) (x .sheet .count) (x .sheet .minutes) (x .sheet .allowed)
+      → r ≡ comparedOf (dayOf h js) first second)
+      → r ≡ comparePlans s first second
+  unfolding comparePlans
+  accepted-is x e a told =
+      let (h, js, read, same) = verdict-accepted (readSheet s) (sym (ap (λ (y : Reading). y .verdict) e) ∙ a) in
+      rw (read, comparePlans) (told h js (tables-of s h js (x .sheet) read (ap (λ (y : Reading). y .sheet) e ∙ same)))

@@ -1,0 +1,50 @@
+-- The tables are filled with the minutes and the list.
+use Rattle.planning.proofs.CompareRun.{listed-loads}
+use borrow.Author.Needs.{needs}
+use Rattle.planning.proofs.comparison.list_loads.Statement.{statement}
+use Rattle.planning.proofs.comparison.list_loads.Tie as tie
+
+slice-aggregate-narrow : tie.Need-slice-aggregate-narrow
+slice-aggregate-narrow c = search needs
+
+narrow-requires : tie.Need-narrow-requires
+narrow-requires c κs = search needs
+
+slice-aggregate-narrow-2 : tie.Need-slice-aggregate-narrow-2
+slice-aggregate-narrow-2 c = search needs
+
+narrow-requires-2 : tie.Need-narrow-requires-2
+narrow-requires-2 c κs = search needs
+
+slice-aggregate-own-loads : tie.Need-slice-aggregate-own-loads
+slice-aggregate-own-loads c = search needs
+
+slice-aggregate-own-loads-2 : tie.Need-slice-aggregate-own-loads-2
+slice-aggregate-own-loads-2 c = search needs
+
+slice-aggregate-own-loads-3 : tie.Need-slice-aggregate-own-loads-3
+slice-aggregate-own-loads-3 c = search needs
+
+slice-aggregate-own-loads-4 : tie.Need-slice-aggregate-own-loads-4
+slice-aggregate-own-loads-4 c = search needs
+
+own-loads-requires : tie.Need-own-loads-requires
+own-loads-requires c κs = search needs
+
+returns : tie.Need-returns
+returns c = λ few. listed-loads 512 (c .before .before .before .before .before .before .before .before .before .before .before .before .before .before .args .jobs) (c .before .before .before .before .before .before .before .before .before .before .before .before .before .before .args .minutes .now) (c .before .before .before .before .before .before .before .before .before .before .before .before .before .before .args .list .now) few (c .before .before .before .before .before .before .before .before .before .before .narrow .ensures) (c .before .before .before .before .before .before .before .narrow2 .ensures) 64 (c .before .own-loads .last .1 .1 .1 .1 .0) (c .before .own-loads .ensures)
+
+pub list-loads-spec : {M : Type 1} → statement M
+list-loads-spec =
+    tie.close
+    (tie.spec
+    slice-aggregate-narrow
+    narrow-requires
+    slice-aggregate-narrow-2
+    narrow-requires-2
+    slice-aggregate-own-loads
+    slice-aggregate-own-loads-2
+    slice-aggregate-own-loads-3
+    slice-aggregate-own-loads-4
+    own-loads-requires
+    returns)

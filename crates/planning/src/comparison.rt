@@ -1,0 +1,142 @@
+// The comparison of two plans of a sheet.
+use crate::answer::Compared;
+use crate::arrays;
+use crate::loads;
+use frame::Fault;
+use frame::Verdict;
+ghost use mathlib.Core.Path.{_≡_};
+ghost use Prim.Native.Nat.{ℕ, _≤_, _<_, _^_};
+ghost use mathlib.Core.List.{List};
+ghost use mathlib.Core.Bool.{_&&_};
+ghost use lib.ListN.{length, getD};
+ghost use lib.Dec.{eqb};
+ghost use Rattle.sums.specs.Sum.{sum};
+ghost use Rattle.sums.specs.Search.{all};
+ghost use Rattle.fields.specs.declared.sheet.Head.{Head};
+ghost use Rattle.fields.specs.declared.sheet.Job.{Job};
+ghost use Rattle.algorithm.specs.Day.{dayOf};
+ghost use Rattle.planning.specs.PushArrays.{hasAt};
+ghost use Rattle.planning.specs.Planner.{comparePlans};
+ghost use Rattle.planning.specs.CompareArrays.{minutesOn, comparedOf, Tables};
+
+// Whether job j's bench in the list is one of its set.
+fn fit<'a>(allowed: &'a [u64], list: &'a [u64], j: usize) -> bool
+    ensures { λ r. ⌜ r ≡ hasAt (getD (now (allowed .entry)) j 0) (getD (now (list .entry)) j 0) ⌝ }
+{
+    let set = arrays::entry(allowed, j) as usize;
+    let v = arrays::entry(list, j) as usize;
+    arrays::has(set, v)
+}
+
+// Whether each job's bench in the list is one of its set.
+fn fit_all<'a>(jobs: usize, allowed: &'a [u64], list: &'a [u64]) -> bool
+    ensures { λ r. ⌜ r ≡ all jobs (λ j. hasAt (getD (now (allowed .entry)) j 0) (getD (now (list .entry)) j 0)) ⌝ }
+{
+    let mut j = 0;
+    while j < jobs {
+        if !fit(allowed, list, j) {
+            return false;
+        }
+        j += 1;
+    }
+    true
+}
+
+// Whether the list gives each job one bench of its set.
+fn gives_each<'a>(jobs: usize, allowed: &'a [u64], list: &'a [u64]) -> bool
+    ensures { λ r. ⌜ r ≡ (eqb (length (now (list .entry))) jobs && all jobs (λ j. hasAt (getD (now (allowed .entry)) j 0) (getD (now (list .entry)) j 0))) ⌝ }
+{
+    if list.len() != jobs {
+        return false;
+    }
+    fit_all(jobs, allowed, list)
+}
+
+// Entry v: the minutes of the jobs that the list puts on bench v.
+fn list_loads<'a>(jobs: usize, minutes: &'a [u64], list: &'a [u64]) -> [usize; 64]
+    ensures { λ r. ⌜ (jobs ≤ 512 → (v : ℕ) → v < 64 → sum jobs (minutesOn (now (minutes .entry)) (now (list .entry)) v) < 2 ^ 63 → getD r v 0 ≡ sum jobs (minutesOn (now (minutes .entry)) (now (list .entry)) v)) ⌝ }
+{
+    let nothing = [false; 512];
+    let mut amount = [0usize; 512];
+    let mut place = [0usize; 512];
+    let mut load = [0usize; 64];
+    arrays::narrow(jobs, minutes, &mut amount);
+    arrays::narrow(jobs, list, &mut place);
+    loads::own_loads(jobs, &amount, &nothing, &place, &mut load);
+    load
+}
+
+// Whether the first n entries are the same.
+fn same<'a>(n: usize, a: &'a [usize], b: &'a [usize]) -> bool
+    ensures { λ r. ⌜ r ≡ all n (λ v. eqb (getD (now (a .entry)) v 0) (getD (now (b .entry)) v 0)) ⌝ }
+{
+    let mut v = 0;
+    while v < n {
+        if arrays::at(a, v) != arrays::at(b, v) {
+            return false;
+        }
+        v += 1;
+    }
+    true
+}
+
+// Whether both lists give every bench the same load.
+fn same_loads<'a>(
+    benches: usize,
+    jobs: usize,
+    minutes: &'a [u64],
+    first: &'a [u64],
+    second: &'a [u64],
+) -> bool
+    ensures { λ r. ⌜ (jobs ≤ 512 → benches ≤ 64 → ((list : List ℕ) → (v : ℕ) → sum jobs (minutesOn (now (minutes .entry)) list v) < 2 ^ 63) → r ≡ all benches (λ v. eqb (sum jobs (minutesOn (now (minutes .entry)) (now (first .entry)) v)) (sum jobs (minutesOn (now (minutes .entry)) (now (second .entry)) v)))) ⌝ }
+{
+    let one = list_loads(jobs, minutes, first);
+    let two = list_loads(jobs, minutes, second);
+    same(benches, &one, &two)
+}
+
+// The answer for the jobs of a sheet.
+fn compare_lists<'a>(
+    benches: usize,
+    jobs: usize,
+    minutes: &'a [u64],
+    allowed: &'a [u64],
+    first: &'a [u64],
+    second: &'a [u64],
+) -> Compared
+    ensures { λ r. ⌜ ((h : Head) → (js : List Job) → Tables h js benches jobs (now (minutes .entry)) (now (allowed .entry)) → r ≡ comparedOf (dayOf h js) (now (first .entry)) (now (second .entry))) ⌝ }
+{
+    if !gives_each(jobs, allowed, first) {
+        return Compared::Fault(Fault::Table(0));
+    }
+    if !gives_each(jobs, allowed, second) {
+        return Compared::Fault(Fault::Table(1));
+    }
+    if same_loads(benches, jobs, minutes, first, second) {
+        return Compared::Same;
+    }
+    Compared::Different
+}
+
+// Whether two plans of a sheet give every bench the same load.
+pub fn compare<'a>(s: &'a [u8], first: &'a [u64], second: &'a [u64]) -> Compared
+    ensures { λ r. ⌜ r ≡ comparePlans (now (s .entry)) (now (first .entry)) (now (second .entry)) ⌝ }
+{
+    let reading = frame::read(s);
+    let verdict = reading.verdict;
+    match verdict {
+        Verdict::Refused(f) => Compared::Fault(f),
+        Verdict::Accepted => {
+            let sheet = reading.sheet;
+            let h = sheet.head;
+            compare_lists(
+                h.benches as usize,
+                sheet.count,
+                &sheet.minutes,
+                &sheet.allowed,
+                first,
+                second,
+            )
+        }
+    }
+}
