@@ -7,7 +7,7 @@ pub mod Activated
 pub mod Example
 pub mod DemandExamples
 pub mod Rival
-pub mod DayOfSheet
+pub mod LongFound
 pub mod DayLaws
 pub mod PlanBound
 pub mod ExplorationOfBoard

@@ -44,7 +44,8 @@ use Rattle.algorithm.proofs.Budget.{TurnsEnd, run-turns, movesOf, moves-bound, 
 use Rattle.algorithm.proofs.DayFacts.{good-sound, good-facts, good-spread, reached-good, reached-run, run-ends}
 use Rattle.blocking.specs.Demand.{Assignment, keepsTarget, withinTarget, loadOf}
 use Rattle.blocking.specs.Answers.{SoundAnswer, plan-sound, long-sound, none-sound, isPlan, SomeOver, WholeClaim, RunEnd, long-job, crowded-component, no-move-left}
-use Rattle.blocking.proofs.DayOfSheet.{sound-day, none-long, long-found}
+use Rattle.planning.proofs.SheetDay.{sound-day, none-long}
+use Rattle.blocking.proofs.LongFound.{long-found}
 use Rattle.blocking.proofs.Rival.{blocking-overloads, long-overloads}
 use Rattle.blocking.proofs.PlanBound.{planDirections, plan-assignment, plan-keeps-bound}
 use Rattle.blocking.proofs.NoneBlocks.{activated-blocking, component-blocking}

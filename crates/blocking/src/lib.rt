@@ -1,1 +1,4 @@
-// The argument for blocking sets.
+// The planner, with the demand as its promise; the argument for blocking sets is in specs/ and proofs/.
+mod demand;
+
+pub use demand::plan;

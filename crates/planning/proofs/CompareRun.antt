@@ -38,11 +38,11 @@ use Rattle.algorithm.specs.Answer.{loadOf}
 use Rattle.planning.specs.declared.answer.Compared.{Compared}
 use Rattle.planning.specs.declared.answer.Compared.the-variants.{Same, Different, Fault as ComparedFault}
 use Rattle.planning.specs.Planner.{givesEach, sameLoads, comparePlans}
-use Rattle.planning.specs.PushArrays.{hasAt}
-use Rattle.planning.specs.Held.{amountOn}
-use Rattle.planning.specs.StartArrays.{filled}
+use Rattle.run.specs.PushArrays.{hasAt}
+use Rattle.run.specs.Held.{amountOn}
+use Rattle.run.specs.StartArrays.{filled}
 use Rattle.planning.specs.CompareArrays.{minutesOn, comparedOf, Tables}
-use Rattle.planning.proofs.StartLaws.{getD-filled}
+use Rattle.run.proofs.StartLaws.{getD-filled}
 
 -- ── a search for an index that fails ──
 
@@ -213,17 +213,17 @@ apart e = let z : _≡_ {A = ℕ} 0 1 = cc in absurd (omega arith)
 same-fault : {g f : Fault} → Refused g ≡ Refused f → g ≡ f
 same-fault e = cc
 
-verdict-refused : (r : Read) {f : Fault} → stored r .verdict ≡ Refused f → r ≡ refused f
+pub verdict-refused : (r : Read) {f : Fault} → stored r .verdict ≡ Refused f → r ≡ refused f
 unfolding stored
 verdict-refused (accepted h js) a = apart a
 verdict-refused (refused g) a = ap refused (same-fault a)
 
-verdict-accepted : (r : Read) → stored r .verdict ≡ Accepted → (h : Head) × (js : List Job) × (r ≡ accepted h js) × (stored r .sheet ≡ sheetOf h js)
+pub verdict-accepted : (r : Read) → stored r .verdict ≡ Accepted → (h : Head) × (js : List Job) × (r ≡ accepted h js) × (stored r .sheet ≡ sheetOf h js)
 unfolding stored
 verdict-accepted (accepted h js) a = (h, js, refl, refl)
 verdict-accepted (refused f) a = apart (sym a)
 
-tables-of : (s : List ℕ) (h : Head) (js : List Job) (x : Sheet) → readSheet s ≡ accepted h js → x ≡ sheetOf h js
+pub tables-of : (s : List ℕ) (h : Head) (js : List Job) (x : Sheet) → readSheet s ≡ accepted h js → x ≡ sheetOf h js
     → Tables h js (x .head .benches) (x .count) (x .minutes) (x .allowed)
 tables-of s h js x e same =
     record {

@@ -1,10 +1,2 @@
-pub mod Arrays
-pub mod Shown
-pub mod Held
 pub mod Planner
 pub mod CompareArrays
-pub mod ExploreArrays
-pub mod PushArrays
-pub mod StartArrays
-pub mod SettleArrays
-pub mod TableArrays

@@ -4,8 +4,10 @@
 --     shortTables               fault 13: a table is shorter than the jobs or the benches
 --     answerFor s np nl         the answer to the bytes s, with tables of np and nl entries
 --     placesAfter, loadsAfter   the tables after an answer
+--     Answered                  an answer with both tables after it
 --     givesEach, sameLoads, comparePlans     the comparison of two plans of a sheet
 use Prim.Native.Nat.{ℕ, _+_, _-_, _^_}
+use mathlib.Core.Path.{_≡_}
 use mathlib.Core.Bool.{Bool, true, false, cond, _&&_, _||_}
 use mathlib.Core.List.{List, [], _∷_, _++_}
 use lib.ListN.{length, getD, drop}
@@ -57,6 +59,12 @@ loadsAfter (plan largest moves places loads) before = loads ++ drop (length load
 loadsAfter (tooLong j) before = before
 loadsAfter (none benches moves) before = before
 loadsAfter (fault f) before = before
+
+-- What a call answers, and what it leaves in both tables.
+pub record Answered (a : Answer) (r : Given) (places loads places′ loads′ : List ℕ) : Type 0 where
+  pub answer : r ≡ given a
+  pub new-places : places′ ≡ placesAfter a places
+  pub new-loads : loads′ ≡ loadsAfter a loads
 
 -- ── the comparison of plans ──
 

@@ -1,7 +1,5 @@
 // The comparison of two plans of a sheet.
 use crate::answer::Compared;
-use crate::arrays;
-use crate::loads;
 use frame::Fault;
 use frame::Verdict;
 ghost use mathlib.Core.Path.{_≡_};
@@ -15,7 +13,7 @@ ghost use Rattle.sums.specs.Search.{all};
 ghost use Rattle.fields.specs.declared.sheet.Head.{Head};
 ghost use Rattle.fields.specs.declared.sheet.Job.{Job};
 ghost use Rattle.algorithm.specs.Day.{dayOf};
-ghost use Rattle.planning.specs.PushArrays.{hasAt};
+ghost use Rattle.run.specs.PushArrays.{hasAt};
 ghost use Rattle.planning.specs.Planner.{comparePlans};
 ghost use Rattle.planning.specs.CompareArrays.{minutesOn, comparedOf, Tables};
 
@@ -23,9 +21,9 @@ ghost use Rattle.planning.specs.CompareArrays.{minutesOn, comparedOf, Ta
 fn fit<'a>(allowed: &'a [u64], list: &'a [u64], j: usize) -> bool
     ensures { λ r. ⌜ r ≡ hasAt (getD (now (allowed .entry)) j 0) (getD (now (list .entry)) j 0) ⌝ }
 {
-    let set = arrays::entry(allowed, j) as usize;
-    let v = arrays::entry(list, j) as usize;
-    arrays::has(set, v)
+    let set = run::entry(allowed, j) as usize;
+    let v = run::entry(list, j) as usize;
+    run::has(set, v)
 }
 
 // Whether each job's bench in the list is one of its set.
@@ -60,9 +58,9 @@ fn list_loads<'a>(jobs: usize, minutes: &'a [u64], list: &'a [u64]) -> [usize; 6
     let mut amount = [0usize; 512];
     let mut place = [0usize; 512];
     let mut load = [0usize; 64];
-    arrays::narrow(jobs, minutes, &mut amount);
-    arrays::narrow(jobs, list, &mut place);
-    loads::own_loads(jobs, &amount, &nothing, &place, &mut load);
+    run::narrow(jobs, minutes, &mut amount);
+    run::narrow(jobs, list, &mut place);
+    run::own_loads(jobs, &amount, &nothing, &place, &mut load);
     load
 }
 
@@ -72,7 +70,7 @@ fn same<'a>(n: usize, a: &'a [usize], b: &'a [usize]) -> bool
 {
     let mut v = 0;
     while v < n {
-        if arrays::at(a, v) != arrays::at(b, v) {
+        if run::at(a, v) != run::at(b, v) {
             return false;
         }
         v += 1;

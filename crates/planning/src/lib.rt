@@ -1,20 +1,9 @@
-// Algorithm 2: the steps of the run on arrays, and the comparison of plans.
-mod activate;
+// Planning a sheet, and the comparison of plans.
 mod answer;
-mod arrays;
 mod comparison;
-mod conflict;
-mod explore;
-mod forced;
-mod loads;
-mod push;
-mod rocks;
-mod settle;
-mod start;
-mod state;
-mod tables;
-mod turns;
+mod planner;
 
 pub use answer::Answer;
 pub use answer::Compared;
 pub use comparison::compare;
+pub use planner::plan;

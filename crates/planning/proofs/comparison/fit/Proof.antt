@@ -1,6 +1,6 @@
 -- One bit of the set.
 use mathlib.Core.Path.{ap₂, _∙_}
-use Rattle.planning.specs.PushArrays.{hasAt}
+use Rattle.run.specs.PushArrays.{hasAt}
 use borrow.Author.Needs.{needs}
 use Rattle.planning.proofs.comparison.fit.Statement.{statement}
 use Rattle.planning.proofs.comparison.fit.Tie as tie

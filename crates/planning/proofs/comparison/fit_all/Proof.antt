@@ -5,7 +5,7 @@ use mathlib.Core.Bool.{true}
 use native.Mathlib.Omega.{arith}
 use lib.ListN.{getD}
 use Rattle.bools.proofs.BoolLaws.{not-true, not-false}
-use Rattle.planning.specs.PushArrays.{hasAt}
+use Rattle.run.specs.PushArrays.{hasAt}
 use Rattle.planning.proofs.CompareRun.{all-fails-here, all-more, all-holds}
 use borrow.Author.Needs.{needs}
 use Rattle.planning.proofs.comparison.fit_all.Statement.{statement}

@@ -1,7 +1,7 @@
 -- By cases on the length.
 use lib.ListN.{length, getD}
 use Rattle.sums.specs.Search.{all}
-use Rattle.planning.specs.PushArrays.{hasAt}
+use Rattle.run.specs.PushArrays.{hasAt}
 use Rattle.planning.proofs.CompareRun.{other-length, right-length}
 use borrow.Author.Needs.{needs}
 use Rattle.planning.proofs.comparison.gives_each.Statement.{statement}

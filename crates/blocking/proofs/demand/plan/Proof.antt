@@ -1,0 +1,20 @@
+-- The equations of the planning crate, and what follows from them (Claim).
+use Rattle.blocking.proofs.Claim.{equations-claim}
+use borrow.Author.Needs.{needs}
+use Rattle.blocking.proofs.demand.plan.Statement.{statement}
+use Rattle.blocking.proofs.demand.plan.Tie as tie
+
+plan-requires : tie.Need-plan-requires
+plan-requires c κs = search needs
+
+same-length : tie.Need-same-length
+same-length c = search needs
+
+same-length-2 : tie.Need-same-length-2
+same-length-2 c = search needs
+
+returns : tie.Need-returns
+returns c = let E = c .before .before .before .before .plan .ensures in (E, equations-claim (c .before .before .before .before .before .before .before .before .before .before .args .s .now) (c .before .before .before .before .before .before .before .before .before .before .args .places .now) (c .before .before .before .before .before .before .before .before .before .before .args .loads .now) _ _ _ (E .answer) (E .new-places) (E .new-loads))
+
+pub plan-spec : {M : Type 1} → statement M
+plan-spec = tie.close (tie.spec plan-requires same-length same-length-2 returns)

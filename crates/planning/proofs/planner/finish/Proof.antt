@@ -1,0 +1,71 @@
+-- By whether a bench is overloaded at the last state (PlanRun).
+use mathlib.Core.Path.{_≡_, refl, sym, ap, subst, _∙_}
+use Prim.Native.Nat.{ℕ}
+use mathlib.Core.Bool.{Bool, false}
+use mathlib.Core.List.{List}
+use native.Mathlib.Omega.{arith}
+use lib.ListN.{length, getD, replicate, length-replicate, getD-replicate}
+use Rattle.planning.proofs.PlanRun.{last-rocks, finish-none, settled-places, finish-plan}
+use Rattle.algorithm.specs.Run.{boardOf, explored}
+use Rattle.run.specs.StartArrays.{filled}
+use Rattle.run.specs.Arrays.{withinAt}
+use borrow.Author.Needs.{needs}
+use Rattle.planning.proofs.planner.finish.Statement.{statement}
+use Rattle.planning.proofs.planner.finish.Tie as tie
+
+congested-requires : tie.Need-congested-requires
+congested-requires c κs = search needs
+
+active-set-requires : tie.Need-active-set-requires
+active-set-requires c κs = search needs
+
+returns : tie.Need-returns
+returns c = λ d weights amount pebbles allowed R F jobs-are L rp rl. finish-none d (c .before .before .before .before .before .before .before .before .before .before .before .before .before .before .before .args .n) (c .before .before .before .before .before .before .before .before .before .before .before .before .before .before .before .args .low .now) (c .before .before .before .before .before .before .before .before .before .before .before .before .before .before .before .args .high .now) weights amount pebbles allowed R (c .before .before .before .before .before .before .before .before .before .before .before .before .before .before .before .args .t1) L (replicate 64 false) (filled (c .before .before .before .before .before .before .before .before .before .before .before .before .before .before .before .args .n .benches) (withinAt (c .before .before .before .before .before .before .before .before .before .before .before .before .before .before .before .args .n .benches) (c .before .before .before .before .before .before .before .before .before .before .before .before .before .before .before .args .t1 .level)) (replicate 64 false)) (c .before .before .before .before .before .before .before .before .before .before .before .before .before .before .before .args .places .now) (c .before .before .before .before .before .before .before .before .before .before .before .before .before .before .before .args .loads .now) (c .before .before .before .before .before .congested .ensures) (c .before .before .before .before .if1 .taken) (omega (arith, length-replicate {A = Bool} 64 false, R .few-benches)) refl (c .active-set .ensures)
+
+slice-aggregate-settle : tie.Need-slice-aggregate-settle
+slice-aggregate-settle c = search needs
+
+settle-requires : tie.Need-settle-requires
+settle-requires c κs = search needs
+
+slice-aggregate-place-rocks : tie.Need-slice-aggregate-place-rocks
+slice-aggregate-place-rocks c = search needs
+
+slice-aggregate-place-rocks-2 : tie.Need-slice-aggregate-place-rocks-2
+slice-aggregate-place-rocks-2 c = search needs
+
+place-rocks-requires : tie.Need-place-rocks-requires
+place-rocks-requires c κs = search needs
+
+slice-aggregate-write-plan : tie.Need-slice-aggregate-write-plan
+slice-aggregate-write-plan c = search needs
+
+write-plan-requires : tie.Need-write-plan-requires
+write-plan-requires c κs = search needs
+
+same-length : tie.Need-same-length
+same-length c = search needs
+
+same-length-2 : tie.Need-same-length-2
+same-length-2 c = search needs
+
+returns-2 : tie.Need-returns-2
+returns-2 c = λ d weights amount pebbles allowed R F jobs-are L rp rl. finish-plan d (c .before .before .before .before .before .before .before .before .before .before .before .before .before .before .before .before .before .before .before .before .before .before .before .before .before .before .before .before .args .n) (c .before .before .before .before .before .before .before .before .before .before .before .before .before .before .before .before .before .before .before .before .before .before .before .before .before .before .before .before .args .low .now) (c .before .before .before .before .before .before .before .before .before .before .before .before .before .before .before .before .before .before .before .before .before .before .before .before .before .before .before .before .args .high .now) weights amount pebbles allowed R (c .before .before .before .before .before .before .before .before .before .before .before .before .before .before .before .before .before .before .before .before .before .before .before .before .before .before .before .before .args .t1) L (c .before .before .before .before .before .before .before .before .before .before .before .before .before .before .before .before .before .before .congested .ensures) (c .before .before .before .before .before .before .before .before .before .before .before .before .before .before .before .before .before .if1 .left) _ (c .before .before .before .before .before .before .before .before .before .before .before .before .before .before .before .before .before .before .before .before .before .before .before .before .before .before .before .before .args .places .now) (c .before .before .before .before .before .before .before .before .before .before .before .before .before .before .before .before .before .before .before .before .before .before .before .before .before .before .before .before .args .loads .now) _ _ (λ ps e one-each. c .before .before .before .before .write-plan .ensures d allowed F (R .unbooked) (R .benches) rp rl ps one-each (λ j h. settled-places d (c .before .before .before .before .before .before .before .before .before .before .before .before .before .before .before .before .before .before .before .before .before .before .before .before .before .before .before .before .args .n) (c .before .before .before .before .before .before .before .before .before .before .before .before .before .before .before .before .before .before .before .before .before .before .before .before .before .before .before .before .args .low .now) (c .before .before .before .before .before .before .before .before .before .before .before .before .before .before .before .before .before .before .before .before .before .before .before .before .before .before .before .before .args .high .now) weights amount pebbles allowed R (c .before .before .before .before .before .before .before .before .before .before .before .before .before .before .before .before .before .before .before .before .before .before .before .before .before .before .before .before .args .t1) L (c .before .before .before .before .before .before .before .before .before .before .before .before .before .before .before .before .before .before .before .before .before .before .before .before .before .before .before .before .args .job .now) _ _ jobs-are (c .before .before .before .before .before .before .before .before .before .before .before .before .before .before .settle .ensures (boardOf d (L .state)) weights (explored d (L .state) .dir) (last-rocks d (c .before .before .before .before .before .before .before .before .before .before .before .before .before .before .before .before .before .before .before .before .before .before .before .before .before .before .before .before .args .n) (c .before .before .before .before .before .before .before .before .before .before .before .before .before .before .before .before .before .before .before .before .before .before .before .before .before .before .before .before .args .low .now) (c .before .before .before .before .before .before .before .before .before .before .before .before .before .before .before .before .before .before .before .before .before .before .before .before .before .before .before .before .args .high .now) weights amount pebbles allowed R (c .before .before .before .before .before .before .before .before .before .before .before .before .before .before .before .before .before .before .before .before .before .before .before .before .before .before .before .before .args .t1) L) (L .shown .seen .directed)) (c .before .before .before .before .before .before .before .before .before .place-rocks .ensures) j h ∙ ap (λ (xs : List ℕ). getD xs j 0) (sym e)))
+
+pub finish-spec : {M : Type 1} → statement M
+finish-spec =
+    tie.close
+    (tie.spec
+    congested-requires
+    active-set-requires
+    returns
+    slice-aggregate-settle
+    settle-requires
+    slice-aggregate-place-rocks
+    slice-aggregate-place-rocks-2
+    place-rocks-requires
+    slice-aggregate-write-plan
+    write-plan-requires
+    same-length
+    same-length-2
+    returns-2)

@@ -1,0 +1,194 @@
+-- The tables of the run show the board of each state that it reaches.
+--     held-rocks, held-pebbles, few-rocks     from Ready and Held
+--     own-total, held-owned                   the sums of weights are the board's own loads
+use Prim.Native.Nat.{ℕ, zero, suc, _+_, _*_, _≤_, _<_, _^_}
+use mathlib.Core.Path.{_≡_, refl, sym, ap, subst, _∙_}
+use mathlib.Core.Bool.{Bool, true, false, not, _&&_, _||_}
+use mathlib.Core.List.{List}
+use native.Mathlib.Omega.{arith}
+use lib.ListN.{length, getD, set, length-set}
+use lib.Dec.{eqb}
+use lib.Seq.{getD-set-same, getD-set-other}
+use mathlib.Core.Logic.{inl, inr}
+use native.Mathlib.Numerals.{add-one}
+use borrow.Author.Tests.{eq-eqb, ne-eqb}
+use Rattle.bools.proofs.BoolLaws.{split}
+use Rattle.bools.proofs.OrderLaws.{eq-or-ne}
+use Rattle.sums.specs.Sum.{on, sum, count}
+use Rattle.sums.proofs.SumLaws.{sum-cong, sum-le, sum-mul, sum-split-on, on-le}
+use Rattle.sums.specs.Members.{members}
+use Rattle.sums.proofs.CountLaws.{count-cong, count-mono, count-le}
+use Rattle.run.specs.declared.rocks.Limits.{Limits}
+use Rattle.algorithm.specs.Board.{Board, Directions, touches, towards, rockLoad, load}
+use Rattle.algorithm.specs.Day.{Day, weight, scale, rock, lowest, highest}
+use Rattle.algorithm.specs.Start.{State, start}
+use Rattle.algorithm.specs.SoundDay.{SoundDay, Uncrowded}
+use Rattle.algorithm.specs.Run.{boardOf, ownMinutes}
+use Rattle.run.specs.Arrays.{plusOf, rocksOf, rockAt, Rocks, Owned, Pebbles}
+use Rattle.run.specs.Held.{amountOn, addedAt, isLeft, leftJob, Ready, Held}
+use Rattle.run.proofs.ForcedRun.{plus-fits}
+use Rattle.algorithm.proofs.Graph.{inside}
+use Rattle.algorithm.proofs.RockGraph.{rocks, rocks-sparse}
+use Rattle.algorithm.proofs.Peeling.{start-peeled}
+use Rattle.algorithm.proofs.Moves.{Good}
+use Rattle.algorithm.proofs.DayFacts.{good-sound, reached-good}
+
+scaled-same : (k x : ℕ) (a : Bool) → k * on a x ≡ on a (k * x)
+scaled-same k x true = refl
+scaled-same k x false = omega arith
+
+-- ── summing the amounts, job by job ──
+
+module _ (amount : List ℕ) (left : List Bool) (place : List ℕ) where
+  own-added : (own : List ℕ) (a v j : ℕ) → getD left j false ≡ false → v < length own → a + sum (j + 1) (amountOn amount left place v) < 2 ^ 63
+      → getD own v 0 ≡ a + sum j (amountOn amount left place v)
+      → getD (set own (getD place j 0) (plusOf (getD own (getD place j 0) 0) (getD amount j 0))) v 0 ≡ a + sum (j + 1) (amountOn amount left place v)
+  own-added own a v j l h fits e =
+      let u = getD place j 0 in
+      elim (eq-or-ne v u) [
+        | inl same ↦
+            let here : amountOn amount left place v j ≡ getD amount j 0 = rw (l, eq-eqb u v (sym same)) in
+            let total : a + sum (j + 1) (amountOn amount left place v) ≡ getD own v 0 + getD amount j 0 = rw add-one (omega (arith, e, here)) in
+            let before : getD own u 0 ≡ getD own v 0 = ap (λ (k : ℕ). getD own k 0) (sym same) in
+            subst (λ (k : ℕ). getD (set own u (plusOf (getD own u 0) (getD amount j 0))) k 0 ≡ a + sum (j + 1) (amountOn amount left place v)) (sym same)
+            (getD-set-same own u (plusOf (getD own u 0) (getD amount j 0)) 0 (subst (λ (k : ℕ). k < length own) same h)
+            ∙ ap (λ (k : ℕ). plusOf k (getD amount j 0)) before ∙ plus-fits (getD own v 0) (getD amount j 0) (omega (arith, fits, total)) ∙ sym total)
+        | inr ne ↦
+            let none : amountOn amount left place v j ≡ 0 = rw (l, ne-eqb u v (λ q. ne (sym q))) in
+            getD-set-other own u v (plusOf (getD own u 0) (getD amount j 0)) 0 ne ∙ rw add-one (omega (arith, e, none))
+      ]
+
+  pub own-more : (own own′ : List ℕ) (a v j : ℕ) → own′ ≡ addedAt amount left place own j → v < length own
+      → a + sum (j + 1) (amountOn amount left place v) < 2 ^ 63
+      → (a + sum j (amountOn amount left place v) < 2 ^ 63 → getD own v 0 ≡ a + sum j (amountOn amount left place v))
+      → getD own′ v 0 ≡ a + sum (j + 1) (amountOn amount left place v)
+  own-more own own′ a v j added h fits before =
+      let more : sum (j + 1) (amountOn amount left place v) ≡ sum j (amountOn amount left place v) + amountOn amount left place v j = rw add-one in
+      let e = before (omega (arith, fits, more)) in
+      elim (split (getD left j false)) [
+        | inl l ↦
+            let none : amountOn amount left place v j ≡ 0 = rw l in
+            let same : own′ ≡ own = added ∙ rw l in
+            ap (λ (x : List ℕ). getD x v 0) same ∙ omega (arith, e, none, more)
+        | inr l ↦
+            let same : own′ ≡ set own (getD place j 0) (plusOf (getD own (getD place j 0) 0) (getD amount j 0)) = added ∙ rw l in
+            ap (λ (x : List ℕ). getD x v 0) same ∙ own-added own a v j l h fits e
+      ]
+
+  pub own-length : (own own′ : List ℕ) (j : ℕ) → own′ ≡ addedAt amount left place own j → length own′ ≡ length own
+  own-length own own′ j added = elim (split (getD left j false)) [
+    | inl l ↦ let same : own′ ≡ own = added ∙ rw l in ap length same
+    | inr l ↦
+        let same : own′ ≡ set own (getD place j 0) (plusOf (getD own (getD place j 0) 0) (getD amount j 0)) = added ∙ rw l in
+        ap length same ∙ length-set own (getD place j 0) (plusOf (getD own (getD place j 0) 0) (getD amount j 0))
+  ]
+
+  pub added-left : (own : List ℕ) (j : ℕ) {t : Bool} → t ≡ getD left j false → t ≡ true → own ≡ addedAt amount left place own j
+  added-left own j e p = let l : getD left j false ≡ true = sym e ∙ p in rw l
+
+  pub added-here : (own own′ : List ℕ) (j : ℕ) {v x w sum : ℕ} {t : Bool} → t ≡ getD left j false → t ≡ false → v ≡ getD place j 0 → x ≡ getD own v 0
+      → w ≡ getD amount j 0 → sum ≡ plusOf x w → own′ ≡ set own v sum → own′ ≡ addedAt amount left place own j
+  added-here own own′ j e p at x w s o =
+      let l : getD left j false ≡ false = sym e ∙ p in
+      rw l (o ∙ cc)
+
+and-part : (a b : Bool) (x : ℕ) → on (a && b) x ≤ on a x
+and-part true b x = on-le b x
+and-part false b x = omega arith
+
+rock-part : (l e t : Bool) (x : ℕ) → on (l && e && t) x ≤ on l x
+rock-part true true t x = on-le t x
+rock-part true false t x = omega arith
+rock-part false e t x = omega arith
+
+-- At most one rock to a bench is left.
+pub few-left : (d : Day) → SoundDay d → Uncrowded d → d .benches ≤ 64 → count (d .jobs) (isLeft d) ≤ 64
+few-left d sound free few =
+    let all : ℕ → Bool = λ v. true in
+    let some : count (d .jobs) (isLeft d) ≤ rocks d all =
+    count-mono (d .jobs) (isLeft d) (inside (rock d) (lowest d) (highest d) all)
+    (λ j h l. let r : rock d j ≡ true = start-peeled d sound .left-rock j h l in rw r) in
+    omega (arith, some, rocks-sparse d free all, count-le (d .benches) all)
+
+module _ (d : Day) (n : Limits) (low high weights amount : List ℕ) (pebbles : List Bool) (allowed : List ℕ)
+    (R : Ready d n low high weights amount pebbles allowed) where
+  module _ (m : ℕ) (s : State) (left : List Bool) (place : List ℕ) (H : Held d m s left place) where
+    pub held-good : Good d s
+    held-good = reached-good d (R .sound) (R .uncrowded) (H .reached)
+
+    pub same-left : (j : ℕ) → getD (s .left) j false ≡ isLeft d j
+    same-left j = ap (λ (l : List Bool). getD l j false) (held-good .left-kept)
+
+    -- The weights on a bench besides its rocks.
+    pub own-sum : (v : ℕ) → scale d * ownMinutes d s v ≡ sum (d .jobs) (λ j. on (not (getD (s .left) j false) && eqb (getD (s .place) j 0) v) (weight d j))
+    unfolding ownMinutes
+    own-sum v =
+        let f : ℕ → ℕ = λ j. on (not (getD (s .left) j false) && eqb (getD (s .place) j 0) v) (d .minutes j) in
+        let none : d .booked v + sum (d .jobs) f ≡ sum (d .jobs) f = omega (arith, R .unbooked v) in
+        ap (λ (k : ℕ). scale d * k) none ∙ sym (sum-mul (d .jobs) (scale d) f)
+        ∙ sum-cong (d .jobs) (λ j. scale d * f j) (λ j. on (not (getD (s .left) j false) && eqb (getD (s .place) j 0) v) (weight d j))
+        (λ j h. scaled-same (scale d) (d .minutes j) (not (getD (s .left) j false) && eqb (getD (s .place) j 0) v))
+
+    own-light : (v : ℕ) → scale d * ownMinutes d s v ≤ sum (d .jobs) (λ j. on (not (getD (s .left) j false)) (weight d j))
+    own-light v = rw (own-sum v)
+        (sum-le (d .jobs) (λ j. on (not (getD (s .left) j false) && eqb (getD (s .place) j 0) v) (weight d j)) (λ j. on (not (getD (s .left) j false)) (weight d j))
+        (λ j h. and-part (not (getD (s .left) j false)) (eqb (getD (s .place) j 0) v) (weight d j)))
+
+    rocks-light : (dirs : Directions) (v : ℕ) → rockLoad (boardOf d s) dirs v ≤ sum (d .jobs) (λ j. on (getD (s .left) j false) (weight d j))
+    unfolding rockLoad
+    rocks-light dirs v =
+        sum-le (d .jobs) (λ j. on (touches (boardOf d s) j v && towards dirs j v) (weight d j)) (λ j. on (getD (s .left) j false) (weight d j))
+        (λ j h. rock-part (getD (s .left) j false) (eqb v (lowest d j) || eqb v (highest d j)) (towards dirs j v) (weight d j))
+
+    pub loads-light : (dirs : Directions) (v : ℕ) → load (boardOf d s) dirs v < 2 ^ 62
+    loads-light dirs v =
+        omega (arith, own-light v, rocks-light dirs v, R .light, sum-split-on (d .jobs) (λ j. getD (s .left) j false) (weight d))
+
+    pub rock-count : rocksOf (boardOf d s) ≡ count (d .jobs) (isLeft d)
+    rock-count = count-cong (d .jobs) (λ j. getD (s .left) j false) (isLeft d) (λ j h. same-left j)
+
+    pub rock-job : (r : ℕ) → rockAt (boardOf d s) r ≡ leftJob d r
+    rock-job r = ap (λ (l : List Bool). getD (members (d .jobs) (λ j. getD l j false)) r 0) (held-good .left-kept)
+
+    pub held-rocks : Rocks (boardOf d s) n low high weights
+    held-rocks =
+        record {
+          sound = good-sound d (R .sound) (R .uncrowded) s held-good;
+          benches = R .benches;
+          jobs = R .jobs;
+          rocks = R .rocks ∙ sym rock-count;
+          bound = R .bounds;
+          small = R .smalls;
+          limit = R .limits;
+          few-benches = R .few-benches;
+          lows = λ r h. R .lows r (omega (arith, rock-count)) ∙ ap (lowest d) (sym (rock-job r));
+          highs = λ r h. R .highs r (omega (arith, rock-count)) ∙ ap (highest d) (sym (rock-job r));
+          weights = λ r h. R .heavies r (omega (arith, rock-count)) ∙ ap (weight d) (sym (rock-job r));
+          loads-fit = λ dirs v. omega (arith, loads-light dirs v);
+        }
+
+    pub held-pebbles : Pebbles (boardOf d s) pebbles allowed place
+    held-pebbles = record { are = R .pebbly; allow = R .allowing; lie = λ j h p. H .places j h }
+
+    pub few-rocks : rocksOf (boardOf d s) ≤ 64
+    few-rocks = omega (arith, rock-count, few-left d (R .sound) (R .uncrowded) (R .few-benches))
+
+    -- The sums of the weights on each bench are the board's own loads.
+    pub held-owned : (own : List ℕ)
+        → ((v : ℕ) → v < d .benches → sum (d .jobs) (amountOn amount left place v) < 2 ^ 63
+        → getD own v 0 ≡ sum (d .jobs) (amountOn amount left place v))
+        → Owned (boardOf d s) own
+    held-owned own sums =
+        record {
+          entries = λ v h.
+              let same = same-sum v in
+              sums v h (rw same (rw (← own-sum v) (omega (arith, own-light v, R .light, sum-split-on (d .jobs) (λ j. getD (s .left) j false) (weight d)))))
+              ∙ same ∙ sym (own-sum v);
+        }
+      where
+        same-sum : (v : ℕ) → sum (d .jobs) (amountOn amount left place v)
+            ≡ sum (d .jobs) (λ j. on (not (getD (s .left) j false) && eqb (getD (s .place) j 0) v) (weight d j))
+        same-sum v =
+            sum-cong (d .jobs) (amountOn amount left place v)
+            (λ j. on (not (getD (s .left) j false) && eqb (getD (s .place) j 0) v) (weight d j))
+            (λ j h. rw (H .lefts j h, H .places j h, R .amounts j h))

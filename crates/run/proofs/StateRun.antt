@@ -1,0 +1,243 @@
+-- The program's state follows the turns of the run.
+--     within-leb, congested-shown     the test of the levels is whether a bench is overloaded
+--     push-moves, push-stays          what a push makes of the state
+--     Turning                         what the loop of the turns keeps; how it goes on, and how it ends
+use Prim.Native.Nat.{ℕ, zero, suc, _+_, _-_, _*_, _≤_, _<_, _^_}
+use mathlib.Core.Path.{_≡_, refl, sym, ap, subst, _∙_}
+use mathlib.Core.Bool.{Bool, true, false, _&&_}
+use mathlib.Core.Logic.{inl, inr, _≢_}
+use mathlib.Core.List.{List}
+use native.Mathlib.Omega.{arith}
+use native.Mathlib.Nat.{mul-le-mul}
+use lib.ListN.{length, getD, set, replicate, length-set, length-replicate, getD-replicate}
+use lib.Dec.{leb, ltb}
+use lib.Seq.{getD-set-same, getD-set-other}
+use borrow.Author.Tests.{lt-ltb, le-ltb, le-leb, ltb-true, leb-true}
+use Rattle.bools.proofs.BoolLaws.{split, clash, tests, bool-ext, and-intro, and-false-left, and-false-right}
+use Rattle.bools.proofs.OrderLaws.{eq-or-ne, lt-or-le}
+use Rattle.sums.specs.Sum.{sum, count}
+use Rattle.sums.specs.Search.{any, least}
+use Rattle.sums.proofs.SearchLaws.{any-cong, any-intro, any-elim, least-holds, least-le}
+use Rattle.sums.proofs.CountLaws.{count-le}
+use Rattle.run.specs.declared.rocks.Limits.{Limits}
+use Rattle.run.specs.declared.state.State.{State as Kept}
+use Rattle.algorithm.specs.Board.{Board}
+use Rattle.algorithm.specs.Explore.{Explored, never, roundOf, within, activated}
+use Rattle.algorithm.specs.Push.{canPush, pushJob, pushBench}
+use Rattle.algorithm.specs.Day.{Day, pebble}
+use Rattle.algorithm.specs.Start.{State, start}
+use Rattle.algorithm.specs.Run.{boardOf, explored, congested, canMove, nextState, answerAt, turns, budget}
+use Rattle.algorithm.specs.States.{Reached, by-move}
+use Rattle.run.specs.Arrays.{plusOf, withinAt, rocksOf, Rocks, Owned, Rounds, Pebbles}
+use Rattle.run.specs.ExploreArrays.{Reaches}
+use Rattle.run.specs.PushArrays.{Openings, Wanted}
+use Rattle.run.specs.Shown.{Shown}
+use Rattle.run.specs.Held.{amountOn, Ready, Held, Pushed, a-move, no-move, Last}
+use Rattle.algorithm.proofs.PushLaws.{push-allowed}
+use Rattle.algorithm.proofs.Budget.{turns-spent, turns-move, turns-stop}
+use Rattle.algorithm.proofs.DayFacts.{reached-run}
+use Rattle.run.proofs.ForcedRun.{plus-one}
+use Rattle.run.proofs.HeldLaws.{held-good, held-rocks, held-pebbles, held-owned, few-rocks}
+
+within-leb : (k m : ℕ) → leb k m ≡ ltb k (suc m)
+within-leb k m = bool-ext (leb k m) (ltb k (suc m)) (λ p. lt-ltb k (suc m) (omega tests)) (λ p. le-leb k m (omega tests))
+
+pub within-shown : (b : Board) (xs rounds : List ℕ) (benches v : ℕ) → benches ≡ b .benches → Rounds b xs rounds → v < b .benches
+    → withinAt benches rounds v ≡ within b xs v
+within-shown b xs rounds benches v e S h = rw (e, S .entries v h) (within-leb (roundOf b xs v) (b .benches))
+
+module _ (d : Day) (n : Limits) (low high weights amount : List ℕ) (pebbles : List Bool) (allowed : List ℕ)
+    (R : Ready d n low high weights amount pebbles allowed) where
+  pub congested-shown : (s : State) (levels : List ℕ) → Rounds (boardOf d s) (explored d s .level) levels → any (n .benches) (withinAt (n .benches) levels) ≡ congested d s
+  congested-shown s levels L =
+      subst (λ (k : ℕ). any k (withinAt (n .benches) levels) ≡ congested d s) (sym (R .benches))
+      (any-cong (d .benches) (withinAt (n .benches) levels) (activated (boardOf d s) (explored d s))
+      (λ v h. within-shown (boardOf d s) (explored d s .level) levels (n .benches) v (R .benches) L h))
+
+  -- ── an exploration ──
+
+  module _ (m : ℕ) (s : State) (left : List Bool) (place : List ℕ) (H : Held d m s left place) where
+    pub oriented-owned : (own : List ℕ)
+        → ((v : ℕ) → v < length (replicate {A = ℕ} 64 0) → getD (replicate 64 0) v 0 + sum (n .jobs) (amountOn amount left place v) < 2 ^ 63
+        → getD own v 0 ≡ getD (replicate 64 0) v 0 + sum (n .jobs) (amountOn amount left place v))
+        → Owned (boardOf d s) own
+    oriented-owned own sums =
+        held-owned d n low high weights amount pebbles allowed R m s left place H own
+        (λ v h fits.
+        let none : _≡_ {A = ℕ} (getD (replicate 64 0) v 0) 0 = getD-replicate 64 v 0 0 (omega (arith, R .few-benches)) in
+        let same : sum (n .jobs) (amountOn amount left place v) ≡ sum (d .jobs) (amountOn amount left place v) = ap (λ (k : ℕ). sum k (amountOn amount left place v)) (R .jobs) in
+        let there = sums v (omega (arith, length-replicate {A = ℕ} 64 0, R .few-benches)) (omega (arith, none, same, fits)) in
+        omega (arith, there, none, same))
+
+    pub oriented-shown : (own from dir loads rounds levels : List ℕ) → Owned (boardOf d s) own → Reaches (boardOf d s) from
+        → (Rocks (boardOf d s) n low high weights → Owned (boardOf d s) own → Reaches (boardOf d s) from → rocksOf (boardOf d s) ≤ 64
+        → Shown (boardOf d s) (explored d s) dir loads rounds levels)
+        → Shown (boardOf d s) (explored d s) dir loads rounds levels
+    oriented-shown own from dir loads rounds levels O F call =
+        call (held-rocks d n low high weights amount pebbles allowed R m s left place H) O F (few-rocks d n low high weights amount pebbles allowed R m s left place H)
+
+    pub oriented-pebbles : Pebbles (boardOf d s) pebbles allowed place
+    oriented-pebbles = held-pebbles d n low high weights amount pebbles allowed R m s left place H
+
+    -- The first pair, from what the three functions of the search promise.
+    pub push-found-at : {own dir loads rounds levels : List ℕ} → Owned (boardOf d s) own → Shown (boardOf d s) (explored d s) dir loads rounds levels
+        → (opened wanted : List Bool) {job bench : ℕ}
+        → (Rocks (boardOf d s) n low high weights → Owned (boardOf d s) own → Shown (boardOf d s) (explored d s) dir loads rounds levels
+        → d .benches ≤ length (replicate 64 false) → Openings (boardOf d s) (explored d s) opened)
+        → ((low′ high′ weights′ : List ℕ) → Rocks (boardOf d s) n low′ high′ weights′ → Rounds (boardOf d s) (explored d s .level) levels
+        → Openings (boardOf d s) (explored d s) opened → replicate 66 false ≡ replicate 66 false → Wanted (boardOf d s) (explored d s) wanted)
+        → ((low′ high′ weights′ : List ℕ) → Rocks (boardOf d s) n low′ high′ weights′ → Pebbles (boardOf d s) pebbles allowed place
+        → Rounds (boardOf d s) (explored d s .level) levels → Openings (boardOf d s) (explored d s) opened → Wanted (boardOf d s) (explored d s) wanted
+        → (job ≡ pushJob (boardOf d s) (explored d s)) × (job < d .jobs → bench ≡ pushBench (boardOf d s) (explored d s)))
+        → (job ≡ pushJob (boardOf d s) (explored d s)) × (job < d .jobs → bench ≡ pushBench (boardOf d s) (explored d s))
+    push-found-at O X opened wanted receive want find =
+        let rocks = held-rocks d n low high weights amount pebbles allowed R m s left place H in
+        let open-benches = receive rocks O X (omega (arith, length-replicate {A = Bool} 64 false, R .few-benches)) in
+        find low high weights rocks oriented-pebbles (X .level) open-benches (want low high weights rocks (X .level) open-benches refl)
+
+  -- ── a push ──
+
+  few-moves : (m : ℕ) (s : State) → Reached d m s → m ≤ 32768
+  few-moves m s came =
+      let rest = reached-run d (R .sound) (R .uncrowded) came in
+      let pebbles-few : count (d .jobs) (pebble d) ≤ 512 = omega (arith, count-le (d .jobs) (pebble d), R .few-jobs) in
+      let most : d .benches * count (d .jobs) (pebble d) ≤ 64 * 512 = mul-le-mul (R .few-benches) pebbles-few in
+      omega (arith, rest .of-budget, most)
+
+  can-move : (s : State) → pushJob (boardOf d s) (explored d s) < d .jobs → canMove d s ≡ true
+  can-move s h =
+      let b = boardOf d s in
+      let x = explored d s in
+      let (v, l, p) = any-elim (d .benches) (canPush b x (pushJob b x)) (least-holds (d .jobs) (λ j. any (d .benches) (canPush b x j)) h) in
+      and-intro (any-intro (d .benches) (activated b x) v l (lt-ltb (roundOf b (x .level) v) (never b) (omega (arith, push-allowed b x (pushJob b x) v p .active)))) (lt-ltb (pushJob b x) (d .jobs) h)
+
+  pub push-moves : (m : ℕ) (s : State) (before after : Kept) → Held d m s (before .left) (before .place) → before .moves ≡ m
+      → (job bench : ℕ) → job ≡ pushJob (boardOf d s) (explored d s) → (job < d .jobs → bench ≡ pushBench (boardOf d s) (explored d s)) → job < n .jobs
+      → after .left ≡ before .left → after .place ≡ set (before .place) job bench → after .moves ≡ plusOf (before .moves) 1 → Pushed d m s before after
+  push-moves m s before after H made job bench ej eb below l p q =
+      let b = boardOf d s in
+      let x = explored d s in
+      let j = pushJob b x in
+      let v = pushBench b x in
+      let h : job < d .jobs = omega (arith, R .jobs, below) in
+      let found : j < d .jobs = omega (arith, ej, h) in
+      let can = can-move s found in
+      let bench-is = eb h in
+      a-move can
+      (record {
+        reached = by-move (H .reached) can;
+        lefts = λ i l′. ap (λ (xs : List Bool). getD xs i false) l ∙ H .lefts i l′;
+        room = omega (arith, ap length p, length-set (before .place) job bench, H .room);
+        places = λ i l′. ap (λ (xs : List ℕ). getD xs i 0) p ∙ elim (eq-or-ne i job) [
+          | inl e ↦
+              subst (λ (k : ℕ). getD (set (before .place) job bench) k 0 ≡ getD (set (s .place) j v) k 0) (sym e)
+              (getD-set-same (before .place) job bench 0 (omega (arith, H .room, h)) ∙ bench-is
+              ∙ sym (subst (λ (k : ℕ). getD (set (s .place) j v) k 0 ≡ v) (sym ej)
+              (getD-set-same (s .place) j v 0 (omega (arith, found, held-good d n low high weights amount pebbles allowed R m s (before .left) (before .place) H .one-to-a-job)))))
+          | inr ne ↦
+              getD-set-other (before .place) job i bench 0 ne ∙ H .places i l′ ∙ sym (getD-set-other (s .place) j i v 0 (λ e. ne (e ∙ sym ej)))
+        ];
+      })
+      (q ∙ ap (λ (k : ℕ). plusOf k 1) made ∙ plus-one m (omega (arith, few-moves m s (H .reached))))
+
+  pub push-stays : (m : ℕ) (s : State) (before after : Kept) → (job : ℕ) → job ≡ pushJob (boardOf d s) (explored d s) → n .jobs ≤ job → after ≡ before → Pushed d m s before after
+  push-stays m s before after job e far same =
+      no-move (let low : pushJob (boardOf d s) (explored d s) ≤ d .jobs = least-le (d .jobs) (λ j. any (d .benches) (canPush (boardOf d s) (explored d s) j)) in
+      omega (arith, R .jobs, e, low)) same
+
+  -- ── the turns ──
+
+  pub record Turning (k : ℕ) (kept : Kept) : Type 0 where
+    pub moves : ℕ
+    pub state : State
+    pub held : Held d moves state (kept .left) (kept .place)
+    pub made : kept .moves ≡ moves
+    pub owned : Owned (boardOf d state) (kept .own)
+    pub shown : Shown (boardOf d state) (explored d state) (kept .dir) (kept .load) (kept .joined) (kept .level)
+    pub same : turns (budget d) d (start d) 0 ≡ turns k d state moves
+
+  abbrev Oriented : Kept → Kept → Type 0
+  Oriented kept after =
+      (after .left ≡ kept .left) × (after .place ≡ kept .place) × (after .moves ≡ kept .moves)
+      × ((m : ℕ) (s : State) → Held d m s (kept .left) (kept .place)
+      → Owned (boardOf d s) (after .own) × Shown (boardOf d s) (explored d s) (after .dir) (after .load) (after .joined) (after .level))
+
+  held-after : {m : ℕ} {s : State} (kept after : Kept) → after .left ≡ kept .left → after .place ≡ kept .place → Held d m s (kept .left) (kept .place)
+      → Held d m s (after .left) (after .place)
+  held-after {m} {s} kept after l p H = rw (l, p) H
+
+  turning-starts : (kept after : Kept) → Held d 0 (start d) (kept .left) (kept .place) → kept .moves ≡ 0 → Oriented kept after → Turning (budget d) after
+  turning-starts kept after H made O =
+      record {
+        moves = 0;
+        state = start d;
+        held = held-after kept after (O .0) (O .1) H;
+        made = O .2 ∙ made;
+        owned = O .3 0 (start d) H .0;
+        shown = O .3 0 (start d) H .1;
+        same = refl;
+      }
+
+  pub starts : (kept after : Kept) {k : ℕ} → k ≡ budget d → Held d 0 (start d) (kept .left) (kept .place) → kept .moves ≡ 0
+      → after .left ≡ kept .left → after .place ≡ kept .place → after .moves ≡ kept .moves
+      → ((m : ℕ) (s : State) → Held d m s (kept .left) (kept .place)
+      → Owned (boardOf d s) (after .own) × Shown (boardOf d s) (explored d s) (after .dir) (after .load) (after .joined) (after .level))
+      → Turning k after
+  starts kept after e H made l p q shown = rw e (turning-starts kept after H made (l, p, q, shown))
+
+  module _ {k : ℕ} {kept : Kept} (T : Turning k kept) where
+    stop : canMove d (T .state) ≡ false → Last d kept
+    stop cannot =
+        record {
+          moves = T .moves;
+          state = T .state;
+          held = T .held;
+          made = T .made;
+          shown = T .shown;
+          same = T .same ∙ turns-stop d (T .state) (T .moves) k cannot;
+        }
+
+    pub turning-calm : {t : Bool} → t ≡ any (n .benches) (withinAt (n .benches) (kept .level)) → t ≡ false → Last d kept
+    turning-calm e calm =
+        let still : congested d (T .state) ≡ false = sym (congested-shown (T .state) (kept .level) (T .shown .level)) ∙ sym e ∙ calm in
+        stop (and-false-left (ltb (pushJob (boardOf d (T .state)) (explored d (T .state))) (d .jobs)) still)
+
+    pub turning-spent : k ≤ 0 → Last d kept
+    turning-spent none =
+        let e : k ≡ 0 = omega arith in
+        record {
+          moves = T .moves;
+          state = T .state;
+          held = T .held;
+          made = T .made;
+          shown = T .shown;
+          same = T .same ∙ ap (λ (i : ℕ). turns i d (T .state) (T .moves)) e ∙ turns-spent d (T .state) (T .moves);
+        }
+
+    module _ {after : Kept} (P : Pushed d (T .moves) (T .state) kept after) where
+      pub turning-stuck : after .moves ≡ kept .moves → Last d after
+      turning-stuck same = stuck P same
+        where
+          stuck : Pushed d (T .moves) (T .state) kept after → after .moves ≡ kept .moves → Last d after
+          stuck (a-move can H made) same = absurd (omega (arith, T .made))
+          stuck (no-move none e) same =
+              subst (λ (x : Kept). Last d x) (sym e)
+              (stop (and-false-right (congested d (T .state)) (le-ltb (pushJob (boardOf d (T .state)) (explored d (T .state))) (d .jobs) (omega (arith, none)))))
+
+      pub turning-next : (last : Kept) → after .moves ≢ kept .moves → 0 < k → Oriented after last → Turning (k - 1) last
+      turning-next last ne more O = next P ne
+        where
+          next : Pushed d (T .moves) (T .state) kept after → after .moves ≢ kept .moves → Turning (k - 1) last
+          next (a-move can H made) ne =
+              record {
+                moves = suc (T .moves);
+                state = nextState d (T .state);
+                held = held-after after last (O .0) (O .1) H;
+                made = O .2 ∙ made;
+                owned = O .3 (suc (T .moves)) (nextState d (T .state)) H .0;
+                shown = O .3 (suc (T .moves)) (nextState d (T .state)) H .1;
+                same =
+                    let e : k ≡ suc (k - 1) = omega arith in
+                    T .same ∙ ap (λ (i : ℕ). turns i d (T .state) (T .moves)) e ∙ turns-move d (T .state) (T .moves) (k - 1) can;
+              }
+          next (no-move none e) ne = absurd (ne (ap (λ (x : Kept). x .moves) e))

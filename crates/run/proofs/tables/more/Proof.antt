@@ -1,0 +1,23 @@
+-- By cases on the mark.
+use mathlib.Core.Path.{_≡_, ap, _∙_}
+use Prim.Native.Nat.{ℕ}
+use Rattle.run.specs.Arrays.{plusOf}
+use Rattle.run.proofs.TableRun.{more-yes, more-no}
+use borrow.Author.Needs.{needs}
+use Rattle.run.proofs.tables.more.Statement.{statement}
+use Rattle.run.proofs.tables.more.Tie as tie
+
+bit-requires : tie.Need-bit-requires
+bit-requires c κs = search needs
+
+plus-requires : tie.Need-plus-requires
+plus-requires c κs = search needs
+
+returns : tie.Need-returns
+returns c = more-yes (c .before .before .before .args .set) (c .before .before .before .args .v) (c .before .before .if1 .taken) (c .plus .ensures ∙ ap (plusOf (c .before .before .before .args .set)) (c .before .bit .ensures))
+
+returns-2 : tie.Need-returns-2
+returns-2 c = search needs
+
+pub more-spec : {M : Type 1} → statement M
+more-spec = tie.close (tie.spec bit-requires plus-requires returns returns-2)

@@ -1,0 +1,63 @@
+-- The places of the rocks passed.
+use Prim.Native.Nat.{ℕ, _≤_, _-_}
+use mathlib.Core.Path.{_≡_, refl, ap, _∙_}
+use native.Mathlib.Omega.{arith}
+use lib.ListN.{length, getD, length-set}
+use Rattle.run.specs.TableArrays.{placedOf}
+use Rattle.run.proofs.TableRun.{placed-none, placed-more}
+use borrow.Author.Needs.{needs}
+use Rattle.run.proofs.tables.place_rocks.Statement.{statement}
+use Rattle.run.proofs.tables.place_rocks.Tie as tie
+
+abbrev Inv-loop : tie.InvT-loop
+Inv-loop rocks job dir place₀ r₀ place r = (length place ≡ length place₀) × (r ≤ rocks) × (place ≡ placedOf r job dir place₀)
+
+abbrev μ-loop : tie.MeasureT-loop
+μ-loop rocks job dir place₀ r₀ place r = rocks - r
+
+loop-holds : tie.Need-loop-holds Inv-loop μ-loop
+loop-holds c = (refl, omega arith, placed-none (c .before .before .before .args .job .now) (c .before .before .before .args .dir .now) (c .before .before .before .args .place .now))
+
+at-requires : tie.Need-at-requires Inv-loop μ-loop
+at-requires c κs = search needs
+
+minus-requires : tie.Need-minus-requires Inv-loop μ-loop
+minus-requires c κs = search needs
+
+at-requires-2 : tie.Need-at-requires-2 Inv-loop μ-loop
+at-requires-2 c κs = search needs
+
+put-requires : tie.Need-put-requires Inv-loop μ-loop
+put-requires c κs = search needs
+
+add-r : tie.Need-add-r Inv-loop μ-loop
+add-r c = omega arith
+
+loop-less : tie.Need-loop-less Inv-loop μ-loop
+loop-less c = omega arith
+
+loop-again : tie.Need-loop-again Inv-loop μ-loop
+loop-again c = (ap length (c .before .before .put .ensures) ∙ simp length-set (c .before .before .before .before .before .before .before .before .loop .inv .0), omega arith, placed-more (c .before .before .before .before .before .before .before .before .before .before .before .before .args .job .now) (c .before .before .before .before .before .before .before .before .before .before .before .before .args .dir .now) (c .before .before .before .before .before .before .before .before .before .before .before .before .args .place .now) (c .before .before .before .before .before .before .before .before .loop .r) (c .before .before .before .before .before .before .before .before .loop .inv .2) (c .before .before .before .before .before .before .at .ensures) (c .before .before .before .before .before .minus .ensures) (c .before .before .before .at2 .ensures) (c .before .before .put .ensures))
+
+same-length : tie.Need-same-length Inv-loop μ-loop
+same-length c = c .before .loop .inv .0
+
+returns : tie.Need-returns Inv-loop μ-loop
+returns c = let e : c .before .loop .r ≡ c .before .before .before .before .before .args .rocks = omega arith in rw (← e) (c .before .loop .inv .2)
+
+pub place-rocks-spec : {M : Type 1} → statement M
+place-rocks-spec =
+    tie.close
+    (tie.spec
+    Inv-loop
+    μ-loop
+    loop-holds
+    at-requires
+    minus-requires
+    at-requires-2
+    put-requires
+    add-r
+    loop-less
+    loop-again
+    same-length
+    returns)

@@ -1,0 +1,171 @@
+// Arrays read and written at any index, and sums that stop at the greatest number: none of these asks anything of its caller.
+ghost use mathlib.Core.Path.{_≡_};
+ghost use Prim.Native.Nat.{ℕ, _+_, _-_, _<_};
+ghost use mathlib.Core.Bool.{false, _||_};
+ghost use lib.ListN.{getD, set};
+ghost use lib.Dec.{eqb, ltb};
+ghost use Rattle.sums.specs.Sum.{on, count};
+ghost use Rattle.bits.specs.Bits.{isSet};
+ghost use Rattle.run.specs.StartArrays.{timesOf, filled};
+ghost use Rattle.run.specs.Arrays.{plusOf, lowerOf};
+ghost use Rattle.run.specs.PushArrays.{hasAt};
+
+// Entry i, and 0 past the end.
+pub fn at(t: &[usize], i: usize) -> usize
+    ensures { λ r. ⌜ r ≡ getD (now (t .entry)) i 0 ⌝ }
+{
+    if i < t.len() { t[i] } else { 0 }
+}
+
+// Entry i, and false past the end.
+pub fn holds(t: &[bool], i: usize) -> bool
+    ensures { λ r. ⌜ r ≡ getD (now (t .entry)) i false ⌝ }
+{
+    if i < t.len() { t[i] } else { false }
+}
+
+// Entry i becomes v.
+pub fn put(t: &mut [usize], i: usize, v: usize)
+    ensures { λ _. ⌜ now (t .exit) ≡ set (now (t .entry)) i v ⌝ }
+{
+    if i < t.len() {
+        t[i] = v;
+    }
+}
+
+// Entry i becomes v.
+pub fn mark(t: &mut [bool], i: usize, v: bool)
+    ensures { λ _. ⌜ now (t .exit) ≡ set (now (t .entry)) i v ⌝ }
+{
+    if i < t.len() {
+        t[i] = v;
+    }
+}
+
+// a + b, and the greatest number where that does not fit.
+pub fn plus(a: usize, b: usize) -> usize
+    ensures { λ r. ⌜ r ≡ plusOf a b ⌝ }
+{
+    if b <= 18446744073709551615 - a {
+        a + b
+    } else {
+        18446744073709551615
+    }
+}
+
+// Whether a + w is above the bound.
+pub fn exceeds(bound: usize, a: usize, w: usize) -> bool
+    ensures { λ r. ⌜ r ≡ ltb bound (a + w) ⌝ }
+{
+    if bound < w {
+        return true;
+    }
+    bound - w < a
+}
+
+// The lower of v and u where u counts, else v.
+pub fn lower(v: usize, u: usize, counts: bool) -> usize
+    ensures { λ r. ⌜ r ≡ lowerOf counts u v ⌝ }
+{
+    if !counts {
+        return v;
+    }
+    if u < v { u } else { v }
+}
+
+// a - b, and 0 where b is more.
+pub fn minus(a: usize, b: usize) -> usize
+    ensures { λ r. ⌜ r ≡ a - b ⌝ }
+{
+    if b < a { a - b } else { 0 }
+}
+
+// a × b for a below 2^20 and b below 2^30, and else 0.
+pub fn times(a: usize, b: usize) -> usize
+    ensures { λ r. ⌜ r ≡ timesOf a b ⌝ }
+{
+    if 1048576 <= a {
+        return 0;
+    }
+    if 1073741824 <= b {
+        return 0;
+    }
+    a * b
+}
+
+// Whether the set `mask` has bench v, which is the bit of weight 2^(63 - v).
+pub fn has(mask: usize, v: usize) -> bool
+    ensures { λ r. ⌜ r ≡ hasAt mask v ⌝ }
+{
+    if 63 < v {
+        return false;
+    }
+    (mask >> (63 - v)) % 2 == 1
+}
+
+// The set `mask` with bench v, where v is below 64.
+pub fn with(mask: usize, v: usize) -> usize
+    ensures { λ r. ⌜ ((u : ℕ) → u < 64 → isSet 64 r u ≡ (isSet 64 mask u || eqb u v)) ⌝ }
+{
+    if 63 < v {
+        return mask;
+    }
+    mask | (1 << (63 - v))
+}
+
+// Entry i, and 0 past the end.
+pub fn entry(t: &[u64], i: usize) -> u64
+    ensures { λ r. ⌜ r ≡ getD (now (t .entry)) i 0 ⌝ }
+{
+    if i < t.len() { t[i] } else { 0 }
+}
+
+// Entry i becomes v.
+pub fn store(t: &mut [u64], i: usize, v: u64)
+    ensures { λ _. ⌜ now (t .exit) ≡ set (now (t .entry)) i v ⌝ }
+{
+    if i < t.len() {
+        t[i] = v;
+    }
+}
+
+// The first n entries of one table go to the other.
+pub fn narrow(n: usize, from: &[u64], to: &mut [usize])
+    ensures { λ _. ⌜ now (to .exit) ≡ filled n (λ i. getD (now (from .entry)) i 0) (now (to .entry)) ⌝ }
+{
+    let mut i = 0;
+    while i < n {
+        put(to, i, entry(from, i) as usize);
+        i += 1;
+    }
+}
+
+pub fn widen(n: usize, from: &[usize], to: &mut [u64])
+    ensures { λ _. ⌜ now (to .exit) ≡ filled n (λ i. getD (now (from .entry)) i 0) (now (to .entry)) ⌝ }
+{
+    let mut i = 0;
+    while i < n {
+        store(to, i, at(from, i) as u64);
+        i += 1;
+    }
+}
+
+// k, and one more where it counts.
+pub fn more(k: usize, counts: bool) -> usize
+    ensures { λ r. ⌜ r ≡ plusOf k (on counts 1) ⌝ }
+{
+    if counts { plus(k, 1) } else { k }
+}
+
+// How many of the first n entries hold.
+pub fn count(n: usize, t: &[bool]) -> usize
+    ensures { λ r. ⌜ r ≡ count n (λ i. getD (now (t .entry)) i false) ⌝ }
+{
+    let mut k = 0;
+    let mut i = 0;
+    while i < n {
+        k = more(k, holds(t, i));
+        i += 1;
+    }
+    k
+}

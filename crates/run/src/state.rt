@@ -1,0 +1,144 @@
+// The state of the run: the rocks that are left, where every other job is, the moves made, and the last exploration.
+use crate::arrays;
+use crate::explore;
+use crate::loads;
+use crate::push;
+use crate::rocks::Limits;
+use crate::start;
+ghost use mathlib.Core.Path.{_≡_};
+ghost use Prim.Native.Nat.{ℕ, _<_};
+ghost use mathlib.Core.Bool.{false};
+ghost use mathlib.Core.List.{List};
+ghost use lib.ListN.{getD};
+ghost use Rattle.algorithm.specs.Day.{Day, rock as isRock};
+ghost use Rattle.algorithm.specs.Start.{State as RunState, start as startOf};
+ghost use Rattle.algorithm.specs.Run.{boardOf, explored};
+ghost use Rattle.run.specs.Arrays.{Owned};
+ghost use Rattle.run.specs.Shown.{Shown};
+ghost use Rattle.run.specs.Held.{Ready, Held, Pushed};
+ghost use Rattle.run.specs.StartArrays.{Fields, DayRocks, JobsOf, Cycles, Placed};
+
+pub struct State {
+    pub left: [bool; 512],
+    pub place: [usize; 512],
+    pub moves: usize,
+    // Of the last exploration.
+    pub own: [usize; 64],
+    pub dir: [usize; 64],
+    pub load: [usize; 64],
+    pub joined: [usize; 64],
+    pub level: [usize; 64],
+}
+
+impl State {
+    // start d: every job on its lowest bench, and rocks hanging off a cycle peeled. No exploration yet.
+    pub fn start<'a>(
+        n: Limits,
+        rock: [bool; 512],
+        allowed: &'a [usize],
+        job: &'a [usize],
+        low: &'a [usize],
+        high: &'a [usize],
+        balance: &'a [usize],
+    ) -> State
+        ensures { λ r. ⌜ (r .moves ≡ 0) × ((d : Day) → (minutes : List ℕ) → Fields d (n .jobs) minutes (now (allowed .entry)) → DayRocks d n (now (low .entry)) (now (high .entry)) → JobsOf d (now (job .entry)) → Cycles d (now (balance .entry)) → ((j : ℕ) → j < d .jobs → getD rock j false ≡ isRock d j) → Placed d (startOf d) (r .left) (r .place)) ⌝ }
+    {
+        let mut left = rock;
+        let mut place = [0usize; 512];
+        start::place_lowest(n.jobs, allowed, &mut place);
+        start::peel(n, job, low, high, balance, &mut left, &mut place);
+        let none = [0usize; 64];
+        State {
+            left,
+            place,
+            moves: 0,
+            own: none,
+            dir: none,
+            load: none,
+            joined: none,
+            level: none,
+        }
+    }
+
+    // explored d s.
+    pub fn orient<'a>(
+        mut self,
+        n: Limits,
+        low: &'a [usize],
+        high: &'a [usize],
+        weight: &'a [usize],
+        amount: &'a [usize],
+        pebble: &'a [bool],
+        allowed: &'a [usize],
+    ) -> State
+        ensures { λ r. ⌜ (r .left ≡ self .left) × (r .place ≡ self .place) × (r .moves ≡ self .moves) × ((d : Day) → (m : ℕ) → (s : RunState) → Ready d n (now (low .entry)) (now (high .entry)) (now (weight .entry)) (now (amount .entry)) (now (pebble .entry)) (now (allowed .entry)) → Held d m s (self .left) (self .place) → Owned (boardOf d s) (r .own) × Shown (boardOf d s) (explored d s) (r .dir) (r .load) (r .joined) (r .level)) ⌝ }
+    {
+        let mut own = [0usize; 64];
+        loads::own_loads(n.jobs, amount, &self.left, &self.place, &mut own);
+        let mut from = [0usize; 64];
+        explore::fill_from(n, pebble, allowed, &self.place, &mut from);
+        let never = arrays::plus(n.benches, 1);
+        let mut dir = [0usize; 64];
+        let mut load = own;
+        let mut joined = [never; 64];
+        let mut level = [never; 64];
+        explore::explore(
+            n,
+            low,
+            high,
+            weight,
+            &own,
+            &from,
+            &mut dir,
+            &mut load,
+            &mut joined,
+            &mut level,
+        );
+        self.own = own;
+        self.dir = dir;
+        self.load = load;
+        self.joined = joined;
+        self.level = level;
+        self
+    }
+
+    // nextState d s and one move more where pushJob finds a job; else as it was.
+    pub fn push<'a>(
+        mut self,
+        n: Limits,
+        low: &'a [usize],
+        high: &'a [usize],
+        weight: &'a [usize],
+        amount: &'a [usize],
+        pebble: &'a [bool],
+        allowed: &'a [usize],
+    ) -> State
+        ensures { λ r. ⌜ ((d : Day) → (m : ℕ) → (s : RunState) → Ready d n (now (low .entry)) (now (high .entry)) (now (weight .entry)) (now (amount .entry)) (now (pebble .entry)) (now (allowed .entry)) → Held d m s (self .left) (self .place) → Owned (boardOf d s) (self .own) → Shown (boardOf d s) (explored d s) (self .dir) (self .load) (self .joined) (self .level) → self .moves ≡ m → Pushed d m s self r) ⌝ }
+    {
+        let mut open = [false; 64];
+        push::receivers(
+            n,
+            low,
+            high,
+            weight,
+            &self.own,
+            &self.dir,
+            &self.load,
+            &self.joined,
+            &self.level,
+            &mut open,
+        );
+        let mut wanted = [false; 66];
+        push::mark_levels(n, &self.level, &open, &mut wanted);
+        let m = push::first_push(n, pebble, allowed, &self.place, &self.level, &open, &wanted);
+        let job = m.job;
+        let bench = m.bench;
+        if job < n.jobs {
+            if job < 512 {
+                self.place[job] = bench;
+                self.moves = arrays::plus(self.moves, 1);
+            }
+        }
+        self
+    }
+}
