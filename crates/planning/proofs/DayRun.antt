@@ -4,7 +4,7 @@
 --     budget-is            the budget of the run
 --     day-rocks            the rocks of a day, from their marks
 --     long-answer, crowded-answer, run-answer     the answer: a long job, a crowded component, the turns
-use Prim.Native.Nat.{ℕ, _+_, _-_, _*_, _≤_, _<_, _^_}
+use Prim.Native.Nat.{ℕ, _+_, _-_, _≤_, _<_, _^_}
 use mathlib.Core.Path.{_≡_, refl, sym, ap, ap₂, subst, _∙_}
 use mathlib.Core.Bool.{Bool, true, false}
 use mathlib.Core.List.{List}

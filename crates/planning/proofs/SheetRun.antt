@@ -3,7 +3,7 @@
 --     sound-of             the day is sound where no job is long
 --     short-places, short-loads     fault 13
 --     refused-answer, accepted-answer     the answer by whether the sheet is read
-use Prim.Native.Nat.{ℕ, _+_, _*_, _≤_, _<_, _^_}
+use Prim.Native.Nat.{ℕ, _≤_, _<_}
 use mathlib.Core.Path.{_≡_, refl, sym, ap, subst, _∙_}
 use mathlib.Core.Bool.{Bool, true, false, cond, _&&_, _||_}
 use mathlib.Core.Logic.{inl, inr}
@@ -24,7 +24,7 @@ use Rattle.fields.specs.declared.fault.Verdict.the-variants.{Accepted, Refused}
 use Rattle.fields.specs.Tests.{jobAt}
 use Rattle.frame.specs.Reading.{accepted, readSheet, stored, sheetOf}
 use Rattle.frame.proofs.AcceptedLaws.{accepted-sound}
-use Rattle.algorithm.specs.Day.{Day, dayOf, longJob}
+use Rattle.algorithm.specs.Day.{dayOf, longJob}
 use Rattle.algorithm.specs.SoundDay.{SoundDay}
 use Rattle.algorithm.specs.Answer.{Answer, fault, answerTo}
 use Rattle.run.specs.StartArrays.{filled, Fields}

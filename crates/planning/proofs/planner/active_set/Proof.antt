@@ -1,10 +1,8 @@
 -- The set of the marks.
-use mathlib.Core.Path.{_≡_, refl, sym, ap, subst, _∙_}
-use Prim.Native.Nat.{ℕ}
+use mathlib.Core.Path.{ap, _∙_}
 use mathlib.Core.Bool.{Bool, false}
 use mathlib.Core.List.{List}
-use native.Mathlib.Omega.{arith}
-use lib.ListN.{length, getD, replicate, length-replicate, getD-replicate}
+use lib.ListN.{getD}
 use Rattle.run.specs.TableArrays.{setUpTo}
 use borrow.Author.Needs.{needs}
 use Rattle.planning.proofs.planner.active_set.Statement.{statement}

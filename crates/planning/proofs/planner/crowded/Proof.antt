@@ -1,10 +1,7 @@
 -- The component, as a set (DayRun).
-use mathlib.Core.Path.{_≡_, refl, sym, ap, subst, _∙_}
-use Prim.Native.Nat.{ℕ}
 use mathlib.Core.Bool.{Bool, false}
-use mathlib.Core.List.{List}
 use native.Mathlib.Omega.{arith}
-use lib.ListN.{length, getD, replicate, length-replicate, getD-replicate}
+use lib.ListN.{length-replicate, getD-replicate}
 use Rattle.planning.proofs.DayRun.{crowded-set}
 use borrow.Author.Needs.{needs}
 use Rattle.planning.proofs.planner.crowded.Statement.{statement}
@@ -23,7 +20,7 @@ set-of-requires : tie.Need-set-of-requires
 set-of-requires c κs = search needs
 
 returns : tie.Need-returns
-returns c = λ d R below. crowded-set d (c .before .before .before .before .before .before .before .args .n .benches) (c .before .before .before .before .before .before .before .args .v) (c .before .before .before .component .last .1 .1 .1 .1 .0) (R .benches) (R .few-benches) (c .before .before .before .component .ensures d R below (omega (arith, length-replicate {A = Bool} 64 false, R .few-benches)) (λ u l. getD-replicate {A = Bool} 64 u false false (omega (arith, R .few-benches)))) (c .set-of .ensures)
+returns c = λ d R below. let at-args = c .before .before .before .before .before .before .before .args in let at-component = c .before .before .before .component in crowded-set d (at-args .n .benches) (at-args .v) (at-component .last .1 .1 .1 .1 .0) (R .benches) (R .few-benches) (at-component .ensures d R below (omega (arith, length-replicate {A = Bool} 64 false, R .few-benches)) (λ u l. getD-replicate {A = Bool} 64 u false false (omega (arith, R .few-benches)))) (c .set-of .ensures)
 
 pub crowded-spec : {M : Type 1} → statement M
 crowded-spec =

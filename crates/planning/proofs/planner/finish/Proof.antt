@@ -1,10 +1,10 @@
 -- By whether a bench is overloaded at the last state (PlanRun).
-use mathlib.Core.Path.{_≡_, refl, sym, ap, subst, _∙_}
+use mathlib.Core.Path.{refl, sym, ap, _∙_}
 use Prim.Native.Nat.{ℕ}
 use mathlib.Core.Bool.{Bool, false}
 use mathlib.Core.List.{List}
 use native.Mathlib.Omega.{arith}
-use lib.ListN.{length, getD, replicate, length-replicate, getD-replicate}
+use lib.ListN.{getD, replicate, length-replicate}
 use Rattle.planning.proofs.PlanRun.{last-rocks, finish-none, settled-places, finish-plan}
 use Rattle.algorithm.specs.Run.{boardOf, explored}
 use Rattle.run.specs.StartArrays.{filled}
@@ -20,7 +20,7 @@ active-set-requires : tie.Need-active-set-requires
 active-set-requires c κs = search needs
 
 returns : tie.Need-returns
-returns c = λ d weights amount pebbles allowed R F jobs-are L rp rl. finish-none d (c .before .before .before .before .before .before .before .before .before .before .before .before .before .before .before .args .n) (c .before .before .before .before .before .before .before .before .before .before .before .before .before .before .before .args .low .now) (c .before .before .before .before .before .before .before .before .before .before .before .before .before .before .before .args .high .now) weights amount pebbles allowed R (c .before .before .before .before .before .before .before .before .before .before .before .before .before .before .before .args .t1) L (replicate 64 false) (filled (c .before .before .before .before .before .before .before .before .before .before .before .before .before .before .before .args .n .benches) (withinAt (c .before .before .before .before .before .before .before .before .before .before .before .before .before .before .before .args .n .benches) (c .before .before .before .before .before .before .before .before .before .before .before .before .before .before .before .args .t1 .level)) (replicate 64 false)) (c .before .before .before .before .before .before .before .before .before .before .before .before .before .before .before .args .places .now) (c .before .before .before .before .before .before .before .before .before .before .before .before .before .before .before .args .loads .now) (c .before .before .before .before .before .congested .ensures) (c .before .before .before .before .if1 .taken) (omega (arith, length-replicate {A = Bool} 64 false, R .few-benches)) refl (c .active-set .ensures)
+returns c = λ d weights amount pebbles allowed R F jobs-are L rp rl. let at-args = c .before .before .before .before .before .before .before .before .before .before .before .before .before .before .before .args in finish-none d (at-args .n) (at-args .low .now) (at-args .high .now) weights amount pebbles allowed R (at-args .t1) L (replicate 64 false) (filled (at-args .n .benches) (withinAt (at-args .n .benches) (at-args .t1 .level)) (replicate 64 false)) (at-args .places .now) (at-args .loads .now) (c .before .before .before .before .before .congested .ensures) (c .before .before .before .before .if1 .taken) (omega (arith, length-replicate {A = Bool} 64 false, R .few-benches)) refl (c .active-set .ensures)
 
 slice-aggregate-settle : tie.Need-slice-aggregate-settle
 slice-aggregate-settle c = search needs
@@ -50,7 +50,7 @@ same-length-2 : tie.Need-same-length-2
 same-length-2 c = search needs
 
 returns-2 : tie.Need-returns-2
-returns-2 c = λ d weights amount pebbles allowed R F jobs-are L rp rl. finish-plan d (c .before .before .before .before .before .before .before .before .before .before .before .before .before .before .before .before .before .before .before .before .before .before .before .before .before .before .before .before .args .n) (c .before .before .before .before .before .before .before .before .before .before .before .before .before .before .before .before .before .before .before .before .before .before .before .before .before .before .before .before .args .low .now) (c .before .before .before .before .before .before .before .before .before .before .before .before .before .before .before .before .before .before .before .before .before .before .before .before .before .before .before .before .args .high .now) weights amount pebbles allowed R (c .before .before .before .before .before .before .before .before .before .before .before .before .before .before .before .before .before .before .before .before .before .before .before .before .before .before .before .before .args .t1) L (c .before .before .before .before .before .before .before .before .before .before .before .before .before .before .before .before .before .before .congested .ensures) (c .before .before .before .before .before .before .before .before .before .before .before .before .before .before .before .before .before .if1 .left) _ (c .before .before .before .before .before .before .before .before .before .before .before .before .before .before .before .before .before .before .before .before .before .before .before .before .before .before .before .before .args .places .now) (c .before .before .before .before .before .before .before .before .before .before .before .before .before .before .before .before .before .before .before .before .before .before .before .before .before .before .before .before .args .loads .now) _ _ (λ ps e one-each. c .before .before .before .before .write-plan .ensures d allowed F (R .unbooked) (R .benches) rp rl ps one-each (λ j h. settled-places d (c .before .before .before .before .before .before .before .before .before .before .before .before .before .before .before .before .before .before .before .before .before .before .before .before .before .before .before .before .args .n) (c .before .before .before .before .before .before .before .before .before .before .before .before .before .before .before .before .before .before .before .before .before .before .before .before .before .before .before .before .args .low .now) (c .before .before .before .before .before .before .before .before .before .before .before .before .before .before .before .before .before .before .before .before .before .before .before .before .before .before .before .before .args .high .now) weights amount pebbles allowed R (c .before .before .before .before .before .before .before .before .before .before .before .before .before .before .before .before .before .before .before .before .before .before .before .before .before .before .before .before .args .t1) L (c .before .before .before .before .before .before .before .before .before .before .before .before .before .before .before .before .before .before .before .before .before .before .before .before .before .before .before .before .args .job .now) _ _ jobs-are (c .before .before .before .before .before .before .before .before .before .before .before .before .before .before .settle .ensures (boardOf d (L .state)) weights (explored d (L .state) .dir) (last-rocks d (c .before .before .before .before .before .before .before .before .before .before .before .before .before .before .before .before .before .before .before .before .before .before .before .before .before .before .before .before .args .n) (c .before .before .before .before .before .before .before .before .before .before .before .before .before .before .before .before .before .before .before .before .before .before .before .before .before .before .before .before .args .low .now) (c .before .before .before .before .before .before .before .before .before .before .before .before .before .before .before .before .before .before .before .before .before .before .before .before .before .before .before .before .args .high .now) weights amount pebbles allowed R (c .before .before .before .before .before .before .before .before .before .before .before .before .before .before .before .before .before .before .before .before .before .before .before .before .before .before .before .before .args .t1) L) (L .shown .seen .directed)) (c .before .before .before .before .before .before .before .before .before .place-rocks .ensures) j h ∙ ap (λ (xs : List ℕ). getD xs j 0) (sym e)))
+returns-2 c = λ d weights amount pebbles allowed R F jobs-are L rp rl. let at-args = c .before .before .before .before .before .before .before .before .before .before .before .before .before .before .before .before .before .before .before .before .before .before .before .before .before .before .before .before .args in finish-plan d (at-args .n) (at-args .low .now) (at-args .high .now) weights amount pebbles allowed R (at-args .t1) L (c .before .before .before .before .before .before .before .before .before .before .before .before .before .before .before .before .before .before .congested .ensures) (c .before .before .before .before .before .before .before .before .before .before .before .before .before .before .before .before .before .if1 .left) _ (at-args .places .now) (at-args .loads .now) _ _ (λ ps e one-each. c .before .before .before .before .write-plan .ensures d allowed F (R .unbooked) (R .benches) rp rl ps one-each (λ j h. settled-places d (at-args .n) (at-args .low .now) (at-args .high .now) weights amount pebbles allowed R (at-args .t1) L (at-args .job .now) _ _ jobs-are (c .before .before .before .before .before .before .before .before .before .before .before .before .before .before .settle .ensures (boardOf d (L .state)) weights (explored d (L .state) .dir) (last-rocks d (at-args .n) (at-args .low .now) (at-args .high .now) weights amount pebbles allowed R (at-args .t1) L) (L .shown .seen .directed)) (c .before .before .before .before .before .before .before .before .before .place-rocks .ensures) j h ∙ ap (λ (xs : List ℕ). getD xs j 0) (sym e)))
 
 pub finish-spec : {M : Type 1} → statement M
 finish-spec =

@@ -1,10 +1,4 @@
 -- By cases on the verdict (SheetRun).
-use mathlib.Core.Path.{_≡_, refl, sym, ap, subst, _∙_}
-use Prim.Native.Nat.{ℕ}
-use mathlib.Core.Bool.{Bool, false}
-use mathlib.Core.List.{List}
-use native.Mathlib.Omega.{arith}
-use lib.ListN.{length, getD, replicate, length-replicate, getD-replicate}
 use Rattle.planning.proofs.SheetRun.{refused-answer, accepted-answer}
 use borrow.Author.Needs.{needs}
 use Rattle.planning.proofs.planner.plan.Statement.{statement}
@@ -23,7 +17,7 @@ plan-sheet-requires : tie.Need-plan-sheet-requires
 plan-sheet-requires c κs = search needs
 
 returns : tie.Need-returns
-returns c = refused-answer (c .before .before .before .before .before .before .before .args .s .now) _ _ (c .before .before .before .before .before .before .before .args .places .now) (c .before .before .before .before .before .before .before .args .loads .now) (c .before .before .before .read .ensures) (c .before .verdict .given .1)
+returns c = let at-args = c .before .before .before .before .before .before .before .args in refused-answer (at-args .s .now) _ _ (at-args .places .now) (at-args .loads .now) (c .before .before .before .read .ensures) (c .before .verdict .given .1)
 
 same-length : tie.Need-same-length
 same-length c = search needs
@@ -32,7 +26,7 @@ same-length-2 : tie.Need-same-length-2
 same-length-2 c = search needs
 
 returns-2 : tie.Need-returns-2
-returns-2 c = accepted-answer (c .before .before .before .before .before .before .before .before .before .before .before .before .before .before .args .s .now) _ _ (c .before .before .before .before .before .before .before .before .before .before .before .before .before .before .args .places .now) (c .before .before .before .before .before .before .before .before .before .before .before .before .before .before .args .loads .now) (c .before .before .before .before .before .before .before .before .before .before .read .result) (c .before .before .before .before .before .before .before .before .before .before .read .ensures) (c .before .before .before .before .before .before .before .before .enum-told .given .1) (c .before .before .before .before .plan-sheet .ensures)
+returns-2 c = let at-args = c .before .before .before .before .before .before .before .before .before .before .before .before .before .before .args in let at-read = c .before .before .before .before .before .before .before .before .before .before .read in accepted-answer (at-args .s .now) _ _ (at-args .places .now) (at-args .loads .now) (at-read .result) (at-read .ensures) (c .before .before .before .before .before .before .before .before .enum-told .given .1) (c .before .before .before .before .plan-sheet .ensures)
 
 pub plan-spec : {M : Type 1} → statement M
 plan-spec =

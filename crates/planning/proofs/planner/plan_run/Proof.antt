@@ -1,10 +1,7 @@
 -- The start, the rocks that are left, the turns, and the answer at the last state (PlanRun, DayRun).
-use mathlib.Core.Path.{_≡_, refl, sym, ap, subst, _∙_}
 use Prim.Native.Nat.{ℕ}
-use mathlib.Core.Bool.{Bool, false}
-use mathlib.Core.List.{List}
 use native.Mathlib.Omega.{arith}
-use lib.ListN.{length, getD, replicate, length-replicate, getD-replicate}
+use lib.ListN.{replicate, length-replicate}
 use Rattle.planning.proofs.PlanRun.{begun, ready}
 use Rattle.planning.proofs.DayRun.{budget-is, run-answer}
 use Rattle.run.proofs.ComponentRun.{cycles-are}
@@ -74,7 +71,7 @@ same-length-2 : tie.Need-same-length-2
 same-length-2 c = search needs
 
 returns : tie.Need-returns
-returns c = λ d F unbooked D J balance-is rocks amounts pebbly eb es el short sparse rp rl. let P = c .before .before .before .before .before .before .before .before .before .before .before .before .before .before .before .before .before .before .before .before .before .before .before .before .before .before .before .before .before .before .start .ensures .1 d (c .before .before .before .before .before .before .before .before .before .before .before .before .before .before .before .before .before .before .before .before .before .before .before .before .before .before .before .before .before .before .before .before .before .before .before .before .before .before .before .before .before .args .minutes .now) F D J (cycles-are d (c .before .before .before .before .before .before .before .before .before .before .before .before .before .before .before .before .before .before .before .before .before .before .before .before .before .before .before .before .before .before .before .before .before .before .before .before .before .before .before .before .before .args .balance .now) balance-is) rocks in let m : Limits = record { benches = c .before .before .before .before .before .before .before .before .before .before .before .before .before .before .before .before .before .before .before .before .before .before .before .before .before .before .before .before .before .before .before .before .before .before .before .before .before .before .before .before .before .args .n .benches; jobs = c .before .before .before .before .before .before .before .before .before .before .before .before .before .before .before .before .before .before .before .before .before .before .before .before .before .before .before .before .before .before .before .before .before .before .before .before .before .before .before .before .before .args .n .jobs; rocks = c .before .before .before .before .before .before .before .before .before .before .before .before .before .before .before .before .before .before .before .before .before .before .before .gather .result; bound = c .before .before .before .before .before .before .before .before .before .before .before .before .before .before .before .before .before .before .before .before .before .before .before .before .before .before .before .before .before .before .before .before .before .before .before .before .before .before .before .before .before .args .n .bound; small = c .before .before .before .before .before .before .before .before .before .before .before .before .before .before .before .before .before .before .before .before .before .before .before .before .before .before .before .before .before .before .before .before .before .before .before .before .before .before .before .before .before .args .n .small; limit = c .before .before .before .before .before .before .before .before .before .before .before .before .before .before .before .before .before .before .before .before .before .before .before .before .before .before .before .before .before .before .before .before .before .before .before .before .before .before .before .before .before .args .n .limit } in let (R, mine) = ready d (c .before .before .before .before .before .before .before .before .before .before .before .before .before .before .before .before .before .before .before .before .before .before .before .before .before .before .before .before .before .before .before .before .before .before .before .before .before .before .before .before .before .args .n) m (c .before .before .before .before .before .before .before .before .before .before .before .before .before .before .before .before .before .before .before .before .before .before .before .before .before .before .before .before .before .before .before .before .before .before .before .before .before .before .before .before .before .args .minutes .now) (c .before .before .before .before .before .before .before .before .before .before .before .before .before .before .before .before .before .before .before .before .before .before .before .before .before .before .before .before .before .before .before .before .before .before .before .before .before .before .before .before .before .args .allowed .now) F unbooked (D .sound) short sparse (c .before .before .before .before .before .before .before .before .before .before .before .before .before .before .before .before .before .before .before .before .before .before .before .before .before .before .before .before .before .before .start .result .left) (c .before .before .before .before .before .before .before .before .before .before .before .before .before .before .before .before .before .before .before .before .before .before .before .before .before .before .before .before .before .before .start .result .place) P _ _ _ (c .before .before .before .before .before .before .before .before .before .before .before .before .before .before .before .before .before .before .before .before .before .before .before .before .before .before .before .before .before .before .before .before .before .before .before .before .before .before .before .before .before .args .amount .now) _ (replicate 64 0) (replicate 64 0) (replicate 64 0) (replicate 64 0) (c .before .before .before .before .before .before .before .before .before .before .before .before .before .before .before .before .before .before .before .before .before .before .before .before .before .before .before .before .before .before .before .before .before .before .before .before .before .before .before .before .before .args .pebble .now) (D .benches) (D .jobs) eb es el (c .before .before .before .before .before .before .before .before .before .before .before .before .before .before .before .before .before .before .before .before .before .before .before .gather .ensures .0) (omega (arith, length-replicate {A = ℕ} 64 0)) (omega (arith, length-replicate {A = ℕ} 64 0)) (omega (arith, length-replicate {A = ℕ} 64 0)) (omega (arith, length-replicate {A = ℕ} 64 0)) (c .before .before .before .before .before .before .before .before .before .before .before .before .before .before .before .before .before .before .before .before .before .before .before .gather .ensures .1) (c .before .before .before .before .before .before .before .before .before .before .before .before .before .before .before .before .before .before .before .before .before .before .before .gather .ensures .2) (c .before .before .before .before .before .before .before .before .before .before .before .before .before .before .before .before .before .before .before .before .before .before .before .gather .ensures .3) (c .before .before .before .before .before .before .before .before .before .before .before .before .before .before .before .before .before .pick .ensures) amounts pebbly in let L = c .before .before .before .before .before .before .before .before .before .before .turns .ensures d R (begun d (c .before .before .before .before .before .before .before .before .before .before .before .before .before .before .before .before .before .before .before .before .before .before .before .before .before .before .before .before .before .before .before .before .before .before .before .before .before .before .before .before .before .args .n) m (c .before .before .before .before .before .before .before .before .before .before .before .before .before .before .before .before .before .before .before .before .before .before .before .before .before .before .before .before .before .before .before .before .before .before .before .before .before .before .before .before .before .args .minutes .now) (c .before .before .before .before .before .before .before .before .before .before .before .before .before .before .before .before .before .before .before .before .before .before .before .before .before .before .before .before .before .before .before .before .before .before .before .before .before .before .before .before .before .args .allowed .now) F unbooked (D .sound) short sparse (c .before .before .before .before .before .before .before .before .before .before .before .before .before .before .before .before .before .before .before .before .before .before .before .before .before .before .before .before .before .before .start .result .left) (c .before .before .before .before .before .before .before .before .before .before .before .before .before .before .before .before .before .before .before .before .before .before .before .before .before .before .before .before .before .before .start .result .place) P) (c .before .before .before .before .before .before .before .before .before .before .before .before .before .before .before .before .before .before .before .before .before .before .before .before .before .before .before .before .before .before .start .ensures .0) (budget-is d (c .before .before .before .before .before .before .before .before .before .before .before .before .before .before .before .before .before .before .before .before .before .before .before .before .before .before .before .before .before .before .before .before .before .before .before .before .before .before .before .before .before .args .n .jobs) (c .before .before .before .before .before .before .before .before .before .before .before .before .before .before .before .before .before .before .before .before .before .before .before .before .before .before .before .before .before .before .before .before .before .before .before .before .before .before .before .before .before .args .n .benches) (c .before .before .before .before .before .before .before .before .before .before .before .before .before .before .before .before .before .before .before .before .before .before .before .before .before .before .before .before .before .before .before .before .before .before .before .before .before .before .before .before .before .args .minutes .now) (c .before .before .before .before .before .before .before .before .before .before .before .before .before .before .before .before .before .before .before .before .before .before .before .before .before .before .before .before .before .before .before .before .before .before .before .before .before .before .before .before .before .args .allowed .now) F (D .benches) (c .before .before .before .before .before .before .before .before .before .before .before .before .before .before .before .before .before .before .before .before .before .before .before .before .before .before .before .before .before .before .before .before .before .before .before .before .before .before .before .before .before .args .pebble .now) pebbly (c .before .before .before .before .before .before .before .before .before .before .before .before .before .before .before .count .ensures) (c .before .before .before .before .before .before .before .before .before .before .before .before .before .before .times .ensures)) in run-answer d short sparse _ (c .before .before .before .before .before .before .before .before .before .before .before .before .before .before .before .before .before .before .before .before .before .before .before .before .before .before .before .before .before .before .before .before .before .before .before .before .before .before .before .before .before .args .places .now) (c .before .before .before .before .before .before .before .before .before .before .before .before .before .before .before .before .before .before .before .before .before .before .before .before .before .before .before .before .before .before .before .before .before .before .before .before .before .before .before .before .before .args .loads .now) _ _ (c .before .before .before .before .finish .ensures d _ (c .before .before .before .before .before .before .before .before .before .before .before .before .before .before .before .before .before .before .before .before .before .before .before .before .before .before .before .before .before .before .before .before .before .before .before .before .before .before .before .before .before .args .amount .now) (c .before .before .before .before .before .before .before .before .before .before .before .before .before .before .before .before .before .before .before .before .before .before .before .before .before .before .before .before .before .before .before .before .before .before .before .before .before .before .before .before .before .args .pebble .now) (c .before .before .before .before .before .before .before .before .before .before .before .before .before .before .before .before .before .before .before .before .before .before .before .before .before .before .before .before .before .before .before .before .before .before .before .before .before .before .before .before .before .args .allowed .now) R F mine L rp rl)
+returns c = λ d F unbooked D J balance-is rocks amounts pebbly eb es el short sparse rp rl. let at-start = c .before .before .before .before .before .before .before .before .before .before .before .before .before .before .before .before .before .before .before .before .before .before .before .before .before .before .before .before .before .before .start in let at-args = c .before .before .before .before .before .before .before .before .before .before .before .before .before .before .before .before .before .before .before .before .before .before .before .before .before .before .before .before .before .before .before .before .before .before .before .before .before .before .before .before .before .args in let at-gather = c .before .before .before .before .before .before .before .before .before .before .before .before .before .before .before .before .before .before .before .before .before .before .before .gather in let P = at-start .ensures .1 d (at-args .minutes .now) F D J (cycles-are d (at-args .balance .now) balance-is) rocks in let m : Limits = record { benches = at-args .n .benches; jobs = at-args .n .jobs; rocks = at-gather .result; bound = at-args .n .bound; small = at-args .n .small; limit = at-args .n .limit } in let (R, mine) = ready d (at-args .n) m (at-args .minutes .now) (at-args .allowed .now) F unbooked (D .sound) short sparse (at-start .result .left) (at-start .result .place) P _ _ _ (at-args .amount .now) _ (replicate 64 0) (replicate 64 0) (replicate 64 0) (replicate 64 0) (at-args .pebble .now) (D .benches) (D .jobs) eb es el (at-gather .ensures .0) (omega (arith, length-replicate {A = ℕ} 64 0)) (omega (arith, length-replicate {A = ℕ} 64 0)) (omega (arith, length-replicate {A = ℕ} 64 0)) (omega (arith, length-replicate {A = ℕ} 64 0)) (at-gather .ensures .1) (at-gather .ensures .2) (at-gather .ensures .3) (c .before .before .before .before .before .before .before .before .before .before .before .before .before .before .before .before .before .pick .ensures) amounts pebbly in let L = c .before .before .before .before .before .before .before .before .before .before .turns .ensures d R (begun d (at-args .n) m (at-args .minutes .now) (at-args .allowed .now) F unbooked (D .sound) short sparse (at-start .result .left) (at-start .result .place) P) (at-start .ensures .0) (budget-is d (at-args .n .jobs) (at-args .n .benches) (at-args .minutes .now) (at-args .allowed .now) F (D .benches) (at-args .pebble .now) pebbly (c .before .before .before .before .before .before .before .before .before .before .before .before .before .before .before .count .ensures) (c .before .before .before .before .before .before .before .before .before .before .before .before .before .before .times .ensures)) in run-answer d short sparse _ (at-args .places .now) (at-args .loads .now) _ _ (c .before .before .before .before .finish .ensures d _ (at-args .amount .now) (at-args .pebble .now) (at-args .allowed .now) R F mine L rp rl)
 
 pub plan-run-spec : {M : Type 1} → statement M
 plan-run-spec =

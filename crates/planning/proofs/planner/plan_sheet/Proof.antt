@@ -1,10 +1,8 @@
 -- Fault 13, or the answer to the day (SheetRun).
-use mathlib.Core.Path.{_≡_, refl, sym, ap, subst, _∙_}
+use mathlib.Core.Path.{refl, ap}
 use Prim.Native.Nat.{ℕ}
-use mathlib.Core.Bool.{Bool, false}
-use mathlib.Core.List.{List}
 use native.Mathlib.Omega.{arith}
-use lib.ListN.{length, getD, replicate, length-replicate, getD-replicate}
+use lib.ListN.{replicate, length-replicate}
 use Rattle.planning.proofs.SheetRun.{fields-of, sound-of, short-places, short-loads, long-enough}
 use Rattle.fields.specs.declared.sheet.Sheet.{Sheet}
 use Rattle.algorithm.specs.Day.{dayOf}
@@ -13,10 +11,10 @@ use Rattle.planning.proofs.planner.plan_sheet.Statement.{statement}
 use Rattle.planning.proofs.planner.plan_sheet.Tie as tie
 
 returns : tie.Need-returns
-returns c = λ bytes h js read same. short-places bytes h js (c .before .before .before .before .args .t1) read same _ _ (omega arith) (c .before .before .before .before .args .places .now) (c .before .before .before .before .args .loads .now)
+returns c = λ bytes h js read same. let at-args = c .before .before .before .before .args in short-places bytes h js (at-args .t1) read same _ _ (omega arith) (at-args .places .now) (at-args .loads .now)
 
 returns-2 : tie.Need-returns-2
-returns-2 c = λ bytes h js read same. short-loads bytes h js (c .before .before .before .before .before .args .t1) read same _ _ (omega arith) (omega arith) (c .before .before .before .before .before .args .places .now) (c .before .before .before .before .before .args .loads .now)
+returns-2 c = λ bytes h js read same. let at-args = c .before .before .before .before .before .args in short-loads bytes h js (at-args .t1) read same _ _ (omega arith) (omega arith) (at-args .places .now) (at-args .loads .now)
 
 slice-aggregate-narrow : tie.Need-slice-aggregate-narrow
 slice-aggregate-narrow c = search needs
@@ -46,7 +44,7 @@ same-length-2 : tie.Need-same-length-2
 same-length-2 c = search needs
 
 returns-3 : tie.Need-returns-3
-returns-3 c = λ bytes h js read same. long-enough bytes h js (c .before .before .before .before .before .before .before .before .before .before .before .before .before .before .before .before .before .before .before .before .before .before .before .before .before .before .args .t1) read same _ _ (omega arith) (omega arith) _ (c .before .before .before .before .before .before .before .before .before .before .before .before .before .before .before .before .before .before .before .before .before .before .before .before .before .before .args .places .now) (c .before .before .before .before .before .before .before .before .before .before .before .before .before .before .before .before .before .before .before .before .before .before .before .before .before .before .args .loads .now) _ _ (c .before .before .before .before .plan-day .ensures (dayOf h js) (fields-of bytes h js (c .before .before .before .before .before .before .before .before .before .before .before .before .before .before .before .before .before .before .before .before .before .before .before .before .before .before .args .t1) read same (replicate 512 0) (replicate 512 0) (omega (arith, length-replicate {A = ℕ} 512 0)) (omega (arith, length-replicate {A = ℕ} 512 0)) (c .before .before .before .before .before .before .before .before .before .before .before .before .before .before .before .before .narrow .ensures) (c .before .before .before .before .before .before .before .before .before .before .narrow2 .ensures)) (λ v. refl) (ap (λ (y : Sheet). y .head .benches) same) (ap (λ (y : Sheet). y .head .p) same) (ap (λ (y : Sheet). y .head .q) same) (ap (λ (y : Sheet). y .head .target) same) (sound-of bytes h js (c .before .before .before .before .before .before .before .before .before .before .before .before .before .before .before .before .before .before .before .before .before .before .before .before .before .before .args .t1) read same) (omega (arith, ap (λ (y : Sheet). y .count) same)) (omega (arith, ap (λ (y : Sheet). y .head .benches) same)))
+returns-3 c = λ bytes h js read same. let at-args = c .before .before .before .before .before .before .before .before .before .before .before .before .before .before .before .before .before .before .before .before .before .before .before .before .before .before .args in long-enough bytes h js (at-args .t1) read same _ _ (omega arith) (omega arith) _ (at-args .places .now) (at-args .loads .now) _ _ (c .before .before .before .before .plan-day .ensures (dayOf h js) (fields-of bytes h js (at-args .t1) read same (replicate 512 0) (replicate 512 0) (omega (arith, length-replicate {A = ℕ} 512 0)) (omega (arith, length-replicate {A = ℕ} 512 0)) (c .before .before .before .before .before .before .before .before .before .before .before .before .before .before .before .before .narrow .ensures) (c .before .before .before .before .before .before .before .before .before .before .narrow2 .ensures)) (λ v. refl) (ap (λ (y : Sheet). y .head .benches) same) (ap (λ (y : Sheet). y .head .p) same) (ap (λ (y : Sheet). y .head .q) same) (ap (λ (y : Sheet). y .head .target) same) (sound-of bytes h js (at-args .t1) read same) (omega (arith, ap (λ (y : Sheet). y .count) same)) (omega (arith, ap (λ (y : Sheet). y .head .benches) same)))
 
 pub plan-sheet-spec : {M : Type 1} → statement M
 plan-sheet-spec =

@@ -1,10 +1,7 @@
 -- The loads added up, and both tables filled (PlanRun).
-use mathlib.Core.Path.{_≡_, refl, sym, ap, subst, _∙_}
-use Prim.Native.Nat.{ℕ}
 use mathlib.Core.Bool.{Bool, false}
-use mathlib.Core.List.{List}
 use native.Mathlib.Omega.{arith}
-use lib.ListN.{length, getD, replicate, length-replicate, getD-replicate}
+use lib.ListN.{replicate, getD-replicate}
 use Rattle.planning.proofs.PlanRun.{plan-written}
 use Rattle.planning.proofs.DayRun.{from-zero}
 use Rattle.sums.specs.Sum.{sum}
@@ -44,7 +41,7 @@ same-length-2 : tie.Need-same-length-2
 same-length-2 c = search needs
 
 returns : tie.Need-returns
-returns c = λ d allowed F unbooked eb rp rl ps one-each are. plan-written d (c .before .before .before .before .before .before .before .before .before .before .before .before .before .before .before .before .before .before .before .args .jobs) (c .before .before .before .before .before .before .before .before .before .before .before .before .before .before .before .before .before .before .before .args .minutes .now) allowed F unbooked (c .before .before .before .before .before .before .before .before .before .before .before .before .before .before .before .before .before .before .before .args .place .now) ps one-each are (replicate 512 false) (λ j h. getD-replicate {A = Bool} 512 j false false (omega (arith, F .bounded .few-jobs))) (c .before .before .before .before .before .before .before .before .before .before .before .before .before .before .before .before .before .before .before .args .benches) (c .before .before .before .before .before .before .before .before .before .before .before .before .before .before .before .before .before .before .before .args .moves) (c .before .before .before .before .before .before .before .before .before .before .before .before .own-loads .last .1 .1 .1 .1 .0) (c .before .before .before .before .before .before .before .before .before .before .before .before .before .before .before .before .before .before .before .args .places .now) (c .before .before .before .before .before .before .before .before .before .before .before .before .before .before .before .before .before .before .before .args .loads .now) eb rp rl (from-zero (d .benches) 64 (c .before .before .before .before .before .before .before .before .before .before .before .before .own-loads .last .1 .1 .1 .1 .0) (λ v. sum (c .before .before .before .before .before .before .before .before .before .before .before .before .before .before .before .before .before .before .before .args .jobs) (amountOn (c .before .before .before .before .before .before .before .before .before .before .before .before .before .before .before .before .before .before .before .args .minutes .now) (replicate 512 false) (c .before .before .before .before .before .before .before .before .before .before .before .before .before .before .before .before .before .before .before .args .place .now) v)) (F .bounded .few-benches) (c .before .before .before .before .before .before .before .before .before .before .before .before .own-loads .ensures)) (c .before .before .before .before .before .before .before .before .before .widen .ensures) (c .before .before .before .before .widen2 .ensures) (c .greatest .ensures)
+returns c = λ d allowed F unbooked eb rp rl ps one-each are. let at-args = c .before .before .before .before .before .before .before .before .before .before .before .before .before .before .before .before .before .before .before .args in let at-own-loads = c .before .before .before .before .before .before .before .before .before .before .before .before .own-loads in plan-written d (at-args .jobs) (at-args .minutes .now) allowed F unbooked (at-args .place .now) ps one-each are (replicate 512 false) (λ j h. getD-replicate {A = Bool} 512 j false false (omega (arith, F .bounded .few-jobs))) (at-args .benches) (at-args .moves) (at-own-loads .last .1 .1 .1 .1 .0) (at-args .places .now) (at-args .loads .now) eb rp rl (from-zero (d .benches) 64 (at-own-loads .last .1 .1 .1 .1 .0) (λ v. sum (at-args .jobs) (amountOn (at-args .minutes .now) (replicate 512 false) (at-args .place .now) v)) (F .bounded .few-benches) (at-own-loads .ensures)) (c .before .before .before .before .before .before .before .before .before .widen .ensures) (c .before .before .before .before .widen2 .ensures) (c .greatest .ensures)
 
 pub write-plan-spec : {M : Type 1} → statement M
 write-plan-spec =
