@@ -12,14 +12,14 @@
 use Prim.Native.Nat.{ℕ, _+_, _*_, _≤_, _<_}
 use mathlib.Core.Path.{_≡_, refl, sym}
 use mathlib.Core.Logic.{_≢_, inl, inr}
-use mathlib.Core.Bool.{Bool, true, not, _&&_}
+use mathlib.Core.Bool.{Bool, true, false, not, _&&_}
 use mathlib.Core.List.{List}
 use native.Mathlib.Omega.{arith}
 use native.Mathlib.Nat.{mul-le-mul-left, mul-le-mul-right}
 use lib.ListN.{length}
 use lib.Dec.{eqb, ltb}
 use borrow.Author.Tests.{ltb-true, leb-true, leb-false, eq-eqb, ne-eqb}
-use Rattle.bools.proofs.BoolLaws.{split, clash, and-left, or-elim, not-true}
+use Rattle.bools.proofs.BoolLaws.{split, clash, and-left}
 use Rattle.bools.proofs.OrderLaws.{eq-or-ne}
 use Rattle.sums.specs.Sum.{on, sum}
 use Rattle.sums.proofs.SumLaws.{sum-gap, sum-at, sum-add, sum-le, on-le}
@@ -31,7 +31,7 @@ use Rattle.fields.specs.declared.sheet.Job.{Job}
 use Rattle.fields.specs.Format.{allows}
 use Rattle.fields.specs.Tests.{jobAt}
 use Rattle.frame.specs.Sound.{SoundHead}
-use Rattle.blocking.specs.Demand.{minutesOf, allowed, heavyJob, lightJob, isAssignment, Assignment, loadOf, withinTarget, keepsTarget, Placement, liesInside, weightInside, Blocking, LongJob}
+use Rattle.blocking.specs.Demand.{minutesOf, allowed, heavyJob, lightJob, isAssignment, Assignment, loadOf, withinTarget, keepsTarget, Placement, keptInside, liesInside, weightInside, Blocking, LongJob}
 
 pub assignment-tested : (h : Head) (js : List Job) (a : ℕ → ℕ) → Assignment h js a → isAssignment h js a ≡ true
 assignment-tested h js a assigned = all-intro (length js) (λ j. allowed h js j (a j)) (assigned .on-allowed)
@@ -65,9 +65,11 @@ module _ (h : Head) (js : List Job) (a : ℕ → ℕ) (assigned : Assignment h j
       light-part j = on (lightJob h js j && liesInside h js set j) (minutesOf js j)
 
       inside-on : (j : ℕ) → j < length js → liesInside h js set j ≡ true → set (a j) ≡ true
-      inside-on j l i = elim (or-elim (not (allowed h js j (a j))) (set (a j)) (all-elim (h .benches) _ i (a j) (assigned-below j l))) [
-        | inl out ↦ clash (assigned .on-allowed j l) (not-true _ out)
-        | inr there ↦ there
+      inside-on j l i = elim (split (set (a j))) [
+        | inl there ↦ there
+        | inr out ↦
+            let leaves : keptInside h js set j (a j) ≡ false = rw (assigned .on-allowed j l, out) in
+            clash (all-elim (h .benches) (keptInside h js set j) i (a j) (assigned-below j l)) leaves
       ]
 
       light-carried : (j : ℕ) → j < length js → on (liesInside h js set j) (minutesOf js j) ≤ on (set (a j)) (minutesOf js j)

@@ -6,7 +6,7 @@
 use Prim.Native.Nat.{ℕ, _*_, _≤_, _<_}
 use mathlib.Core.Path.{_≡_, sym, ap, _∙_}
 use mathlib.Core.Logic.{inl, inr}
-use mathlib.Core.Bool.{Bool, true, not, _&&_, _||_}
+use mathlib.Core.Bool.{Bool, true, _&&_}
 use mathlib.Core.List.{List}
 use native.Mathlib.Nat.{zero-add}
 use native.Mathlib.Omega.{arith}
@@ -28,7 +28,7 @@ use Rattle.fields.specs.Format.{allows}
 use Rattle.fields.specs.Tests.{jobAt}
 use Rattle.algorithm.specs.Day.{dayOf}
 use Rattle.algorithm.specs.Answer.{loadOf as dayLoad, loadsOf, largestOf}
-use Rattle.blocking.specs.Demand.{Assignment, loadOf, withinBound, keepsBound, Placement, allowed, heavyJob, lightJob, liesInside, minutesOf, Blocking, moveBound}
+use Rattle.blocking.specs.Demand.{Assignment, loadOf, withinBound, keepsBound, Placement, heavyJob, lightJob, keptInside, liesInside, minutesOf, Blocking, moveBound}
 use Rattle.blocking.specs.Answers.{placeIn, oneOf, SoundPlan, SoundNone}
 
 -- ── the list of a set's benches ──
@@ -64,7 +64,7 @@ module _ (h : Head) (js : List Job) where
       light-same : sum (length js) (λ j. on (lightJob h js j && liesInside h js f j) (minutesOf js j))
           ≡ sum (length js) (λ j. on (lightJob h js j && liesInside h js g j) (minutesOf js j))
       light-same = sum-cong (length js) _ _ (λ j l. ap (λ (b : Bool). on (lightJob h js j && b) (minutesOf js j))
-          (all-cong (h .benches) _ _ (λ v lv. ap (λ (b : Bool). not (allowed h js j v) || b) (same v lv))))
+          (all-cong (h .benches) (keptInside h js f j) (keptInside h js g j) (λ v lv. rw (same v lv))))
 
   pub none-shown : (set : ℕ → Bool) (moves : ℕ) → Blocking h js set → moves ≤ moveBound h js → SoundNone h js (members (h .benches) set) moves
   none-shown set moves blocks few =

@@ -8,6 +8,7 @@
 --     withinTarget h n, withinBound h n       the load n is at most the target; it is within the demand's bound
 --     keepsTarget, keepsBound     every bench of an assignment is so
 --     Placement               each heavy job on an allowed bench, no bench taking two
+--     keptInside h js set j v     job j may not go to v, or v is in the set
 --     liesInside h js set j   all allowed benches of job j lie in the set
 --     weightInside            what weighs inside a set, for a placement
 --     Blocking                the blocking sets
@@ -78,9 +79,13 @@ pub record Placement (h : Head) (js : List Job) (place : ℕ → ℕ) : Type 0 w
   pub on-allowed : (j : ℕ) → j < length js → heavyJob h js j ≡ true → allowed h js j (place j) ≡ true
   pub one-to-a-bench : (e f : ℕ) → e < length js → f < length js → heavyJob h js e ≡ true → heavyJob h js f ≡ true → place e ≡ place f → e ≡ f
 
+-- Job j may not go to bench v, or v is inside.
+abbrev pub keptInside : Head → List Job → (ℕ → Bool) → ℕ → ℕ → Bool
+keptInside h js set j v = not (allowed h js j v) || set v
+
 -- "light jobs whose benches all lie inside it"
 abbrev pub liesInside : Head → List Job → (ℕ → Bool) → ℕ → Bool
-liesInside h js set j = all (h .benches) (λ v. not (allowed h js j v) || set v)
+liesInside h js set j = all (h .benches) (keptInside h js set j)
 
 -- "the heavy jobs placed inside it, plus all light jobs whose benches all lie inside it"
 abbrev pub weightInside : Head → List Job → (ℕ → ℕ) → (ℕ → Bool) → ℕ
