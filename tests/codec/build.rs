@@ -1,10 +1,14 @@
-//! Links the archives that `rt staticlib yinqocha` and `rt staticlib inspect` write into the two
+//! Links the archives that `rt staticlib yinqocha` and `rt staticlib inspect` write into the
 //! programs that call them. YINQOCHA_ARCHIVES names another folder to take them from.
 
 use std::{env, path::PathBuf};
 
-const ARCHIVES: [&str; 2] = ["libyinqocha.a", "libinspect.a"];
-const PROGRAMS: [&str; 2] = ["codec", "bench"];
+/// Each program and the archives that it calls.
+const CODEC: [(&str, &[&str]); 2] =
+    [("codec", &["libyinqocha.a", "libinspect.a"]), ("bench", &["libyinqocha.a", "libinspect.a"])];
+/// The same for those that call them with the feature `library` only.
+const PLANNING: [(&str, &[&str]); 2] =
+    [("plan", &["libyinqocha.a"]), ("plan_bench", &["libyinqocha.a"])];
 
 fn main() {
     println!("cargo:rerun-if-changed=build.rs");
@@ -14,10 +18,12 @@ fn main() {
         Ok(folder) => PathBuf::from(folder),
         Err(_) => package.join("../../target/staticlib"),
     };
-    for archive in ARCHIVES {
-        let path = folder.join(archive);
-        println!("cargo:rerun-if-changed={}", path.display());
-        for program in PROGRAMS {
+    let linked = env::var_os("CARGO_FEATURE_LIBRARY").is_some();
+    let planning = PLANNING.into_iter().filter(|_| linked);
+    for (program, archives) in CODEC.into_iter().chain(planning) {
+        for archive in archives {
+            let path = folder.join(archive);
+            println!("cargo:rerun-if-changed={}", path.display());
             println!("cargo:rustc-link-arg-bin={program}={}", path.display());
         }
     }

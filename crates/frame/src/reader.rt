@@ -66,14 +66,6 @@ pub fn read(s: &[u8]) -> Reading
         }
         at = next;
     }
-    ended(stage, at, sheet)
-}
-
-// After the last frame, at byte `at`: the sheet, unless it has fault 2 or 12.
-fn ended(stage: Stage, at: usize, sheet: Sheet) -> Reading
-    requires { ⌜ (sheet .head .p < 128) × (sheet .head .q < 128) × ((n : ℕ) → n < sheet .count → getD (sheet .minutes) n 0 < 2 ^ 20) ⌝ }
-    ensures { λ r. ⌜ r ≡ readingOf (endVerdict stage at (sheet .head) (jobTable (sheet .count) (sheet .minutes) (sheet .allowed))) sheet ⌝ }
-{
     let head = sheet.head;
     let count = sheet.count;
     match finish(stage, at, head, count, &sheet.minutes, &sheet.allowed) {

@@ -3,6 +3,7 @@
 //! is cleared between calls.
 
 mod door;
+mod empty;
 
 use codec::gen::day::{few_benches, many_benches, Day};
 use codec::gen::tables::Tables;
@@ -10,7 +11,7 @@ use codec::model::door::{table_bytes, Codec};
 use codec::model::sheet::{Head, Job, MAX_JOBS};
 use codec::model::writer::sheet_bytes;
 use codec::rng::Rng;
-use door::Empty;
+use empty::Empty;
 use std::hint::black_box;
 use std::time::Instant;
 

@@ -1,7 +1,8 @@
 //! One sheet through the library and through the model, compared byte by byte. The first
 //! difference ends the run.
 
-use crate::door::{self, Empty};
+use crate::door;
+use crate::empty::Empty;
 use crate::guarded::Guarded;
 use crate::tally::Tally;
 use codec::gen::tables::Tables;

@@ -5,6 +5,7 @@
 
 mod check;
 mod door;
+mod empty;
 mod fixed_reading;
 mod fixed_writing;
 mod guarded;

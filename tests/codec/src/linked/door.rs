@@ -1,7 +1,7 @@
 //! The static library's two functions, and safe wrappers.
 
+use crate::empty::Empty;
 use codec::model::sheet::Head;
-use std::ptr;
 
 extern "C" {
     fn yinqocha_write(
@@ -23,31 +23,6 @@ extern "C" {
         table: *mut u8,
         table_len: usize,
     ) -> u64;
-}
-
-/// What a buffer of length 0 has for its pointer.
-#[derive(Clone, Copy, Debug, PartialEq, Eq)]
-pub enum Empty {
-    Null,
-    Pointer,
-}
-
-impl Empty {
-    fn input(self, buffer: &[u8]) -> *const u8 {
-        if buffer.is_empty() && self == Empty::Null {
-            ptr::null()
-        } else {
-            buffer.as_ptr()
-        }
-    }
-
-    fn output(self, buffer: &mut [u8]) -> *mut u8 {
-        if buffer.is_empty() && self == Empty::Null {
-            ptr::null_mut()
-        } else {
-            buffer.as_mut_ptr()
-        }
-    }
 }
 
 pub fn write(head: Head, minutes: &[u8], allowed: &[u8], out: &mut [u8], empty: Empty) -> u64 {

@@ -1,6 +1,8 @@
 -- `read`: the loop keeps ReadState: what reading the sheet gives is what reading on from here gives. Each way through the body is a
 -- law of ReadState.
 use borrow.Author.Needs.{needs}
+use Rattle.fields.specs.declared.fault.Verdict.{Verdict}
+use Rattle.frame.specs.Steps.{readingOf}
 use Prim.Native.Nat.{_-_, _<_}
 use mathlib.Core.Path.{sym, ap, _∙_}
 use native.Mathlib.Omega.{arith}
@@ -140,15 +142,31 @@ loop-again-4 c =
     let l = c .before .before .before .before .before .before .before .loop in
     state-end s (l .sheet) (l .stage) (l .at) (l .inv) (c .before .before .before .before .before .before .loop-test .taken) _ (next-is s (l .at) (c .before .before .before .before .frame-size .result) (c .before .before .before .before .frame-size .ensures .0)) (found-is s (l .sheet) (l .stage) (l .at) (l .inv) _ _ (c .before .before .frame-at .ensures) (c .enum-told2 .given .1))
 
-ended-requires : tie.Need-ended-requires Inv-loop μ-loop
-ended-requires c κs =
-    let l = c .before .loop in
-    (l .inv .p-fits, l .inv .q-fits, state-minutes (now (c .before .before .before .before .before .args .s)) (l .sheet) (l .stage) (l .at) (l .inv))
+finish-requires : tie.Need-finish-requires Inv-loop μ-loop
+finish-requires c κs =
+    let l = c .before .before .before .before .before .before .before .loop in
+    (l .inv .p-fits, l .inv .q-fits, state-minutes (now (c .before .before .before .before .before .before .before .before .before .before .before .args .s)) (l .sheet) (l .stage) (l .at) (l .inv))
+
+enum-known-f-2 : tie.Need-enum-known-f-2 Inv-loop μ-loop
+enum-known-f-2 c = search needs
+
+refusal-requires-3 : tie.Need-refusal-requires-3 Inv-loop μ-loop
+refusal-requires-3 c κs = search needs
+
+enum-told-3 : tie.Need-enum-told-3 Inv-loop μ-loop
+enum-told-3 c = search needs
 
 returns-3 : tie.Need-returns-3 Inv-loop μ-loop
 returns-3 c =
-    let l = c .before .before .loop in
-    state-over (now (c .before .before .before .before .before .before .args .s)) (l .sheet) (l .stage) (l .at) (l .inv) (c .before .loop-test .left) _ (c .ended .ensures)
+    let l = c .before .before .before .before .before .before .before .before .before .before .before .before .loop in
+    state-over (now (c .before .before .before .before .before .before .before .before .before .before .before .before .before .before .before .before .args .s)) (l .sheet) (l .stage) (l .at) (l .inv) (c .before .before .before .before .before .before .before .before .before .before .before .loop-test .left) _
+    (c .refusal3 .ensures ∙ sym (ap (λ (v : Verdict). readingOf v (l .sheet)) (sym (c .before .before .before .before .finish .ensures) ∙ c .before .before .f2 .given .1)))
+
+returns-4 : tie.Need-returns-4 Inv-loop μ-loop
+returns-4 c =
+    let l = c .before .before .before .before .before .before .before .before .before .before .loop in
+    state-over (now (c .before .before .before .before .before .before .before .before .before .before .before .before .before .before .args .s)) (l .sheet) (l .stage) (l .at) (l .inv) (c .before .before .before .before .before .before .before .before .before .loop-test .left) _
+    (sym (ap (λ (v : Verdict). readingOf v (l .sheet)) (sym (c .before .before .finish .ensures) ∙ c .enum-told3 .given .1)))
 
 pub read-spec : {M : Type 1} → statement M
 read-spec =
@@ -189,5 +207,9 @@ read-spec =
     loop-again-3
     loop-less-4
     loop-again-4
-    ended-requires
-    returns-3)
+    finish-requires
+    enum-known-f-2
+    refusal-requires-3
+    enum-told-3
+    returns-3
+    returns-4)

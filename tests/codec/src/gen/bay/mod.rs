@@ -1,0 +1,20 @@
+//! Days for the run: heavy jobs in all shapes, light jobs with choices, targets at the edges.
+//!
+//! - `weights`: minutes at and between the limits of a head.
+//! - `heavy`: pairs of benches for heavy jobs: chains, cycles, trees, parallel and crowded ones.
+//! - `light`: sets of benches for light jobs.
+//! - `days`: whole days, tiny to full, and ones made from an assignment within T.
+//! - `tight`: days with benches at the limits.
+//! - `turning`: targets around the one where none turns to plan.
+//! - `slow`: full days with many moves.
+
+pub mod days;
+pub mod heavy;
+pub mod light;
+pub mod slow;
+pub mod tight;
+pub mod turning;
+pub mod weights;
+
+#[cfg(test)]
+mod bay_tests;
