@@ -1,10 +1,11 @@
 /*
- * yinqocha.h - sheets of the bay planner
+ * yinqocha.h - sheets and plans of the bay planner
  *
  * A sheet holds one day of a depot's test bay: how many benches there are, the share p/q, the
  * target T in minutes, and the jobs, each with its minutes and the benches that may take it. A
  * program that has these as plain numbers, such as the depot's screen program, writes a sheet with
- * yinqocha_write(). Link it with libyinqocha.a (x86-64).
+ * yinqocha_write(), has it planned with yinqocha_plan(), and tells whether two plans of it come to
+ * the same with yinqocha_compare(). Link it with libyinqocha.a (x86-64).
  *
  * This header is the manual. It says first what holds of every call, then what the numbers mean,
  * then describes each function. Jobs and benches count from 0.
@@ -14,7 +15,9 @@
  *
  * The caller lends every buffer for the time of the call. The library keeps no pointer, takes
  * nothing from the heap, and has no state. Threads may call it at the same time as long as none
- * writes to a buffer that another is using. The buffers of one call must not overlap.
+ * writes to a buffer that another is using. A buffer that a call writes must overlap no other
+ * buffer of the call. A thread that plans needs about 140 KiB of stack, one that compares about
+ * 72 KiB, one that only writes about 20 KiB.
  *
  * A buffer is a pointer and a length in bytes, and the pointer may have any alignment. NULL with
  * length 0 is an empty buffer. The library reads no byte behind a buffer's length and writes none.
@@ -31,7 +34,9 @@
  *     uint64_t minutes[3] = { 5, 5, 5 };
  *     ... (const uint8_t *)minutes, sizeof minutes ...
  *
- * Bytes that a table lacks count as 0.
+ * In a table that is read a begun entry counts, and the bytes that it lacks are 0. In a table that
+ * is written only whole entries count as room, length / 8 of them; a call writes entries from the
+ * first on, and every other byte keeps its contents.
  *
  *
  * THE RESULT WORD
@@ -102,7 +107,10 @@ extern "C" {
 /* A job allows three or more benches and q * minutes > p * W, with W the longest job's minutes (the
  * lowest such job, read or written). */
 #define YINQOCHA_LONG_JOB_WITH_CHOICE 12u
-/* A table or an output that the call fills is too short (0). Writing: the sheet does not fit. */
+/* A table or an output that the call fills is too short (0). Writing: the sheet does not fit.
+ * Planning: there are fewer places than jobs, fewer loads than benches, or fewer than two numbers
+ * for the answer. Comparing: a list does not give each job one bench that it allows (0 for the
+ * first list, 1 for the second). */
 #define YINQOCHA_NO_ROOM 13u
 
 /*
@@ -114,8 +122,10 @@ extern "C" {
 #define YINQOCHA_MAX_TARGET 1073741823u /* 2^30 - 1 */
 #define YINQOCHA_MAX_MINUTES 1048575u   /* 2^20 - 1 */
 
-/* The bit of bench b, 0 to 63, among the benches that a job allows. */
+/* A set of benches is a number of 64 bits: the benches that a job allows, and the blocking set of
+ * an answer. The bit of bench b, 0 to 63, and whether bench b is in a set. */
 #define YINQOCHA_BENCH(b) (UINT64_C(1) << (63 - (b)))
+#define YINQOCHA_HAS_BENCH(set, b) (((uint64_t)(set) & YINQOCHA_BENCH(b)) != 0)
 
 /* The length in bytes of a sheet with n jobs: the head has 10, each job 14, the end 3. It is a
  * size_t. */
@@ -162,6 +172,93 @@ uint64_t yinqocha_write(uint64_t benches, uint64_t p, uint64_t q, uint64_t targe
                         const uint8_t *minutes, size_t minutes_len,
                         const uint8_t *allowed, size_t allowed_len,
                         uint8_t *out, size_t out_len);
+
+/*
+ * PLANNING A SHEET
+ *
+ * The planner tries the sheet's target T and gives one of three answers.
+ *
+ *   plan   each job has one of its benches, and no bench is loaded above the bound:
+ *          3q * load <= (5q + p) * T
+ *   long   a job has more than T minutes, so no assignment keeps every bench within T
+ *   none   a set of benches is blocking, so no assignment keeps every bench within T
+ *
+ * If some assignment keeps every bench within T, the answer is a plan.
+ *
+ * In:
+ *   sheet     the bytes of a sheet
+ *
+ * Out:
+ *   places    a table: entry j is the bench of job j. Written for a plan only.
+ *   loads     a table: entry b is the load of bench b in minutes. Written for a plan only.
+ *   answer    a table of two entries:
+ *
+ *                       first entry         second entry
+ *             plan      the largest load    the moves made
+ *             long      the lowest such job 0
+ *             none      the blocking set    the moves made
+ *
+ *   result    YINQOCHA_PLAN, YINQOCHA_LONG or YINQOCHA_NONE
+ *
+ * Every table must have its room whatever the answer will be: places one entry for each job, loads
+ * one for each bench, answer two. Later bytes of a table keep their contents, and after long and
+ * none all of places and loads does.
+ *
+ * Faults: 1, then 2 to 11 frame by frame, then 12, then 13. After a fault all three tables keep
+ * their contents. YINQOCHA_MAX_JOBS places and YINQOCHA_MAX_BENCHES loads always have room.
+ *
+ * Example: the sheet of the example above is planned with all jobs on bench 0.
+ *
+ *     uint64_t places[YINQOCHA_MAX_JOBS], loads[YINQOCHA_MAX_BENCHES];
+ *     uint64_t answer[YINQOCHA_ANSWER_ENTRIES];
+ *     word = yinqocha_plan(sheet, sizeof sheet, (uint8_t *)places, sizeof places,
+ *                          (uint8_t *)loads, sizeof loads, (uint8_t *)answer, sizeof answer);
+ *     if (word == YINQOCHA_PLAN)
+ *         printf("largest load %" PRIu64 "\n", answer[0]);
+ *     else if (word == YINQOCHA_LONG)
+ *         printf("job %" PRIu64 " is too long\n", answer[0]);
+ *     else if (word == YINQOCHA_NONE)
+ *         for (unsigned b = 0; b < YINQOCHA_MAX_BENCHES; b++)
+ *             if (YINQOCHA_HAS_BENCH(answer[0], b))
+ *                 printf("bench %u is blocked\n", b);
+ */
+#define YINQOCHA_PLAN 1u
+#define YINQOCHA_LONG 2u
+#define YINQOCHA_NONE 3u
+
+/* The entries of an answer table. */
+#define YINQOCHA_ANSWER_ENTRIES 2u
+
+uint64_t yinqocha_plan(const uint8_t *sheet, size_t sheet_len,
+                       uint8_t *places, size_t places_len,
+                       uint8_t *loads, size_t loads_len,
+                       uint8_t *answer, size_t answer_len);
+
+/*
+ * COMPARING TWO PLANS
+ *
+ * Two plans of one sheet count as the same when every bench has the same load.
+ *
+ * In:
+ *   sheet     the bytes of a sheet
+ *   first     a table: entry j is the bench of job j in the first plan
+ *   second    the same for the second plan
+ *
+ * Each list has one entry for each job, no more and no fewer; pass 8 * jobs bytes of a longer
+ * table. The lists need not come from yinqocha_plan(), and both may be one buffer.
+ *
+ * Out:
+ *   result    YINQOCHA_SAME or YINQOCHA_DIFFERENT
+ *
+ * Faults: those of the sheet, 1 to 12 as above; then 13 with place 0 if the first list does not
+ * give each job one bench that it allows, and then 13 with place 1 if the second does not.
+ */
+#define YINQOCHA_DIFFERENT 0u
+#define YINQOCHA_SAME 1u
+
+uint64_t yinqocha_compare(const uint8_t *sheet, size_t sheet_len,
+                          const uint8_t *first, size_t first_len,
+                          const uint8_t *second, size_t second_len);
 
 #ifdef __cplusplus
 }

@@ -1,6 +1,8 @@
 /*
- * The C door, from C: example 12's bytes, each fault of the writer, empty buffers, and outputs that
- * fit exactly or lack one byte. From the repository root, after `rt staticlib yinqocha`:
+ * The C door, from C. Writing: example 12's bytes, each fault of the writer, empty buffers, and
+ * outputs that fit exactly or lack one byte. Planning: sheets that were written, with each of the
+ * three answers, and tables that fit exactly or lack one byte. Comparing: plans, and lists that are
+ * none. From the repository root, after `rt staticlib yinqocha`:
  *
  *     gcc -std=c11 -Wall -Wextra -Werror -Iinclude tests/c/door.c \
  *         target/staticlib/libyinqocha.a -o target/door
@@ -162,12 +164,171 @@ static void empty_buffers(void)
     printf("door: NULL with length 0 is an empty buffer\n");
 }
 
+/* A table between its guards. */
+struct table {
+    uint8_t bytes[GUARD + 8 * YINQOCHA_MAX_JOBS + GUARD];
+};
+
+static struct table places, loads, answer;
+
+static uint8_t *table_start(struct table *table)
+{
+    return table->bytes + GUARD;
+}
+
+static uint64_t table_entry(struct table *table, size_t n)
+{
+    uint64_t number = 0;
+    for (size_t i = 8; i-- > 0;)
+        number = number << 8 | table_start(table)[8 * n + i];
+    return number;
+}
+
+/* Nothing of the table was written but its first `entries` entries. */
+static void require_entries(const struct table *table, size_t entries, const char *what)
+{
+    for (size_t i = 0; i < sizeof table->bytes; i++)
+        if (i < GUARD || i >= GUARD + 8 * entries)
+            require(table->bytes[i] == FILL, what);
+}
+
+/* The sheet of the fields is written, and planned with tables of these lengths in bytes. */
+static uint64_t plan_fields(const struct fields *fields, size_t places_len, size_t loads_len,
+                            size_t answer_len)
+{
+    uint64_t length = write_fields(fields, sizeof buffer - 2 * GUARD);
+    require(YINQOCHA_FAULT(length) == YINQOCHA_OK, "a sheet to plan");
+    memset(&places, FILL, sizeof places);
+    memset(&loads, FILL, sizeof loads);
+    memset(&answer, FILL, sizeof answer);
+    uint64_t word = yinqocha_plan(out, (size_t)length, table_start(&places), places_len,
+                                  table_start(&loads), loads_len, table_start(&answer), answer_len);
+    require_untouched_after((size_t)length, "the sheet's guards");
+    return word;
+}
+
+static void plans(void)
+{
+    /* Example 8: four jobs of 2 on both benches, T = 4; job 0 moves to bench 1. */
+    struct fields fields = example_5(4);
+    fields.target = 4;
+    for (size_t j = 0; j < 4; j++)
+        fields.minutes[j] = 2;
+    const uint64_t benches[] = { 1, 0, 0, 0 };
+    require(plan_fields(&fields, 32, 16, 16) == YINQOCHA_PLAN, "example 8: a plan");
+    for (size_t j = 0; j < 4; j++)
+        require(table_entry(&places, j) == benches[j], "example 8: places");
+    require(table_entry(&loads, 0) == 6 && table_entry(&loads, 1) == 2, "example 8: loads");
+    require(table_entry(&answer, 0) == 6, "example 8: largest load");
+    require(table_entry(&answer, 1) == 1, "example 8: moves");
+    require_entries(&places, 4, "example 8: behind the places");
+    require_entries(&loads, 2, "example 8: behind the loads");
+    require_entries(&answer, YINQOCHA_ANSWER_ENTRIES, "example 8: behind the answer");
+    require(plan_fields(&fields, 47, 31, 4096) == YINQOCHA_PLAN, "longer tables: a plan");
+    require_entries(&places, 4, "longer tables: later places");
+    require_entries(&loads, 2, "longer tables: later loads");
+    require_entries(&answer, YINQOCHA_ANSWER_ENTRIES, "longer tables: behind the answer");
+    printf("door: a plan has its places, loads and numbers, later bytes are untouched\n");
+}
+
+static void long_and_none(void)
+{
+    struct fields fields = example_5(3);
+    fields.target = 8;
+    fields.minutes[1] = 9;
+    require(plan_fields(&fields, 24, 16, 16) == YINQOCHA_LONG, "long");
+    require(table_entry(&answer, 0) == 1 && table_entry(&answer, 1) == 0, "long: job 1, and 0");
+    require_entries(&places, 0, "long: places");
+    require_entries(&loads, 0, "long: loads");
+    require_entries(&answer, YINQOCHA_ANSWER_ENTRIES, "long: behind the answer");
+    fields.minutes[1] = 5;
+    require(plan_fields(&fields, 24, 16, 16) == YINQOCHA_NONE, "example 4: none");
+    uint64_t set = table_entry(&answer, 0);
+    require(set == (YINQOCHA_BENCH(0) | YINQOCHA_BENCH(1)), "example 4: benches 0 and 1");
+    require(YINQOCHA_HAS_BENCH(set, 1) && !YINQOCHA_HAS_BENCH(set, 2), "example 4: bench by bench");
+    require(table_entry(&answer, 1) == 0, "example 4: moves");
+    require_entries(&places, 0, "example 4: places");
+    require_entries(&loads, 0, "example 4: loads");
+    require_entries(&answer, YINQOCHA_ANSWER_ENTRIES, "example 4: behind the answer");
+    printf("door: long and none have their two numbers, places and loads are untouched\n");
+}
+
+static void require_plan_fault(uint64_t word, uint32_t number, uint32_t place, const char *what)
+{
+    require(YINQOCHA_FAULT(word) == number, what);
+    require(YINQOCHA_VALUE(word) == place, what);
+    require_entries(&places, 0, what);
+    require_entries(&loads, 0, what);
+    require_entries(&answer, 0, what);
+}
+
+static void plan_faults(void)
+{
+    struct fields fields = example_5(3);
+    require(plan_fields(&fields, 24, 16, 16) == YINQOCHA_PLAN, "tables that fit exactly");
+    require_plan_fault(plan_fields(&fields, 23, 16, 16), YINQOCHA_NO_ROOM, 0, "places too short");
+    require_plan_fault(plan_fields(&fields, 24, 15, 16), YINQOCHA_NO_ROOM, 0, "loads too short");
+    require_plan_fault(plan_fields(&fields, 24, 16, 15), YINQOCHA_NO_ROOM, 0, "answer too short");
+    fields.target = 4;
+    require_plan_fault(plan_fields(&fields, 24, 16, 8), YINQOCHA_NO_ROOM, 0, "before long");
+    uint64_t word = yinqocha_plan(example_12, sizeof example_12 - 1, table_start(&places), 0,
+                                  table_start(&loads), 0, table_start(&answer), 0);
+    require_plan_fault(word, YINQOCHA_SHEET_CUT, sizeof example_12 - 3, "a sheet cut off");
+    word = yinqocha_plan(NULL, 0, NULL, 0, NULL, 0, NULL, 0);
+    require_plan_fault(word, YINQOCHA_SHEET_CUT, 0, "no sheet");
+    word = yinqocha_plan(example_12, sizeof example_12, NULL, 0, NULL, 0, NULL, 0);
+    require_plan_fault(word, YINQOCHA_NO_ROOM, 0, "no tables");
+    printf("door: planning has the sheet's faults, then fault 13; the tables are untouched\n");
+}
+
+static uint64_t compare_lists(const uint64_t *first, size_t first_len, const uint64_t *second,
+                              size_t second_len)
+{
+    return yinqocha_compare(example_12, sizeof example_12, (const uint8_t *)first, first_len,
+                            (const uint8_t *)second, second_len);
+}
+
+static void require_list_fault(uint64_t word, uint32_t place, const char *what)
+{
+    require(YINQOCHA_FAULT(word) == YINQOCHA_NO_ROOM, what);
+    require(YINQOCHA_VALUE(word) == place, what);
+}
+
+static void comparisons(void)
+{
+    struct fields fields = example_5(3);
+    require(plan_fields(&fields, 24, 16, 16) == YINQOCHA_PLAN, "example 5: a plan");
+    const uint64_t planned[] = { table_entry(&places, 0), table_entry(&places, 1),
+                                 table_entry(&places, 2), 0 };
+    static const uint64_t all_on_0[] = { 0, 0, 0 }, last_on_1[] = { 0, 0, 1 };
+    static const uint64_t first_on_1[] = { 1, 0, 0 }, no_bench[] = { 0, 2, 0 };
+    static uint64_t many[YINQOCHA_MAX_JOBS + 2];
+    require(compare_lists(planned, 24, all_on_0, 24) == YINQOCHA_SAME, "the plan and its places");
+    require(compare_lists(planned, 24, last_on_1, 24) == YINQOCHA_DIFFERENT, "other loads");
+    require(compare_lists(first_on_1, 24, last_on_1, 24) == YINQOCHA_SAME, "the same loads");
+    require(compare_lists(planned, 17, all_on_0, 24) == YINQOCHA_SAME, "a begun entry counts");
+    require_list_fault(compare_lists(no_bench, 24, no_bench, 24), 0, "first list: no such bench");
+    require_list_fault(compare_lists(planned, 24, no_bench, 24), 1, "second list: no such bench");
+    require_list_fault(compare_lists(planned, 16, planned, 24), 0, "first list: too short");
+    require_list_fault(compare_lists(planned, 24, planned, 25), 1, "second list: too long");
+    require_list_fault(compare_lists(planned, 24, many, sizeof many), 1, "second list: 514 places");
+    require_list_fault(compare_lists(NULL, 0, NULL, 0), 0, "no lists");
+    uint64_t word = yinqocha_compare(NULL, 0, NULL, 0, NULL, 0);
+    require(YINQOCHA_FAULT(word) == YINQOCHA_SHEET_CUT, "no sheet to compare on");
+    require(YINQOCHA_VALUE(word) == 0, "no sheet to compare on: place");
+    printf("door: plans are compared by their loads, and a list that is none is fault 13\n");
+}
+
 int main(void)
 {
     example_sheet();
     faults();
     room();
     empty_buffers();
+    plans();
+    long_and_none();
+    plan_faults();
+    comparisons();
     printf("door: all checks hold\n");
     return EXIT_SUCCESS;
 }

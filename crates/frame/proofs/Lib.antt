@@ -14,3 +14,4 @@ pub mod WriterSteps
 pub mod AcceptedLaws
 pub mod EnoughJobs
 pub mod Places
+pub mod Stored

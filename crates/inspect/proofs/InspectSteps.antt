@@ -6,7 +6,6 @@
 --     jobs-none, jobs-more    no job makes no numbers; a job's two numbers behind those of the first i
 --     all-put                 the numbers of the head and then those of the jobs
 -- What was read:
---     stored-refused          a reading that refuses: the sheet is refused for that fault
 --     Stored, stored-accepted     a reading that accepts: what its sheet holds
 -- What is returned:
 --     fault-shown, no-room, all-shown     a fault, a table that is too short, and the numbers
@@ -29,10 +28,11 @@ use Rattle.fields.specs.declared.fault.Fault.{Fault}
 use Rattle.fields.specs.declared.fault.Fault.the-variants.{Table}
 use Rattle.fields.specs.declared.fault.Verdict.the-variants.{Accepted, Refused}
 use Rattle.fields.specs.Tests.{jobTable}
-use Rattle.frame.specs.Reading.{Read, accepted, refused, readSheet, stored, sheetOf}
+use Rattle.frame.specs.Reading.{accepted, readSheet, stored, sheetOf}
 use Rattle.frame.proofs.WriterSteps.{written, written-after}
 use Rattle.frame.proofs.SheetArrays.{length-padded, table-padded}
 use Rattle.frame.proofs.Places.{read-jobs}
+use Rattle.frame.proofs.Stored.{verdict-refused, verdict-accepted}
 use Rattle.yinqocha.specs.Door.{faultWord}
 use Rattle.inspect.specs.Inspect.{jobNumbers, numbersRead, sizeRead, inspectWord, inspectTable}
 
@@ -121,25 +121,6 @@ all-put t h js n first second =
 
 -- ── what was read ──
 
-apart {ℓ} : {A : Type ℓ} {f : Fault} → Accepted ≡ Refused f → A
-apart e = let z : _≡_ {A = ℕ} 0 1 = cc in absurd (omega arith)
-
-same-fault : {g f : Fault} → Refused g ≡ Refused f → g ≡ f
-same-fault e = cc
-
-verdict-refused : (r : Read) {f : Fault} → stored r .verdict ≡ Refused f → r ≡ refused f
-unfolding stored
-verdict-refused (accepted h js) a = apart a
-verdict-refused (refused g) a = ap refused (same-fault a)
-
-pub stored-refused : (r : Read) {x : Reading} {f : Fault} → x ≡ stored r → x .verdict ≡ Refused f → r ≡ refused f
-stored-refused r e a = verdict-refused r (sym (ap (λ (y : Reading). y .verdict) e) ∙ a)
-
-verdict-accepted : (r : Read) → stored r .verdict ≡ Accepted → (h : Head) × (js : List Job) × (r ≡ accepted h js) × (stored r .sheet ≡ sheetOf h js)
-unfolding stored
-verdict-accepted (accepted h js) a = (h, js, refl, refl)
-verdict-accepted (refused f) a = apart (sym a)
-
 pub record Stored (s : List ℕ) (x : Sheet) : Type 0 where
   pub jobs : List Job
   pub sheet-read : readSheet s ≡ accepted (x .head) jobs
@@ -151,10 +132,10 @@ pub record Stored (s : List ℕ) (x : Sheet) : Type 0 where
 
 pub stored-accepted : (s : List ℕ) {x : Reading} → x ≡ stored (readSheet s) → x .verdict ≡ Accepted → Stored s (x .sheet)
 stored-accepted s {x} e a =
-    let q = verdict-accepted (readSheet s) (sym (ap (λ (y : Reading). y .verdict) e) ∙ a) in
+    let q = verdict-accepted (readSheet s) x e a in
     let js : List Job = q .1 in
     let few = read-jobs s (q .0) js (q .2) in
-    let same : x .sheet ≡ sheetOf (q .0) js = ap (λ (y : Reading). y .sheet) e ∙ q .3 in
+    let same : x .sheet ≡ sheetOf (q .0) js = q .3 in
     record {
       jobs = js;
       sheet-read = q .2 ∙ ap (λ (h : Head). accepted h js) (sym (ap (λ (y : Sheet). y .head) same));
@@ -173,7 +154,7 @@ Shown s t r after = (r ≡ inspectWord (readSheet s) (length t)) × (after ≡ i
 module _ (s t : List ℕ) where
   pub fault-shown : {x : Reading} {f : Fault} {r : ℕ} → x ≡ stored (readSheet s) → x .verdict ≡ Refused f → r ≡ faultWord f → Shown s t r t
   unfolding inspectWord inspectTable
-  fault-shown e a w = let q = stored-refused (readSheet s) e a in (rw q w, rw q)
+  fault-shown e a w = let q = verdict-refused (readSheet s) e a in (rw q w, rw q)
 
   module _ (x : Sheet) (k : Stored s x) where
     size : sizeRead (k .jobs) ≡ 32 + 16 * x .count

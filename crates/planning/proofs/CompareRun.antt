@@ -30,9 +30,10 @@ use Rattle.fields.specs.declared.fault.Fault.{Fault}
 use Rattle.fields.specs.declared.fault.Fault.the-variants.{Table}
 use Rattle.fields.specs.declared.fault.Verdict.the-variants.{Accepted, Refused}
 use Rattle.fields.specs.Tests.{jobAt}
-use Rattle.frame.specs.Reading.{Read, accepted, refused, readSheet, stored, sheetOf}
+use Rattle.frame.specs.Reading.{accepted, readSheet, stored, sheetOf}
 use Rattle.frame.proofs.AcceptedLaws.{accepted-sound}
 use Rattle.frame.proofs.SheetArrays.{getD-padded}
+use Rattle.frame.proofs.Stored.{verdict-refused, verdict-accepted}
 use Rattle.algorithm.specs.Day.{dayOf}
 use Rattle.algorithm.specs.Answer.{loadOf}
 use Rattle.planning.specs.declared.answer.Compared.{Compared}
@@ -207,22 +208,6 @@ module _ (h : Head) (js : List Job) (benches jobs : ℕ) (minutes allowed : List
 
 -- ── the bytes ──
 
-apart {ℓ} : {A : Type ℓ} {f : Fault} → Accepted ≡ Refused f → A
-apart e = let z : _≡_ {A = ℕ} 0 1 = cc in absurd (omega arith)
-
-same-fault : {g f : Fault} → Refused g ≡ Refused f → g ≡ f
-same-fault e = cc
-
-pub verdict-refused : (r : Read) {f : Fault} → stored r .verdict ≡ Refused f → r ≡ refused f
-unfolding stored
-verdict-refused (accepted h js) a = apart a
-verdict-refused (refused g) a = ap refused (same-fault a)
-
-pub verdict-accepted : (r : Read) → stored r .verdict ≡ Accepted → (h : Head) × (js : List Job) × (r ≡ accepted h js) × (stored r .sheet ≡ sheetOf h js)
-unfolding stored
-verdict-accepted (accepted h js) a = (h, js, refl, refl)
-verdict-accepted (refused f) a = apart (sym a)
-
 pub tables-of : (s : List ℕ) (h : Head) (js : List Job) (x : Sheet) → readSheet s ≡ accepted h js → x ≡ sheetOf h js
     → Tables h js (x .head .benches) (x .count) (x .minutes) (x .allowed)
 tables-of s h js x e same =
@@ -238,7 +223,7 @@ module _ (s first second : List ℕ) where
   pub refused-is : {x : Reading} {f : Fault} → x ≡ stored (readSheet s) → x .verdict ≡ Refused f → ComparedFault f ≡ comparePlans s first second
   unfolding comparePlans
   refused-is e a =
-      rw (verdict-refused (readSheet s) (sym (ap (λ (y : Reading). y .verdict) e) ∙ a), comparePlans)
+      rw (verdict-refused (readSheet s) e a, comparePlans)
 
   pub accepted-is : (x : Reading) {r : Compared} → x ≡ stored (readSheet s) → x .verdict ≡ Accepted
       → ((h : Head) → (js : List Job) → Tables h js (x .sheet .head .benches) (x .sheet .count) (x .sheet .minutes) (x .sheet .allowed)
@@ -246,5 +231,5 @@ module _ (s first second : List ℕ) where
       → r ≡ comparePlans s first second
   unfolding comparePlans
   accepted-is x e a told =
-      let (h, js, read, same) = verdict-accepted (readSheet s) (sym (ap (λ (y : Reading). y .verdict) e) ∙ a) in
-      rw (read, comparePlans) (told h js (tables-of s h js (x .sheet) read (ap (λ (y : Reading). y .sheet) e ∙ same)))
+      let (h, js, read, same) = verdict-accepted (readSheet s) x e a in
+      rw (read, comparePlans) (told h js (tables-of s h js (x .sheet) read same))

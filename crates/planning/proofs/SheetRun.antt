@@ -24,6 +24,7 @@ use Rattle.fields.specs.declared.fault.Verdict.the-variants.{Accepted, Refused}
 use Rattle.fields.specs.Tests.{jobAt}
 use Rattle.frame.specs.Reading.{accepted, readSheet, stored, sheetOf}
 use Rattle.frame.proofs.AcceptedLaws.{accepted-sound}
+use Rattle.frame.proofs.Stored.{verdict-refused, verdict-accepted}
 use Rattle.algorithm.specs.Day.{dayOf, longJob}
 use Rattle.algorithm.specs.SoundDay.{SoundDay}
 use Rattle.algorithm.specs.Answer.{Answer, fault, answerTo}
@@ -33,7 +34,7 @@ use Rattle.planning.specs.declared.answer.Answer.{Answer as Given}
 use Rattle.planning.specs.declared.answer.Answer.the-variants.{Fault as GivenFault}
 use Rattle.planning.specs.CompareArrays.{Tables}
 use Rattle.planning.specs.Planner.{shortTables, answerFor, Answered}
-use Rattle.planning.proofs.CompareRun.{tables-of, verdict-refused, verdict-accepted}
+use Rattle.planning.proofs.CompareRun.{tables-of}
 use Rattle.planning.proofs.SheetDay.{sound-day, none-long}
 
 module _ (s : List ℕ) (h : Head) (js : List Job) (x : Sheet) (read : readSheet s ≡ accepted h js) (same : x ≡ sheetOf h js) where
@@ -106,7 +107,7 @@ module _ (s : List ℕ) (np nl : ℕ) (places loads : List ℕ) where
   pub refused-answer : {x : Reading} {f : Fault} → x ≡ stored (readSheet s) → x .verdict ≡ Refused f → Answered (answerFor s np nl) (GivenFault f) places loads places loads
   unfolding answerFor
   refused-answer {f = f} e a =
-      let answers : answerFor s np nl ≡ fault f = rw (verdict-refused (readSheet s) (sym (ap (λ (y : Reading). y .verdict) e) ∙ a), answerFor) in
+      let answers : answerFor s np nl ≡ fault f = rw (verdict-refused (readSheet s) e a, answerFor) in
       subst (λ (b : Answer). Answered b (GivenFault f) places loads places loads) (sym answers)
       (record { answer = refl; new-places = refl; new-loads = refl })
 
@@ -115,5 +116,5 @@ module _ (s : List ℕ) (np nl : ℕ) (places loads : List ℕ) where
       → Answered (answerFor bytes np nl) r places loads places′ loads′)
       → Answered (answerFor s np nl) r places loads places′ loads′
   accepted-answer x e a told =
-      let (h, js, read, same) = verdict-accepted (readSheet s) (sym (ap (λ (y : Reading). y .verdict) e) ∙ a) in
-      told s h js read (ap (λ (y : Reading). y .sheet) e ∙ same)
+      let (h, js, read, same) = verdict-accepted (readSheet s) x e a in
+      told s h js read same

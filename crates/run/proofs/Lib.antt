@@ -11,6 +11,9 @@ pub mod RoundRun
 pub mod SpreadRun
 pub mod SettleRun
 pub mod CountRun
+pub mod SetLaws
+pub mod SetRun
+pub mod ReceiverLaws
 pub mod PushRun
 pub mod StartLaws
 pub mod StartRun

@@ -1,5 +1,5 @@
 -- The arrays follow PUSH.
---     mark-entry, marks-more, levels-more, fills-more     the marks after one turn more of a loop
+--     mark-entry, marks-more, fills-more     the marks after one turn more of a loop
 --     board-any           some rock at a bench has P: some job there has Q
 --     receives-same       what the arrays say of a bench that may receive is what the board says
 --     meets-same, needed  a job that may go meets PUSH where canPush says so; one that may not meets it nowhere
@@ -12,6 +12,7 @@ use mathlib.Core.List.{List}
 use native.Mathlib.Omega.{arith}
 use lib.ListN.{length, getD, set, replicate, length-set, length-replicate, getD-replicate}
 use lib.Dec.{eqb, leb, ltb}
+use lib.Bits.{bitAnd}
 use lib.Seq.{getD-set-same, getD-set-other}
 use borrow.Author.Tests.{eq-eqb, ne-eqb, eqb-true, lt-ltb, le-ltb, le-leb, lt-leb, leb-true, ltb-true}
 use Rattle.bools.proofs.BoolLaws.{split, tests, and-intro, and-left, and-right, and-false-left, and-false-right, or-left, or-right, bool-ext, implies-false, not-intro-true}
@@ -20,6 +21,7 @@ use Rattle.sums.specs.Search.{any, all, least}
 use Rattle.sums.proofs.SearchLaws.{any-cong, any-false, any-intro, least-found, least-none}
 use Rattle.sums.proofs.MembersLaws.{any-members}
 use Rattle.bits.specs.Bits.{isSet}
+use Rattle.bits.proofs.SetBits.{isSet-zero}
 use Rattle.run.specs.declared.rocks.Limits.{Limits}
 use Rattle.algorithm.specs.Board.{Board, touches, other, towards, load}
 use Rattle.algorithm.specs.Explore.{Explored, roundOf, within, inConflict, activated, father, child}
@@ -31,6 +33,7 @@ use Rattle.algorithm.proofs.BoardLaws.{other-below}
 use Rattle.algorithm.proofs.PushLaws.{Pushed, push-allowed}
 use Rattle.run.proofs.ScanLaws.{and-assoc, touches-at, rock-below, rock-holds}
 use Rattle.run.proofs.ForcedRun.{plus-one, other-at}
+use Rattle.run.proofs.ReceiverLaws.{shares}
 
 -- ── Booleans ──
 
@@ -136,16 +139,6 @@ module _ (P : ℕ → ℕ → Bool) (low high : List ℕ) where
       ∙ gather (getD t₀ v false) (any r (there v)) (eqb v (getD low r 0)) (eqb v (getD high r 0)) (P r v)
       ∙ ap (λ (k : ℕ). getD t₀ v false || any k (there v)) (next r)
 
-pub levels-more : (level : List ℕ) (opened : List Bool) (v : ℕ) (t₀ t : List Bool) {s : List Bool} {i : ℕ} {c : Bool} → length t ≡ length t₀
-    → ((l : ℕ) → l < length t₀ → getD t l false ≡ (getD t₀ l false || any v (λ u. eqb l (getD level u 0) && getD opened u false)))
-    → i ≡ getD level v 0 → c ≡ getD opened v false → s ≡ markIf c t i
-    → (l : ℕ) → l < length t₀ → getD s l false ≡ (getD t₀ l false || any (v + 1) (λ u. eqb l (getD level u 0) && getD opened u false))
-levels-more level opened v t₀ t {s} {i} {c} same inv ei ec es l h =
-    ap (λ (k : List Bool). getD k l false) es ∙ mark-entry c t i l (omega arith)
-    ∙ ap₂ _||_ (inv l h) (ap₂ (λ (k : ℕ) (m : Bool). eqb l k && m) ei ec)
-    ∙ or-assoc (getD t₀ l false) (any v (λ u. eqb l (getD level u 0) && getD opened u false)) (eqb l (getD level v 0) && getD opened v false)
-    ∙ ap (λ (k : ℕ). getD t₀ l false || any k (λ u. eqb l (getD level u 0) && getD opened u false)) (next v)
-
 pub fills-more : (f : ℕ → Bool) (v : ℕ) (t₀ t : List Bool) {s : List Bool} {c : Bool} → length t ≡ length t₀
     → ((u : ℕ) → u < v → u < length t₀ → getD t u false ≡ f u) → c ≡ f v → s ≡ set t v c
     → (u : ℕ) → u < v + 1 → u < length t₀ → getD s u false ≡ f u
@@ -157,8 +150,8 @@ fills-more f v t₀ t {s} {c} same inv ec es u h l = elim (last-or-below {i = u}
 ]
 
 -- Job j may go, and meets PUSH somewhere.
-abbrev pub goesAt : ℕ → List Bool → List ℕ → List ℕ → List ℕ → List Bool → List Bool → ℕ → Bool
-goesAt benches pebble allowed place level opened wanted j = mayGoAt benches pebble place level wanted j && any benches (meetsAt allowed place level opened j)
+abbrev pub goesAt : ℕ → List Bool → List ℕ → List ℕ → List ℕ → List Bool → List ℕ → ℕ → Bool
+goesAt benches pebble allowed place level opened wanted j = mayGoAt benches pebble allowed place level wanted j && any benches (meetsAt allowed place level opened j)
 
 -- ── of a board ──
 
@@ -277,23 +270,21 @@ module _ (b : Board) (n : Limits) (low high weight : List ℕ) (R : Rocks b n lo
   -- ── the levels wanted, and the first pair ──
 
   module _ (x : Explored) (level : List ℕ) (opened : List Bool) (L : Rounds b (x .level) level) (O : Openings b x opened) where
-    pub levels-end : (v : ℕ) (t₀ wanted : List Bool) → v ≤ n .benches → n .benches ≤ v → t₀ ≡ replicate 66 false
-        → ((l : ℕ) → l < length t₀ → getD wanted l false ≡ (getD t₀ l false || any v (λ u. eqb l (getD level u 0) && getD opened u false))) → Wanted b x wanted
+    pub levels-end : (v : ℕ) (t₀ wanted : List ℕ) → v ≤ n .benches → n .benches ≤ v → t₀ ≡ replicate 66 0
+        → ((l u : ℕ) → l < length t₀ → u < 64
+        → isSet 64 (getD wanted l 0) u ≡ (isSet 64 (getD t₀ l 0) u || (ltb u v && (eqb l (getD level u 0) && getD opened u false)))) → Wanted b x wanted
     levels-end v t₀ wanted below past none inv =
-        let all-passed : v ≡ b .benches = omega (arith, R .benches) in
         record {
-          entries = λ l h.
-              inv l (omega (arith, ap length none, length-replicate 66 false))
-              ∙ ap (λ (k : Bool). k || any v (λ u. eqb l (getD level u 0) && getD opened u false))
-              (ap (λ (k : List Bool). getD k l false) none ∙ getD-replicate 66 l false false h)
-              ∙ ap (λ (k : ℕ). any k (λ u. eqb l (getD level u 0) && getD opened u false)) all-passed
-              ∙ any-cong (b .benches) (λ u. eqb l (getD level u 0) && getD opened u false) (λ u. eqb l (roundOf b (x .level) u) && receiving b x u)
-              (λ u m. ap₂ (λ (k : ℕ) (t : Bool). eqb l k && t) (L .entries u m) (O .entries u m));
+          entries = λ l u h m.
+              inv l u (omega (arith, ap length none, length-replicate {A = ℕ} 66 0)) (omega (arith, R .few-benches))
+              ∙ ap₂ _||_
+              (ap (λ (k : List ℕ). isSet 64 (getD k l 0) u) none ∙ ap (λ (k : ℕ). isSet 64 k u) (getD-replicate 66 l 0 0 h) ∙ isSet-zero 64 u)
+              (ap₂ _&&_ (lt-ltb u v (omega (arith, R .benches))) (ap₂ (λ (k : ℕ) (t : Bool). eqb l k && t) (L .entries u m) (O .entries u m)));
         }
 
-    module _ (pebble : List Bool) (allowed place : List ℕ) (wanted : List Bool) (P : Pebbles b pebble allowed place) (W : Wanted b x wanted) where
+    module _ (pebble : List Bool) (allowed place : List ℕ) (wanted : List ℕ) (P : Pebbles b pebble allowed place) (W : Wanted b x wanted) where
       abbrev may : ℕ → Bool
-      may j = mayGoAt (n .benches) pebble place level wanted j
+      may j = mayGoAt (n .benches) pebble allowed place level wanted j
 
       abbrev meet : ℕ → ℕ → Bool
       meet j v = meetsAt allowed place level opened j v
@@ -325,16 +316,17 @@ module _ (b : Board) (n : Limits) (low high weight : List ℕ) (R : Rocks b n lo
           next-level j h (F .pebble) (omega (arith, F .one-higher, F .active)) ∙ sym (F .one-higher) in
           and-intro (P .are j h ∙ F .pebble)
           (and-intro (within-there j h (F .pebble) ∙ active)
-          (ap (λ (k : ℕ). getD wanted k false) next ∙ W .entries (roundOf b (x .level) v) (omega (arith, F .active, R .few-benches))
-          ∙ any-intro (b .benches) (λ u. eqb (roundOf b (x .level) v) (roundOf b (x .level) u) && receiving b x u) v l
-          (and-intro (eq-eqb (roundOf b (x .level) v) (roundOf b (x .level) v) refl) here)))
+          (shares (getD allowed j 0) (getD wanted (plusOf (getD level (getD place j 0) 0) 1) 0) v (P .allow j v h l ∙ F .allowed)
+          (ap (λ (k : ℕ). isSet 64 (getD wanted k 0) v) next ∙ W .entries (roundOf b (x .level) v) v (omega (arith, F .active, R .few-benches)) l
+          ∙ and-intro (eq-eqb (roundOf b (x .level) v) (roundOf b (x .level) v) refl) here)))
 
       meets-same : (j v : ℕ) → j < b .jobs → v < b .benches → may j ≡ true → meet j v ≡ canPush b x j v
       meets-same j v h l m =
-          let rest : Bool = withinAt (n .benches) level (getD place j 0) && getD wanted (plusOf (getD level (getD place j 0) 0) 1) false in
+          let shared : Bool = not (eqb (bitAnd (getD allowed j 0) (getD wanted (plusOf (getD level (getD place j 0) 0) 1) 0)) 0) in
+          let rest : Bool = withinAt (n .benches) level (getD place j 0) && shared in
           let p : b .pebble j ≡ true = sym (P .are j h) ∙ and-left (getD pebble j false) rest m in
           let active : activated b x (b .place j) ≡ true =
-          sym (within-there j h p) ∙ and-left (withinAt (n .benches) level (getD place j 0)) (getD wanted (plusOf (getD level (getD place j 0) 0) 1) false)
+          sym (within-there j h p) ∙ and-left (withinAt (n .benches) level (getD place j 0)) shared
           (and-right (getD pebble j false) rest m) in
           let next = next-level j h p (omega (arith, ltb-true (roundOf b (x .level) (b .place j)) (suc (b .benches)) active)) in
           let set-same : hasAt (getD allowed j 0) v ≡ b .allows j v =
@@ -365,7 +357,7 @@ module _ (b : Board) (n : Limits) (low high weight : List ℕ) (R : Rocks b n lo
             λ l. absurd (omega arith),
           )
 
-      pub push-found : (j v : ℕ) → j < n .jobs → v < n .benches → ((i : ℕ) → i < j → goesAt (n .benches) pebble allowed place level opened wanted i ≡ false) → mayGoAt (n .benches) pebble place level wanted j ≡ true
+      pub push-found : (j v : ℕ) → j < n .jobs → v < n .benches → ((i : ℕ) → i < j → goesAt (n .benches) pebble allowed place level opened wanted i ≡ false) → mayGoAt (n .benches) pebble allowed place level wanted j ≡ true
           → ((u : ℕ) → u < v → meetsAt allowed place level opened j u ≡ false) → meetsAt allowed place level opened j v ≡ true
           → (j ≡ pushJob b x) × (j < b .jobs → v ≡ pushBench b x)
       push-found j v hj hv before m lower here =

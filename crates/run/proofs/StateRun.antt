@@ -81,11 +81,11 @@ module _ (d : Day) (n : Limits) (low high weights amount : List ℕ) (pebbles : 
 
     -- The first pair, from what the three functions of the search promise.
     pub push-found-at : {own dir loads rounds levels : List ℕ} → Owned (boardOf d s) own → Shown (boardOf d s) (explored d s) dir loads rounds levels
-        → (opened wanted : List Bool) {job bench : ℕ}
+        → (opened : List Bool) (wanted : List ℕ) {job bench : ℕ}
         → (Rocks (boardOf d s) n low high weights → Owned (boardOf d s) own → Shown (boardOf d s) (explored d s) dir loads rounds levels
         → d .benches ≤ length (replicate 64 false) → Openings (boardOf d s) (explored d s) opened)
         → ((low′ high′ weights′ : List ℕ) → Rocks (boardOf d s) n low′ high′ weights′ → Rounds (boardOf d s) (explored d s .level) levels
-        → Openings (boardOf d s) (explored d s) opened → replicate 66 false ≡ replicate 66 false → Wanted (boardOf d s) (explored d s) wanted)
+        → Openings (boardOf d s) (explored d s) opened → replicate {A = ℕ} 66 0 ≡ replicate {A = ℕ} 66 0 → Wanted (boardOf d s) (explored d s) wanted)
         → ((low′ high′ weights′ : List ℕ) → Rocks (boardOf d s) n low′ high′ weights′ → Pebbles (boardOf d s) pebbles allowed place
         → Rounds (boardOf d s) (explored d s .level) levels → Openings (boardOf d s) (explored d s) opened → Wanted (boardOf d s) (explored d s) wanted
         → (job ≡ pushJob (boardOf d s) (explored d s)) × (job < d .jobs → bench ≡ pushBench (boardOf d s) (explored d s)))

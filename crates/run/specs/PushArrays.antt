@@ -5,14 +5,14 @@
 --     receivesAt, receiving     what canPush asks of v alone: of the arrays, and of the board
 --     mayGoAt, meetsAt      job j may go anywhere; where it may, it may go to v
 --     Openings b x opened     the benches that may receive
---     Wanted b x wanted     the levels of the benches that may receive
+--     Wanted b x wanted     for each level the benches of it that may receive, as a set
 use Prim.Native.Nat.{ℕ, _+_, _<_}
 use mathlib.Core.Path.{_≡_}
 use mathlib.Core.Bool.{Bool, true, false, cond, not, _&&_, _||_}
 use mathlib.Core.List.{List}
 use lib.ListN.{getD, set}
 use lib.Dec.{eqb, leb, ltb}
-use Rattle.sums.specs.Search.{any}
+use lib.Bits.{bitAnd}
 use Rattle.bits.specs.Bits.{isSet}
 use Rattle.algorithm.specs.Board.{Board, load}
 use Rattle.algorithm.specs.Explore.{Explored, roundOf, activated}
@@ -33,10 +33,12 @@ abbrev pub receivesAt : ℕ → ℕ → List ℕ → List ℕ → List Bool → 
 receivesAt benches limit loads level children heavy v =
     withinAt benches level v && (leb (getD loads v 0) limit && (not (getD children v false) || not (getD heavy v false)))
 
--- A pebble on an activated bench, with a bench that may receive on the next level.
-abbrev pub mayGoAt : ℕ → List Bool → List ℕ → List ℕ → List Bool → ℕ → Bool
-mayGoAt benches pebble place level wanted j =
-    getD pebble j false && (withinAt benches level (getD place j 0) && getD wanted (plusOf (getD level (getD place j 0) 0) 1) false)
+-- A pebble on an activated bench, which allows a bench of the next level that may receive.
+abbrev pub mayGoAt : ℕ → List Bool → List ℕ → List ℕ → List ℕ → List ℕ → ℕ → Bool
+mayGoAt benches pebble allowed place level wanted j =
+    getD pebble j false
+    && (withinAt benches level (getD place j 0)
+    && not (eqb (bitAnd (getD allowed j 0) (getD wanted (plusOf (getD level (getD place j 0) 0) 1) 0)) 0))
 
 abbrev pub meetsAt : List ℕ → List ℕ → List ℕ → List Bool → ℕ → ℕ → Bool
 meetsAt allowed place level opened j v =
@@ -52,5 +54,5 @@ pub record Openings (b : Board) (x : Explored) (opened : List Bool) : Type 0 whe
   pub entries : (v : ℕ) → v < b .benches → getD opened v false ≡ receiving b x v
 
 -- One entry for each level: there are at most 64 benches, so levels up to 65.
-pub record Wanted (b : Board) (x : Explored) (wanted : List Bool) : Type 0 where
-  pub entries : (l : ℕ) → l < 66 → getD wanted l false ≡ any (b .benches) (λ v. eqb l (roundOf b (x .level) v) && receiving b x v)
+pub record Wanted (b : Board) (x : Explored) (wanted : List ℕ) : Type 0 where
+  pub entries : (l v : ℕ) → l < 66 → v < b .benches → isSet 64 (getD wanted l 0) v ≡ (eqb l (roundOf b (x .level) v) && receiving b x v)

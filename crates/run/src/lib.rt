@@ -8,6 +8,8 @@ mod loads;
 mod loops;
 mod push;
 mod rocks;
+mod set_loops;
+mod sets;
 mod settling;
 mod start;
 mod state;

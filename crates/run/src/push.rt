@@ -13,6 +13,8 @@ ghost use Rattle.algorithm.specs.Explore.{Explored};
 ghost use Rattle.algorithm.specs.Push.{pushJob, pushBench};
 ghost use Rattle.run.specs.Arrays.{touchesAt, childAt, Rocks, Owned, Rounds, Pebbles};
 ghost use Rattle.run.specs.Shown.{Shown};
+ghost use lib.Dec.{eqb};
+ghost use Rattle.bits.specs.Bits.{isSet};
 ghost use Rattle.run.specs.PushArrays.{markIf, heavyAt, receivesAt, mayGoAt, meetsAt, Openings, Wanted};
 
 // A job and the bench it goes to; the number of jobs where there is no move.
@@ -160,36 +162,48 @@ pub fn receivers<'a>(
     }
 }
 
-// Entry l: some bench of level l may receive.
-pub fn mark_levels<'a>(n: Limits, level: &'a [usize], opened: &'a [bool], wanted: &mut [bool])
-    ensures { λ _. ⌜ ((b : Board) → (x : Explored) → (low : List ℕ) → (high : List ℕ) → (weight : List ℕ) → Rocks b n low high weight → Rounds b (x .level) (now (level .entry)) → Openings b x (now (opened .entry)) → now (wanted .entry) ≡ replicate 66 false → Wanted b x (now (wanted .exit))) ⌝ }
+// Bench v, where it may receive, goes into the set of its level.
+fn add_receiver<'a>(level: &'a [usize], opened: &'a [bool], wanted: &mut [usize], v: usize)
+    ensures { λ _. ⌜ ((l : ℕ) → (u : ℕ) → l < length (now (wanted .entry)) → u < 64 → isSet 64 (getD (now (wanted .exit)) l 0) u ≡ (isSet 64 (getD (now (wanted .entry)) l 0) u || (eqb u v && (eqb l (getD (now (level .entry)) v 0) && getD (now (opened .entry)) v false)))) ⌝ }
+{
+    if arrays::holds(opened, v) {
+        let l = arrays::at(level, v);
+        let set = arrays::with(arrays::at(wanted, l), v);
+        arrays::put(wanted, l, set);
+    }
+}
+
+// Entry l: the benches of level l that may receive, as a set.
+pub fn mark_levels<'a>(n: Limits, level: &'a [usize], opened: &'a [bool], wanted: &mut [usize])
+    ensures { λ _. ⌜ ((b : Board) → (x : Explored) → (low : List ℕ) → (high : List ℕ) → (weight : List ℕ) → Rocks b n low high weight → Rounds b (x .level) (now (level .entry)) → Openings b x (now (opened .entry)) → now (wanted .entry) ≡ replicate 66 0 → Wanted b x (now (wanted .exit))) ⌝ }
 {
     let mut v = 0;
     while v < n.benches {
-        mark_if(wanted, arrays::at(level, v), arrays::holds(opened, v));
+        add_receiver(level, opened, wanted, v);
         v += 1;
     }
 }
 
-// Whether job j may go anywhere: a pebble on an activated bench, with a bench that may receive on the next level.
+// Whether job j may go anywhere: a pebble on an activated bench, which allows a bench of the next level that may receive.
 fn may_go<'a>(
     n: Limits,
     pebble: &'a [bool],
+    allowed: &'a [usize],
     place: &'a [usize],
     level: &'a [usize],
-    wanted: &'a [bool],
+    wanted: &'a [usize],
     j: usize,
 ) -> bool
-    ensures { λ t. ⌜ t ≡ mayGoAt (n .benches) (now (pebble .entry)) (now (place .entry)) (now (level .entry)) (now (wanted .entry)) j ⌝ }
+    ensures { λ t. ⌜ t ≡ mayGoAt (n .benches) (now (pebble .entry)) (now (allowed .entry)) (now (place .entry)) (now (level .entry)) (now (wanted .entry)) j ⌝ }
 {
     if !arrays::holds(pebble, j) {
         return false;
     }
-    let v = arrays::at(place, j);
-    if !rocks::within(n.benches, level, v) {
+    let l = arrays::at(level, arrays::at(place, j));
+    if n.benches < l {
         return false;
     }
-    arrays::holds(wanted, arrays::plus(arrays::at(level, v), 1))
+    arrays::at(allowed, j) & arrays::at(wanted, arrays::plus(l, 1)) != 0
 }
 
 // canPush b x j v, for a job that may go.
@@ -220,7 +234,7 @@ pub fn first_push<'a>(
     place: &'a [usize],
     level: &'a [usize],
     opened: &'a [bool],
-    wanted: &'a [bool],
+    wanted: &'a [usize],
 ) -> Move
     ensures { λ r. ⌜ ((b : Board) → (x : Explored) → (low : List ℕ) → (high : List ℕ) → (weight : List ℕ) → Rocks b n low high weight → Pebbles b (now (pebble .entry)) (now (allowed .entry)) (now (place .entry)) → Rounds b (x .level) (now (level .entry)) → Openings b x (now (opened .entry)) → Wanted b x (now (wanted .entry)) → (r .job ≡ pushJob b x) × (r .job < b .jobs → r .bench ≡ pushBench b x)) ⌝ }
 {
@@ -228,7 +242,7 @@ pub fn first_push<'a>(
     let mut v = 0;
     'search: while j < n.jobs {
         v = 0;
-        if may_go(n, pebble, place, level, wanted, j) {
+        if may_go(n, pebble, allowed, place, level, wanted, j) {
             while v < n.benches {
                 if meets(allowed, place, level, opened, j, v) {
                     break 'search;

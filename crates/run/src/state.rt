@@ -128,7 +128,7 @@ impl State {
             &self.level,
             &mut open,
         );
-        let mut wanted = [false; 66];
+        let mut wanted = [0usize; 66];
         push::mark_levels(n, &self.level, &open, &mut wanted);
         let m = push::first_push(n, pebble, allowed, &self.place, &self.level, &open, &wanted);
         let job = m.job;

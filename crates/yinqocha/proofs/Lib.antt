@@ -1,3 +1,7 @@
+pub mod NumberSteps
+pub mod CompareSteps
+pub mod PlanLaws
+pub mod PlanSteps
 pub mod TableSteps
 pub mod WordLaws
 pub mod WriteSteps

@@ -1,10 +1,10 @@
 // Tables at the door: numbers of 8 bytes each, the least significant byte first.
 ghost use mathlib.Core.Path.{_≡_};
-ghost use Prim.Native.Nat.{_+_, _≤_, _<_};
+ghost use Prim.Native.Nat.{_+_, _≤_, _<_, min};
 ghost use mathlib.Core.List.{_++_};
 ghost use lib.ListN.{length, take, drop};
 ghost use Rattle.bits.specs.Little.{little, littleOf};
-ghost use Rattle.yinqocha.specs.Door.{entriesOf, entryOf, putEntry};
+ghost use Rattle.yinqocha.specs.Door.{entriesOf, entryOf, numbersOf, putEntry};
 
 // How many entries a table has; a begun entry counts.
 pub fn entries(t: &[u8]) -> usize
@@ -21,6 +21,21 @@ pub fn entry(t: &[u8], n: usize) -> u64
         return 0;
     }
     little8(&t[8 * n..])
+}
+
+// Fills the front of `into` with the entries of a table, as many as there are and fit, and says how many.
+pub fn load(t: &[u8], into: &mut [u64; 513]) -> usize
+    requires { ⌜ length (now into) ≡ 513 ⌝ }
+    ensures { λ r. ⌜ (r ≡ min (entriesOf (now (t .entry))) 513) × (take r (now (into .exit)) ≡ take 513 (numbersOf (now (t .entry)))) ⌝ }
+{
+    let all = entries(t);
+    let n = if all < 513 { all } else { 513 };
+    let mut i = 0;
+    while i < n {
+        into[i] = entry(t, i);
+        i += 1;
+    }
+    n
 }
 
 fn wide(x: u8) -> u64

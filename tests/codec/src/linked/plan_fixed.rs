@@ -1,18 +1,25 @@
 //! Fixed sheets for planning: the corpus, examples 11 and 12, and the slow full sheets.
 
+use crate::empty::Empty;
 use crate::plan_check::{Check, Rival};
+use crate::plan_door;
 use codec::hex;
 use codec::model::door::word;
 use codec::model::fault::Fault;
 use codec::plan::corpus::{self, print_answer};
 use codec::plan::door::PLAN;
 use codec::samples;
+use std::thread;
+
+/// A call needs less stack than this.
+const STACK: usize = 256 * 1024;
 
 pub fn all(check: &mut Check) {
     corpus(check);
     examples_11_and_12(check);
     samples(check);
     slow(check);
+    small_stack(check);
 }
 
 fn corpus(check: &mut Check) {
@@ -50,5 +57,26 @@ fn slow(check: &mut Check) {
     check.class("fixed: slow full sheets");
     for (_, sheet) in corpus::SLOW {
         check.plan(sheet, Rival::Unknown);
+    }
+}
+
+/// The slow sheets again, each on a thread that has no more stack: a call that needs more ends the
+/// program.
+fn small_stack(check: &mut Check) {
+    check.class("fixed: slow full sheets, little stack");
+    for (_, sheet) in corpus::SLOW {
+        let planned = check.plan(sheet, Rival::Unknown);
+        let mut tables = [vec![0; 8 * 512], vec![0; 8 * 64], vec![0; 8 * 2]];
+        let call = move || {
+            let [places, loads, answer] = &mut tables;
+            plan_door::plan(sheet, [places, loads, answer], Empty::Pointer)
+        };
+        let word = thread::Builder::new()
+            .stack_size(STACK)
+            .spawn(call)
+            .expect("a thread can be started")
+            .join()
+            .expect("the call ends");
+        check.expect("the same word", word.is_none_or(|word| word == planned.word), sheet);
     }
 }

@@ -51,7 +51,7 @@ search-less : tie.Need-search-less Inv-loop μ-loop Inv-search μ-search
 search-less c = omega arith
 
 search-again : tie.Need-search-again Inv-loop μ-loop Inv-search μ-search
-search-again c = (omega arith, goes-more (goesAt (c .before .before .before .before .before .before .before .before .before .before .before .args .n .benches) (c .before .before .before .before .before .before .before .before .before .before .before .args .pebble .now) (c .before .before .before .before .before .before .before .before .before .before .before .args .allowed .now) (c .before .before .before .before .before .before .before .before .before .before .before .args .place .now) (c .before .before .before .before .before .before .before .before .before .before .before .args .level .now) (c .before .before .before .before .before .before .before .before .before .before .before .args .opened .now) (c .before .before .before .before .before .before .before .before .before .before .before .args .wanted .now)) (c .before .before .before .before .search .j) (c .before .before .before .before .search .inv .1) (⊎-elim (λ w. goes-nowhere (mayGoAt (c .before .before .before .before .before .before .before .before .before .before .before .args .n .benches) (c .before .before .before .before .before .before .before .before .before .before .before .args .pebble .now) (c .before .before .before .before .before .before .before .before .before .before .before .args .place .now) (c .before .before .before .before .before .before .before .before .before .before .before .args .level .now) (c .before .before .before .before .before .before .before .before .before .before .before .args .wanted .now) (c .before .before .before .before .search .j)) (c .before .before .before .before .before .before .before .before .before .before .before .args .n .benches) (w .1 .v) (meetsAt (c .before .before .before .before .before .before .before .before .before .before .before .args .allowed .now) (c .before .before .before .before .before .before .before .before .before .before .before .args .place .now) (c .before .before .before .before .before .before .before .before .before .before .before .args .level .now) (c .before .before .before .before .before .before .before .before .before .before .before .args .opened .now) (c .before .before .before .before .search .j)) (w .3 .left) (w .1 .inv .1)) (λ w. goes-not (mayGoAt (c .before .before .before .before .before .before .before .before .before .before .before .args .n .benches) (c .before .before .before .before .before .before .before .before .before .before .before .args .pebble .now) (c .before .before .before .before .before .before .before .before .before .before .before .args .place .now) (c .before .before .before .before .before .before .before .before .before .before .before .args .level .now) (c .before .before .before .before .before .before .before .before .before .before .before .args .wanted .now) (c .before .before .before .before .search .j)) (c .before .before .before .before .before .before .before .before .before .before .before .args .n .benches) (meetsAt (c .before .before .before .before .before .before .before .before .before .before .before .args .allowed .now) (c .before .before .before .before .before .before .before .before .before .before .before .args .place .now) (c .before .before .before .before .before .before .before .before .before .before .before .args .level .now) (c .before .before .before .before .before .before .before .before .before .before .before .args .opened .now) (c .before .before .before .before .search .j)) (sym (c .before .may-go .ensures) ∙ w .0 .left)) (c .if2 .came)))
+search-again c = (omega arith, goes-more (goesAt (c .before .before .before .before .before .before .before .before .before .before .before .args .n .benches) (c .before .before .before .before .before .before .before .before .before .before .before .args .pebble .now) (c .before .before .before .before .before .before .before .before .before .before .before .args .allowed .now) (c .before .before .before .before .before .before .before .before .before .before .before .args .place .now) (c .before .before .before .before .before .before .before .before .before .before .before .args .level .now) (c .before .before .before .before .before .before .before .before .before .before .before .args .opened .now) (c .before .before .before .before .before .before .before .before .before .before .before .args .wanted .now)) (c .before .before .before .before .search .j) (c .before .before .before .before .search .inv .1) (⊎-elim (λ w. goes-nowhere (mayGoAt (c .before .before .before .before .before .before .before .before .before .before .before .args .n .benches) (c .before .before .before .before .before .before .before .before .before .before .before .args .pebble .now) (c .before .before .before .before .before .before .before .before .before .before .before .args .allowed .now) (c .before .before .before .before .before .before .before .before .before .before .before .args .place .now) (c .before .before .before .before .before .before .before .before .before .before .before .args .level .now) (c .before .before .before .before .before .before .before .before .before .before .before .args .wanted .now) (c .before .before .before .before .search .j)) (c .before .before .before .before .before .before .before .before .before .before .before .args .n .benches) (w .1 .v) (meetsAt (c .before .before .before .before .before .before .before .before .before .before .before .args .allowed .now) (c .before .before .before .before .before .before .before .before .before .before .before .args .place .now) (c .before .before .before .before .before .before .before .before .before .before .before .args .level .now) (c .before .before .before .before .before .before .before .before .before .before .before .args .opened .now) (c .before .before .before .before .search .j)) (w .3 .left) (w .1 .inv .1)) (λ w. goes-not (mayGoAt (c .before .before .before .before .before .before .before .before .before .before .before .args .n .benches) (c .before .before .before .before .before .before .before .before .before .before .before .args .pebble .now) (c .before .before .before .before .before .before .before .before .before .before .before .args .allowed .now) (c .before .before .before .before .before .before .before .before .before .before .before .args .place .now) (c .before .before .before .before .before .before .before .before .before .before .before .args .level .now) (c .before .before .before .before .before .before .before .before .before .before .before .args .wanted .now) (c .before .before .before .before .search .j)) (c .before .before .before .before .before .before .before .before .before .before .before .args .n .benches) (meetsAt (c .before .before .before .before .before .before .before .before .before .before .before .args .allowed .now) (c .before .before .before .before .before .before .before .before .before .before .before .args .place .now) (c .before .before .before .before .before .before .before .before .before .before .before .args .level .now) (c .before .before .before .before .before .before .before .before .before .before .before .args .opened .now) (c .before .before .before .before .search .j)) (sym (c .before .may-go .ensures) ∙ w .0 .left)) (c .if2 .came)))
 
 returns : tie.Need-returns Inv-loop μ-loop Inv-search μ-search
 returns c = λ b x low high weight R Q Z O W. push-none b (c .before .before .before .before .before .before .before .before .before .args .n) low high weight R x (c .before .before .before .before .before .before .before .before .before .args .level .now) (c .before .before .before .before .before .before .before .before .before .args .opened .now) Z O (c .before .before .before .before .before .before .before .before .before .args .pebble .now) (c .before .before .before .before .before .before .before .before .before .args .allowed .now) (c .before .before .before .before .before .before .before .before .before .args .place .now) (c .before .before .before .before .before .before .before .before .before .args .wanted .now) Q W (c .before .before .search .j) (c .before .before .search .v) (omega arith) (omega arith) (c .before .before .search .inv .1)

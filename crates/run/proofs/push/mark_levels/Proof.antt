@@ -1,33 +1,28 @@
--- The entries hold the benches passed.
+-- The sets hold the benches passed.
 use Prim.Native.Nat.{ℕ, _-_, _≤_, _<_}
 use mathlib.Core.Path.{_≡_, refl, _∙_}
 use mathlib.Core.Bool.{false, _&&_, _||_}
 use lib.ListN.{length, getD}
-use lib.Dec.{eqb}
+use lib.Dec.{eqb, ltb}
 use native.Mathlib.Omega.{arith}
-use Rattle.sums.specs.Search.{any}
-use Rattle.run.proofs.PushRun.{marks-none, levels-more, levels-end}
+use Rattle.bits.specs.Bits.{isSet}
+use Rattle.run.proofs.ReceiverLaws.{levels-none, levels-more}
+use Rattle.run.proofs.PushRun.{levels-end}
 use borrow.Author.Needs.{needs}
 use Rattle.run.proofs.push.mark_levels.Statement.{statement}
 use Rattle.run.proofs.push.mark_levels.Tie as tie
 
 abbrev Inv-loop : tie.InvT-loop
-Inv-loop n level opened wanted₀ v₀ wanted v = (v ≤ n .benches) × (length wanted ≡ length wanted₀) × ((l : ℕ) → l < length wanted₀ → getD wanted l false ≡ (getD wanted₀ l false || any v (λ u. eqb l (getD level u 0) && getD opened u false)))
+Inv-loop n level opened wanted₀ v₀ wanted v = (v ≤ n .benches) × (length wanted ≡ length wanted₀) × ((l u : ℕ) → l < length wanted₀ → u < 64 → isSet 64 (getD wanted l 0) u ≡ (isSet 64 (getD wanted₀ l 0) u || (ltb u v && (eqb l (getD level u 0) && getD opened u false))))
 
 abbrev μ-loop : tie.MeasureT-loop
 μ-loop n level opened wanted₀ v₀ wanted v = n .benches - v
 
 loop-holds : tie.Need-loop-holds Inv-loop μ-loop
-loop-holds c = (omega arith, refl, λ l h. marks-none (c .before .before .before .args .wanted .now) l)
+loop-holds c = (omega arith, refl, λ l u h k. levels-none (c .before .before .before .args .level .now) (c .before .before .before .args .opened .now) (c .before .before .before .args .wanted .now) l u)
 
-at-requires : tie.Need-at-requires Inv-loop μ-loop
-at-requires c κs = search needs
-
-holds-requires : tie.Need-holds-requires Inv-loop μ-loop
-holds-requires c κs = search needs
-
-mark-if-requires : tie.Need-mark-if-requires Inv-loop μ-loop
-mark-if-requires c κs = search needs
+add-receiver-requires : tie.Need-add-receiver-requires Inv-loop μ-loop
+add-receiver-requires c κs = search needs
 
 add-v : tie.Need-add-v Inv-loop μ-loop
 add-v c = omega arith
@@ -36,7 +31,7 @@ loop-less : tie.Need-loop-less Inv-loop μ-loop
 loop-less c = omega arith
 
 loop-again : tie.Need-loop-again Inv-loop μ-loop
-loop-again c = (omega arith, c .before .before .mark-if .kept .0 ∙ c .before .before .before .before .before .before .before .before .loop .inv .1, levels-more (c .before .before .before .before .before .before .before .before .before .before .before .before .args .level .now) (c .before .before .before .before .before .before .before .before .before .before .before .before .args .opened .now) (c .before .before .before .before .before .before .before .before .loop .v) (c .before .before .before .before .before .before .before .before .before .before .before .before .args .wanted .now) (c .before .before .before .before .before .before .before .before .loop .wanted) (c .before .before .before .before .before .before .before .before .loop .inv .1) (c .before .before .before .before .before .before .before .before .loop .inv .2) (c .before .before .before .before .at .ensures) (c .before .before .before .holds .ensures) (c .before .before .mark-if .ensures))
+loop-again c = (omega arith, c .before .before .add-receiver .kept .1 .1 .0 ∙ c .before .before .before .before .before .before .loop .inv .1, levels-more (c .before .before .before .before .before .before .before .before .before .before .args .level .now) (c .before .before .before .before .before .before .before .before .before .before .args .opened .now) (c .before .before .before .before .before .before .loop .v) (c .before .before .before .before .before .before .before .before .before .before .args .wanted .now) (c .before .before .before .before .before .before .loop .wanted) (c .before .before .add-receiver .last .1 .1 .0) (c .before .before .before .before .before .before .loop .inv .1) (c .before .before .before .before .before .before .loop .inv .2) (c .before .before .add-receiver .ensures))
 
 same-length : tie.Need-same-length Inv-loop μ-loop
 same-length c = c .before .before .loop .inv .1
@@ -51,9 +46,7 @@ mark-levels-spec =
     Inv-loop
     μ-loop
     loop-holds
-    at-requires
-    holds-requires
-    mark-if-requires
+    add-receiver-requires
     add-v
     loop-less
     loop-again

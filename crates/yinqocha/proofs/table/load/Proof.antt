@@ -9,8 +9,8 @@ use borrow.Author.Needs.{needs}
 use Rattle.sums.specs.Table.{table}
 use Rattle.yinqocha.specs.Door.{entriesOf, entryOf}
 use Rattle.yinqocha.proofs.TableSteps.{load-more, load-all}
-use Rattle.yinqocha.proofs.write.load.Statement.{statement}
-use Rattle.yinqocha.proofs.write.load.Tie as tie
+use Rattle.yinqocha.proofs.table.load.Statement.{statement}
+use Rattle.yinqocha.proofs.table.load.Tie as tie
 
 abbrev Inv-loop : tie.InvT-loop
 Inv-loop t into₀ all n i₀ into i =

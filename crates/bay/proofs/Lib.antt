@@ -1,0 +1,2 @@
+pub mod PrintedLaws
+pub mod PrintedExample

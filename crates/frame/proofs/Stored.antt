@@ -1,0 +1,37 @@
+-- What the verdict of a stored reading says of the sheet.
+--     verdict-refused     refused: the sheet is refused for that fault
+--     verdict-accepted    accepted: the sheet has a head and jobs, and they are what is stored
+use Prim.Native.Nat.{ℕ}
+use mathlib.Core.Path.{_≡_, refl, sym, ap, _∙_}
+use mathlib.Core.List.{List}
+use native.Mathlib.Omega.{arith}
+use Rattle.fields.specs.declared.sheet.Head.{Head}
+use Rattle.fields.specs.declared.sheet.Job.{Job}
+use Rattle.fields.specs.declared.sheet.Reading.{Reading}
+use Rattle.fields.specs.declared.fault.Fault.{Fault}
+use Rattle.fields.specs.declared.fault.Verdict.the-variants.{Accepted, Refused}
+use Rattle.frame.specs.Reading.{Read, accepted, refused, stored, sheetOf}
+
+apart {ℓ} : {A : Type ℓ} {f : Fault} → Accepted ≡ Refused f → A
+apart e = let z : _≡_ {A = ℕ} 0 1 = cc in absurd (omega arith)
+
+same-fault : {g f : Fault} → Refused g ≡ Refused f → g ≡ f
+same-fault e = cc
+
+of-refused : (r : Read) {f : Fault} → stored r .verdict ≡ Refused f → r ≡ refused f
+unfolding stored
+of-refused (accepted h js) a = apart a
+of-refused (refused g) a = ap refused (same-fault a)
+
+of-accepted : (r : Read) → stored r .verdict ≡ Accepted → (h : Head) × (js : List Job) × (r ≡ accepted h js) × (stored r .sheet ≡ sheetOf h js)
+unfolding stored
+of-accepted (accepted h js) a = (h, js, refl, refl)
+of-accepted (refused f) a = apart (sym a)
+
+pub verdict-refused : (r : Read) {x : Reading} {f : Fault} → x ≡ stored r → x .verdict ≡ Refused f → r ≡ refused f
+verdict-refused r e a = of-refused r (sym (ap (λ (y : Reading). y .verdict) e) ∙ a)
+
+pub verdict-accepted : (r : Read) (x : Reading) → x ≡ stored r → x .verdict ≡ Accepted → (h : Head) × (js : List Job) × (r ≡ accepted h js) × (x .sheet ≡ sheetOf h js)
+verdict-accepted r x e a =
+    let (h, js, read, same) = of-accepted r (sym (ap (λ (y : Reading). y .verdict) e) ∙ a) in
+    (h, js, read, ap (λ (y : Reading). y .sheet) e ∙ same)

@@ -1,0 +1,38 @@
+// Sets of numbers below 64, benches or rocks: number u is the bit of weight 2^(63 - u).
+ghost use mathlib.Core.Path.{_≡_};
+ghost use Prim.Native.Nat.{ℕ, _<_};
+ghost use mathlib.Core.Bool.{not, _&&_};
+ghost use lib.Dec.{eqb};
+ghost use Rattle.bits.specs.Bits.{isSet};
+ghost use Rattle.run.specs.StartArrays.{lowestOf};
+
+// The numbers that both sets have.
+pub fn common(a: usize, b: usize) -> usize
+    ensures { λ r. ⌜ ((u : ℕ) → isSet 64 r u ≡ (isSet 64 a u && isSet 64 b u)) ⌝ }
+{
+    a & b
+}
+
+// The numbers of the first set that the second lacks.
+pub fn less(a: usize, b: usize) -> usize
+    ensures { λ r. ⌜ ((u : ℕ) → isSet 64 r u ≡ (isSet 64 a u && not (isSet 64 b u))) ⌝ }
+{
+    a ^ (a & b)
+}
+
+// The lowest number of a set, and 64 of an empty one.
+pub fn lowest(set: usize) -> usize
+    ensures { λ r. ⌜ r ≡ lowestOf set ⌝ }
+{
+    u64::leading_zeros(set as u64) as usize
+}
+
+// The set without v, which is its lowest number.
+pub fn after(set: usize, v: usize) -> usize
+    ensures { λ r. ⌜ (v ≡ lowestOf set → (u : ℕ) → u < 64 → isSet 64 r u ≡ (isSet 64 set u && not (eqb u v))) × (v ≡ lowestOf set → v < 64 → r < set) ⌝ }
+{
+    if 63 < v {
+        return set;
+    }
+    set % (1 << (63 - v))
+}

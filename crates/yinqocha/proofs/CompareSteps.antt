@@ -1,0 +1,77 @@
+-- Comparing through the door, from what the two loads and the comparison ensure: 513 entries of each list are enough.
+--     read-cases            a sheet is read or refused
+--     list-needed           all of a list is among its first 513 entries, or neither the list nor these give each job one bench
+--     lists-enough          the comparison gives the same for the first 513 entries as for all
+--     same-word, different-word, fault-word     what is returned
+use Prim.Native.Nat.{ℕ, _≤_}
+use native.Mathlib.Omega.{arith}
+use mathlib.Core.Path.{_≡_, refl, sym, ap, ap₂, _∙_}
+use mathlib.Core.Logic.{_⊎_, inl, inr}
+use mathlib.Core.Bool.{false}
+use mathlib.Core.List.{List}
+use lib.ListN.{length, take, length-take}
+use lib.Seq.{take-all}
+use borrow.Author.Tests.{ne-eqb}
+use Rattle.bools.proofs.BoolLaws.{and-false-left}
+use Rattle.bools.proofs.OrderLaws.{lt-or-le}
+use Rattle.fields.specs.declared.fault.Fault.{Fault}
+use Rattle.fields.specs.declared.sheet.Head.{Head}
+use Rattle.fields.specs.declared.sheet.Job.{Job}
+use Rattle.frame.specs.Reading.{Read, accepted, refused, readSheet}
+use Rattle.frame.proofs.AcceptedLaws.{accepted-sound}
+use Rattle.algorithm.specs.Day.{Day, dayOf}
+use Rattle.planning.specs.declared.answer.Compared.{Compared}
+use Rattle.planning.specs.declared.answer.Compared.the-variants.{Same, Different, Fault as ComparedFault}
+use Rattle.planning.specs.Planner.{givesEach, comparePlans}
+use Rattle.planning.specs.CompareArrays.{comparedOf}
+use Rattle.yinqocha.specs.Door.{numbersOf, faultWord}
+use Rattle.yinqocha.specs.PlanDoor.{comparedWord}
+
+pub read-cases : (r : Read) → ((f : Fault) × (r ≡ refused f)) ⊎ ((h : Head) × (js : List Job) × (r ≡ accepted h js))
+read-cases (refused f) = inl (f, refl)
+read-cases (accepted h js) = inr (h, js, refl)
+
+-- ── the first 513 entries ──
+
+module _ (d : Day) (few : d .jobs ≤ 512) where
+  list-needed : (xs : List ℕ) → (take 513 xs ≡ xs) ⊎ ((givesEach d (take 513 xs) ≡ false) × (givesEach d xs ≡ false))
+  list-needed xs = elim (lt-or-le 513 (length xs)) [
+    | inl long ↦ inr (
+      and-false-left _ (ne-eqb (length (take 513 xs)) (d .jobs) (λ e. omega (arith, length-take 513 xs))),
+      and-false-left _ (ne-eqb (length xs) (d .jobs) (λ e. omega arith)),
+    )
+    | inr short ↦ inl (take-all 513 xs short)
+  ]
+
+  compared-enough : (xs ys : List ℕ) → comparedOf d (take 513 xs) (take 513 ys) ≡ comparedOf d xs ys
+  compared-enough xs ys = elim (list-needed xs) [
+    | inr a ↦ rw (a .0, a .1)
+    | inl a ↦ elim (list-needed ys) [
+      | inl b ↦ ap₂ (comparedOf d) a b
+      | inr b ↦ rw (a, b .0, b .1)
+    ]
+  ]
+
+pub lists-enough : (s xs ys : List ℕ) → comparePlans s (take 513 xs) (take 513 ys) ≡ comparePlans s xs ys
+unfolding comparePlans
+lists-enough s xs ys = elim (read-cases (readSheet s)) [
+  | inl a ↦ rw (a .1, comparePlans)
+  | inr a ↦ rw (a .2, comparePlans) (compared-enough (dayOf (a .0) (a .1)) (accepted-sound s (a .0) (a .1) (a .2) .at-most-512-jobs) xs ys)
+]
+
+-- ── what is returned ──
+
+module _ (s first second : List ℕ) {xs ys : List ℕ} {c : Compared}
+    (p : xs ≡ take 513 (numbersOf first)) (q : ys ≡ take 513 (numbersOf second)) (e : c ≡ comparePlans s xs ys) where
+  compared : c ≡ comparePlans s (numbersOf first) (numbersOf second)
+  compared = e ∙ ap₂ (comparePlans s) p q ∙ lists-enough s (numbersOf first) (numbersOf second)
+
+  pub same-word : c ≡ Same → 1 ≡ comparedWord (comparePlans s (numbersOf first) (numbersOf second))
+  same-word a = ap comparedWord (sym a ∙ compared)
+
+  pub different-word : c ≡ Different → 0 ≡ comparedWord (comparePlans s (numbersOf first) (numbersOf second))
+  different-word a = ap comparedWord (sym a ∙ compared)
+
+  pub fault-word : {f : Fault} {r : ℕ} → c ≡ ComparedFault f → r ≡ faultWord f
+      → r ≡ comparedWord (comparePlans s (numbersOf first) (numbersOf second))
+  fault-word a b = b ∙ ap comparedWord (sym a ∙ compared)

@@ -1,0 +1,285 @@
+-- Planning through the door, from what the planner and the functions that put numbers ensure.
+-- The arrays that the planner gets:
+--     front-length, whole-length     the lengths of an array's front and of the array after a call that got its front
+--     loads-room            the room for loads that is handed on: none where the answer's two numbers do not fit
+-- The answer:
+--     door-refused, door-read     the answer by whether the sheet is read; verdictOn: fault 13 where a table is short
+--     answer-capped         with room for at most 512 places and 64 loads it is the same, and fault 13 without room for loads
+--     isFault               the answer is a fault
+--     Roomy, roomy          an answer that is no fault: the sheet is read and every table has room
+--     plan-sizes            a plan has a place for each job and a load for each bench
+-- What is returned, and the tables after it:
+--     tables-put            both tables of a plan, from what was read
+--     fault-called, long-called, none-called, plan-called     by the planner's answer
+use Prim.Native.Nat.{ℕ, _*_, _/_, _≤_, _<_, min}
+use native.Mathlib.Omega.{arith}
+use mathlib.Core.Path.{_≡_, refl, sym, ap, ap₂, subst, _∙_}
+use mathlib.Core.Logic.{_⊎_, inl, inr}
+use mathlib.Core.Bool.{Bool, true, false, cond, _||_}
+use mathlib.Core.List.{List, [], _∷_, _++_}
+use lib.ListN.{length, getD, take, drop, length-append, length-drop, List·getD-append}
+use lib.Seq.{length-take-le}
+use lib.Dec.{ltb}
+use borrow.Author.Tests.{lt-ltb, le-ltb, ltb-false}
+use Rattle.bools.proofs.BoolLaws.{split, clash, or-right, or-false-left, or-false-right}
+use Rattle.bools.proofs.OrderLaws.{lt-or-le}
+use Rattle.sums.specs.Table.{table}
+use Rattle.fields.specs.declared.fault.Fault.{Fault}
+use Rattle.fields.specs.declared.fault.Fault.the-variants.{Table}
+use Rattle.fields.specs.declared.sheet.Head.{Head}
+use Rattle.fields.specs.declared.sheet.Job.{Job}
+use Rattle.fields.specs.declared.sheet.Reading.{Reading}
+use Rattle.frame.specs.Reading.{accepted, refused, readSheet, stored}
+use Rattle.frame.proofs.AcceptedLaws.{accepted-sound}
+use Rattle.algorithm.specs.Day.{dayOf}
+use Rattle.algorithm.specs.Answer.{Answer, plan, tooLong, none, fault, answerTo}
+use Rattle.planning.specs.declared.answer.Answer.{Answer as Given}
+use Rattle.planning.specs.declared.answer.Answer.the-variants.{Plan, Long, None, Fault as GivenFault}
+use Rattle.planning.specs.Planner.{setOf, given, shortTables, answerFor, placesAfter, loadsAfter, Answered}
+use Rattle.blocking.specs.Answers.{SoundAnswer, plan-sound, long-sound, none-sound}
+use Rattle.blocking.proofs.Theorems.{whole-claim}
+use Rattle.yinqocha.specs.Door.{faultWord}
+use Rattle.yinqocha.specs.PlanDoor.{roomOf, doorAnswer, putNumbers, Called}
+use Rattle.yinqocha.proofs.CompareSteps.{read-cases}
+use Rattle.yinqocha.proofs.NumberSteps.{put-nothing, table-front}
+
+-- ── the arrays ──
+
+pub front-length : (n : ℕ) (xs : List ℕ) → n ≤ length xs → n ≡ length (take n xs)
+front-length n xs h = sym (length-take-le n xs h)
+
+pub whole-length : (n : ℕ) (xs front : List ℕ) → n ≤ length xs → length front ≡ length (take n xs) → length xs ≡ length (front ++ drop n xs)
+whole-length n xs front h e = sym (length-append front (drop n xs) ∙ omega (arith, length-take-le n xs h, length-drop n xs))
+
+pub loads-room : (loads numbers : List ℕ) {n : ℕ} → ((length numbers < 16) × (n ≡ 0)) ⊎ ((16 ≤ length numbers) × (n ≡ min (length loads / 8) 64))
+    → n ≡ cond (ltb (roomOf numbers) 2) 0 (min (roomOf loads) 64)
+loads-room loads numbers came = elim came [
+  | inl a ↦ rw (lt-ltb (roomOf numbers) 2 (omega arith)) (a .1)
+  | inr a ↦ rw (le-ltb (roomOf numbers) 2 (omega arith)) (a .1)
+]
+
+-- ── the answer ──
+
+ltb-min : (m k n : ℕ) → n ≤ k → ltb (min m k) n ≡ ltb m n
+ltb-min m k n h = elim (lt-or-le m n) [
+  | inl l ↦ lt-ltb (min m k) n (omega arith) ∙ sym (lt-ltb m n l)
+  | inr l ↦ le-ltb (min m k) n (omega arith) ∙ sym (le-ltb m n l)
+]
+
+or-no : (a : Bool) → (a || false) ≡ a
+or-no true = refl
+or-no false = refl
+
+abbrev pub verdictOn : Head → List Job → Bool → Answer
+verdictOn h js short = cond short (fault (Table 0)) (answerTo (dayOf h js))
+
+module _ (s : List ℕ) (np nl na : ℕ) where
+  pub door-refused : (f : Fault) → readSheet s ≡ refused f → doorAnswer s np nl na ≡ fault f
+  unfolding doorAnswer
+  door-refused f e = rw (e, doorAnswer)
+
+  pub door-read : (h : Head) (js : List Job) → readSheet s ≡ accepted h js → doorAnswer s np nl na ≡ verdictOn h js (shortTables h js np nl || ltb na 2)
+  unfolding doorAnswer
+  door-read h js e = rw (e, doorAnswer)
+
+  answer-refused : (f : Fault) → readSheet s ≡ refused f → answerFor s np nl ≡ fault f
+  unfolding answerFor
+  answer-refused f e = rw (e, answerFor)
+
+  answer-read : (h : Head) (js : List Job) → readSheet s ≡ accepted h js → answerFor s np nl ≡ verdictOn h js (shortTables h js np nl)
+  unfolding answerFor
+  answer-read h js e = rw (e, answerFor)
+
+-- An accepted sheet has at most 512 jobs, and 1 to 64 benches.
+short-capped : (s : List ℕ) (h : Head) (js : List Job) → readSheet s ≡ accepted h js → (np nl na : ℕ)
+    → shortTables h js (min np 512) (cond (ltb na 2) 0 (min nl 64)) ≡ (shortTables h js np nl || ltb na 2)
+short-capped s h js e np nl na =
+    let sound = accepted-sound s h js e in
+    let jobs-short : ltb (min np 512) (length js) ≡ ltb np (length js) = ltb-min np 512 (length js) (sound .at-most-512-jobs) in
+    elim (split (ltb na 2)) [
+      | inl a ↦
+          let benches-short : ltb 0 (h .benches) ≡ true = lt-ltb 0 (h .benches) (sound .head .some-bench) in
+          ap (λ (b : Bool). ltb (min np 512) (length js) || ltb (cond b 0 (min nl 64)) (h .benches)) a
+          ∙ or-right (ltb (min np 512) (length js)) benches-short
+          ∙ sym (or-right (shortTables h js np nl) a)
+      | inr a ↦
+          let benches-short : ltb (min nl 64) (h .benches) ≡ ltb nl (h .benches) = ltb-min nl 64 (h .benches) (sound .head .at-most-64-benches) in
+          ap (λ (b : Bool). ltb (min np 512) (length js) || ltb (cond b 0 (min nl 64)) (h .benches)) a
+          ∙ ap₂ _||_ jobs-short benches-short
+          ∙ sym (ap (λ (b : Bool). shortTables h js np nl || b) a ∙ or-no (shortTables h js np nl))
+    ]
+
+pub answer-capped : (s : List ℕ) (np nl na : ℕ) → answerFor s (min np 512) (cond (ltb na 2) 0 (min nl 64)) ≡ doorAnswer s np nl na
+answer-capped s np nl na = elim (read-cases (readSheet s)) [
+  | inl a ↦ answer-refused s (min np 512) (cond (ltb na 2) 0 (min nl 64)) na (a .0) (a .1) ∙ sym (door-refused s np nl na (a .0) (a .1))
+  | inr a ↦
+      answer-read s (min np 512) (cond (ltb na 2) 0 (min nl 64)) na (a .0) (a .1) (a .2)
+      ∙ ap (verdictOn (a .0) (a .1)) (short-capped s (a .0) (a .1) (a .2) np nl na)
+      ∙ sym (door-read s np nl na (a .0) (a .1) (a .2))
+]
+
+abbrev pub isFault : Answer → Bool
+isFault (plan largest moves places loads) = false
+isFault (tooLong j) = false
+isFault (none benches moves) = false
+isFault (fault f) = true
+
+pub record Roomy (s : List ℕ) (np nl na : ℕ) : Type 0 where
+  pub head : Head
+  pub jobs : List Job
+  pub sheet-read : readSheet s ≡ accepted head jobs
+  pub jobs-fit : length jobs ≤ np
+  pub benches-fit : head .benches ≤ nl
+  pub numbers-fit : 2 ≤ na
+  pub answers : doorAnswer s np nl na ≡ answerTo (dayOf head jobs)
+
+pub roomy : (s : List ℕ) (np nl na : ℕ) → isFault (doorAnswer s np nl na) ≡ false → Roomy s np nl na
+roomy s np nl na found = elim (read-cases (readSheet s)) [
+  | inl a ↦ clash (ap isFault (door-refused s np nl na (a .0) (a .1))) found
+  | inr (h, js, e) ↦
+      elim (split (shortTables h js np nl || ltb na 2)) [
+        | inl b ↦ clash (ap isFault (door-read s np nl na h js e ∙ ap (verdictOn h js) b)) found
+        | inr b ↦
+            let tables : shortTables h js np nl ≡ false = or-false-left (shortTables h js np nl) (ltb na 2) b in
+            record {
+              head = h;
+              jobs = js;
+              sheet-read = e;
+              jobs-fit = ltb-false np (length js) (or-false-left (ltb np (length js)) (ltb nl (h .benches)) tables);
+              benches-fit = ltb-false nl (h .benches) (or-false-right (ltb np (length js)) (ltb nl (h .benches)) tables);
+              numbers-fit = ltb-false na 2 (or-false-right (shortTables h js np nl) (ltb na 2) b);
+              answers = door-read s np nl na h js e ∙ ap (verdictOn h js) b;
+            }
+      ]
+]
+
+pub plan-sizes : (h : Head) (js : List Job) {a : Answer} → SoundAnswer h js a → (largest moves : ℕ) (ps ls : List ℕ) → a ≡ plan largest moves ps ls
+    → (length ps ≡ length js) × (length ls ≡ h .benches)
+plan-sizes h js (plan-sound {places = qs} {loads = ks} p) largest moves ps ls e =
+    let places-same : qs ≡ ps = cc in
+    let loads-same : ks ≡ ls = cc in
+    (ap length (sym places-same) ∙ p .one-to-a-job, ap length (sym loads-same) ∙ p .one-to-a-bench)
+plan-sizes h js (long-sound l) largest moves ps ls e = clash {b = true} refl cc
+plan-sizes h js (none-sound n) largest moves ps ls e = clash {b = true} refl cc
+
+-- ── the program's answer, by cases ──
+
+fault-is : (a : Answer) (f : Fault) → given a ≡ GivenFault f → a ≡ fault f
+fault-is (plan largest moves places loads) f e = clash {b = true} refl cc
+fault-is (tooLong j) f e = clash {b = true} refl cc
+fault-is (none benches moves) f e = clash {b = true} refl cc
+fault-is (fault g) f e = let same : g ≡ f = cc in ap fault same
+
+long-is : (a : Answer) (j : ℕ) → given a ≡ Long j → a ≡ tooLong j
+long-is (plan largest moves places loads) j e = clash {b = true} refl cc
+long-is (tooLong i) j e = let same : i ≡ j = cc in ap tooLong same
+long-is (none benches moves) j e = clash {b = true} refl cc
+long-is (fault f) j e = clash {b = true} refl cc
+
+none-is : (a : Answer) (set moves : ℕ) → given a ≡ None set moves → (bs : List ℕ) × (setOf bs ≡ set) × (a ≡ none bs moves)
+none-is (plan largest y places loads) set moves e = clash {b = true} refl cc
+none-is (tooLong j) set moves e = clash {b = true} refl cc
+none-is (none bs y) set moves e =
+    let set-same : setOf bs ≡ set = cc in
+    let moves-same : y ≡ moves = cc in
+    (bs, set-same, ap (none bs) moves-same)
+none-is (fault f) set moves e = clash {b = true} refl cc
+
+plan-is : (a : Answer) (largest moves : ℕ) → given a ≡ Plan largest moves → (ps : List ℕ) × (ls : List ℕ) × (a ≡ plan largest moves ps ls)
+plan-is (plan x y ps ls) largest moves e =
+    let largest-same : x ≡ largest = cc in
+    let moves-same : y ≡ moves = cc in
+    (ps, ls, ap₂ (λ (u v : ℕ). plan u v ps ls) largest-same moves-same)
+plan-is (tooLong j) largest moves e = clash {b = true} refl cc
+plan-is (none benches y) largest moves e = clash {b = true} refl cc
+plan-is (fault f) largest moves e = clash {b = true} refl cc
+
+-- ── what is returned, and the tables after it ──
+
+pub tables-put : (s : List ℕ) {x : Reading} (p l places loads : List ℕ) {places′ loads′ : List ℕ} → x ≡ stored (readSheet s)
+    → (8 * x .sheet .count ≤ length places → places′ ≡ putNumbers (table (x .sheet .count) (λ j. getD p j 0)) places)
+    → (8 * x .sheet .head .benches ≤ length loads → loads′ ≡ putNumbers (table (x .sheet .head .benches) (λ b. getD l b 0)) loads)
+    → (h : Head) → (js : List Job) → readSheet s ≡ accepted h js → 8 * length js ≤ length places → 8 * h .benches ≤ length loads
+    → (places′ ≡ putNumbers (table (length js) (λ j. getD p j 0)) places) × (loads′ ≡ putNumbers (table (h .benches) (λ b. getD l b 0)) loads)
+unfolding stored
+tables-put s {x} p l places loads e one two h js read jobs-fit benches-fit =
+    let same : x ≡ stored (accepted h js) = e ∙ ap stored read in
+    let count-is : x .sheet .count ≡ length js = ap (λ (y : Reading). y .sheet .count) same in
+    let benches-are : x .sheet .head .benches ≡ h .benches = ap (λ (y : Reading). y .sheet .head .benches) same in (
+      one (omega (arith, count-is)) ∙ ap (λ (n : ℕ). putNumbers (table n (λ j. getD p j 0)) places) count-is,
+      two (omega (arith, benches-are)) ∙ ap (λ (n : ℕ). putNumbers (table n (λ b. getD l b 0)) loads) benches-are,
+    )
+
+-- The first numbers of an array whose front was handed on.
+put-front : (ns before rest : List ℕ) {front : List ℕ} (n : ℕ) → front ≡ ns ++ drop (length ns) before → length ns ≡ n
+    → table n (λ i. getD (front ++ rest) i 0) ≡ ns
+put-front ns before rest {front} n e size =
+    table-front ns (front ++ rest) n size
+    (λ i l.
+    ap (λ (xs : List ℕ). getD (xs ++ rest) i 0) e
+    ∙ List·getD-append (ns ++ drop (length ns) before) rest 0 i (omega (arith, length-append ns (drop (length ns) before)))
+    ∙ List·getD-append ns (drop (length ns) before) 0 i (omega arith))
+
+module _ (s places loads numbers : List ℕ) {np nl : ℕ}
+    (ep : np ≡ min (roomOf places) 512) (el : nl ≡ cond (ltb (roomOf numbers) 2) 0 (min (roomOf loads) 64))
+    {r : Given} {p₀ l₀ p l : List ℕ} (answered : Answered (answerFor s np nl) r p₀ l₀ p l) where
+  abbrev door : Answer
+  door = doorAnswer s (roomOf places) (roomOf loads) (roomOf numbers)
+
+  answer-is : answerFor s np nl ≡ door
+  answer-is = ap₂ (answerFor s) ep el ∙ answer-capped s (roomOf places) (roomOf loads) (roomOf numbers)
+
+  numbers-room : isFault door ≡ false → 16 ≤ length numbers
+  numbers-room e = let few = roomy s (roomOf places) (roomOf loads) (roomOf numbers) e .numbers-fit in omega arith
+
+  pub fault-called : {f : Fault} {word : ℕ} → r ≡ GivenFault f → word ≡ faultWord f → Called door word places loads numbers places loads numbers
+  fault-called {f} {word} e w =
+      let is : door ≡ fault f = sym answer-is ∙ fault-is (answerFor s np nl) f (sym (answered .answer) ∙ e) in
+      subst (λ (a : Answer). Called a word places loads numbers places loads numbers) (sym is)
+      (record { word = w; new-places = sym (put-nothing places); new-loads = sym (put-nothing loads); new-numbers = sym (put-nothing numbers) })
+
+  pub long-called : {j : ℕ} {numbers′ : List ℕ} → r ≡ Long j → (16 ≤ length numbers → numbers′ ≡ putNumbers (j ∷ 0 ∷ []) numbers)
+      → Called door 2 places loads numbers places loads numbers′
+  long-called {j} {numbers′} e put =
+      let is : door ≡ tooLong j = sym answer-is ∙ long-is (answerFor s np nl) j (sym (answered .answer) ∙ e) in
+      subst (λ (a : Answer). Called a 2 places loads numbers places loads numbers′) (sym is)
+      (record { word = refl; new-places = sym (put-nothing places); new-loads = sym (put-nothing loads); new-numbers = put (numbers-room (ap isFault is)) })
+
+  pub none-called : {set moves : ℕ} {numbers′ : List ℕ} → r ≡ None set moves → (16 ≤ length numbers → numbers′ ≡ putNumbers (set ∷ moves ∷ []) numbers)
+      → Called door 3 places loads numbers places loads numbers′
+  none-called {set} {moves} {numbers′} e put =
+      let (bs, set-is, named) = none-is (answerFor s np nl) set moves (sym (answered .answer) ∙ e) in
+      let is : door ≡ none bs moves = sym answer-is ∙ named in
+      subst (λ (a : Answer). Called a 3 places loads numbers places loads numbers′) (sym is)
+      (record {
+        word = refl;
+        new-places = sym (put-nothing places);
+        new-loads = sym (put-nothing loads);
+        new-numbers = put (numbers-room (ap isFault is)) ∙ ap (λ (k : ℕ). putNumbers (k ∷ moves ∷ []) numbers) (sym set-is);
+      })
+
+  pub plan-called : {largest moves : ℕ} (more-p more-l : List ℕ) {places′ loads′ numbers′ : List ℕ} → r ≡ Plan largest moves
+      → ((h : Head) → (js : List Job) → readSheet s ≡ accepted h js → 8 * length js ≤ length places → 8 * h .benches ≤ length loads
+      → (places′ ≡ putNumbers (table (length js) (λ j. getD (p ++ more-p) j 0)) places)
+      × (loads′ ≡ putNumbers (table (h .benches) (λ b. getD (l ++ more-l) b 0)) loads))
+      → (16 ≤ length numbers → numbers′ ≡ putNumbers (largest ∷ moves ∷ []) numbers)
+      → Called door 1 places loads numbers places′ loads′ numbers′
+  plan-called {largest} {moves} more-p more-l {places′} {loads′} {numbers′} e tables put =
+      let (ps, ls, planned) = plan-is (answerFor s np nl) largest moves (sym (answered .answer) ∙ e) in
+      let is : door ≡ plan largest moves ps ls = sym answer-is ∙ planned in
+      let R = roomy s (roomOf places) (roomOf loads) (roomOf numbers) (ap isFault is) in
+      let h : Head = R .head in
+      let js : List Job = R .jobs in
+      let sizes = plan-sizes h js (whole-claim s h js (R .sheet-read) .sound) largest moves ps ls (sym (R .answers) ∙ is) in
+      let jobs-fit = R .jobs-fit in
+      let benches-fit = R .benches-fit in
+      let both = tables h js (R .sheet-read) (omega arith) (omega arith) in
+      let new-p : p ≡ ps ++ drop (length ps) p₀ = answered .new-places ∙ ap (λ (a : Answer). placesAfter a p₀) planned in
+      let new-l : l ≡ ls ++ drop (length ls) l₀ = answered .new-loads ∙ ap (λ (a : Answer). loadsAfter a l₀) planned in
+      subst (λ (a : Answer). Called a 1 places loads numbers places′ loads′ numbers′) (sym is)
+      (record {
+        word = refl;
+        new-places = both .0 ∙ ap (λ (ns : List ℕ). putNumbers ns places) (put-front ps p₀ more-p (length js) new-p (sizes .0));
+        new-loads = both .1 ∙ ap (λ (ns : List ℕ). putNumbers ns loads) (put-front ls l₀ more-l (h .benches) new-l (sizes .1));
+        new-numbers = put (numbers-room (ap isFault is));
+      })
