@@ -181,7 +181,8 @@ uint64_t yinqocha_write(uint64_t benches, uint64_t p, uint64_t q, uint64_t targe
  *   plan   each job has one of its benches, and no bench is loaded above the bound:
  *          3q * load <= (5q + p) * T
  *   long   a job has more than T minutes, so no assignment keeps every bench within T
- *   none   a set of benches is blocking, so no assignment keeps every bench within T
+ *   none   a set of k benches is blocking: what must lie on them weighs more than k * T, however
+ *          the jobs are placed; so no assignment keeps every bench within T
  *
  * If some assignment keeps every bench within T, the answer is a plan.
  *
@@ -220,7 +221,7 @@ uint64_t yinqocha_write(uint64_t benches, uint64_t p, uint64_t q, uint64_t targe
  *     else if (word == YINQOCHA_NONE)
  *         for (unsigned b = 0; b < YINQOCHA_MAX_BENCHES; b++)
  *             if (YINQOCHA_HAS_BENCH(answer[0], b))
- *                 printf("bench %u is blocked\n", b);
+ *                 printf("bench %u is in the blocking set\n", b);
  */
 #define YINQOCHA_PLAN 1u
 #define YINQOCHA_LONG 2u
