@@ -1,19 +1,19 @@
 -- Laws of the array definitions: one for each way in which the program's functions return.
-use Prim.Native.Nat.{ℕ, zero, suc, _+_, _-_, _≤_, _<_}
+use Prim.Native.Nat.{ℕ, _+_, _-_, _≤_, _<_}
 use mathlib.Core.Path.{_≡_, refl, sym, _∙_}
-use mathlib.Core.Bool.{Bool, true, false, not, _&&_, _||_}
-use mathlib.Core.Logic.{_⊎_, inl, inr, ⊎-elim}
+use mathlib.Core.Bool.{Bool, true, false, _&&_}
+use mathlib.Core.Logic.{inl, inr}
 use mathlib.Core.List.{List}
 use native.Mathlib.Omega.{arith}
 use lib.ListN.{getD}
 use lib.Dec.{eqb, ltb}
 use borrow.Author.Tests.{lt-ltb, le-ltb, eq-eqb, ne-eqb}
-use Rattle.bools.proofs.BoolLaws.{bool-ext, tests, and-false-left, and-false-right}
+use Rattle.bools.proofs.BoolLaws.{bool-ext, tests, and-false-left}
 use Rattle.bools.proofs.OrderLaws.{last-or-below}
 use Rattle.sums.specs.Search.{least}
 use Rattle.sums.proofs.SearchLaws.{least-found, least-none}
 use native.Mathlib.Numerals.{add-one}
-use Rattle.run.specs.Arrays.{lowestEnd, lowerOf, touchesAt, otherAt, forcedAt}
+use Rattle.run.specs.Arrays.{lowestEnd, lowerOf, touchesAt, otherAt}
 
 pub exceeds-above : (bound a w : ℕ) → bound < w → true ≡ ltb bound (a + w)
 exceeds-above bound a w h = sym (lt-ltb bound (a + w) (omega arith))
@@ -44,16 +44,6 @@ other-at-low low high r v e = rw (eq-eqb v (getD low r 0) e)
 
 pub other-at-high : (low high : List ℕ) (r v : ℕ) → (v ≡ getD low r 0 → ⊥) → getD low r 0 ≡ otherAt low high r v
 other-at-high low high r v ne = rw (ne-eqb v (getD low r 0) ne)
-
-module _ (bound : ℕ) (weight dir load : List ℕ) (marked : List Bool) (r v : ℕ) where
-  pub forced-at-directed : (getD dir r 0 ≡ 0 → ⊥) → false ≡ forcedAt bound weight dir load marked r v
-  forced-at-directed ne = rw (ne-eqb (getD dir r 0) 0 ne)
-
-  pub forced-at-unmarked : getD marked v false ≡ false → false ≡ forcedAt bound weight dir load marked r v
-  forced-at-unmarked e = rw (e, and-false-right (eqb (getD dir r 0) 0) refl)
-
-  pub forced-at-rest : getD dir r 0 ≡ 0 → getD marked v false ≡ true → ltb bound (getD load v 0 + getD weight r 0) ≡ forcedAt bound weight dir load marked r v
-  forced-at-rest e m = rw (eq-eqb (getD dir r 0) 0 e, m)
 
 -- ── one more rock of a search ──
 

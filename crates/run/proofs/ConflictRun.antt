@@ -17,6 +17,7 @@ use Rattle.bools.proofs.BoolLaws.{tests, bool-ext, and-false-right}
 use Rattle.bools.proofs.OrderLaws.{eq-or-ne, lt-or-le}
 use Rattle.sums.specs.Search.{any, least}
 use Rattle.sums.proofs.SearchLaws.{any-cong, any-least, least-cong, least-le, least-holds}
+use Rattle.sums.proofs.CountLaws.{count-le, count-mono}
 use Rattle.run.specs.declared.rocks.Limits.{Limits}
 use Rattle.algorithm.specs.Board.{Board, Directions, touches, other, neutral, towards}
 use Rattle.algorithm.specs.Forced.{direct, forcedOrientations}
@@ -25,6 +26,9 @@ use Rattle.run.specs.Arrays.{plusOf, lowestEnd, touchesAt, otherAt, with
 use Rattle.run.specs.ExploreArrays.{joinsAt, fakeAt, Built}
 use Rattle.algorithm.proofs.BoardLaws.{other-below}
 use Rattle.algorithm.proofs.RoundSteps.{fake-parts}
+use Rattle.algorithm.proofs.StepLaws.{steps-neutral}
+use Rattle.algorithm.proofs.TurnLaws.{neutrals, neutrals-direct}
+use Rattle.algorithm.proofs.ForcedLaws.{forced-call}
 use Rattle.run.proofs.ScanLaws.{board-lowest, board-first, rock-below}
 use Rattle.run.proofs.ForcedRun.{other-at, plus-one, directs-seen}
 use Rattle.run.proofs.ExploreLaws.{any-and}
@@ -252,12 +256,20 @@ module _ (b : Board) (n : Limits) (low high weight : List ℕ) (R : Rocks b n lo
     pub now-xs : List ℕ
     pub seen : Seen b now-dirs dir loads
     pub rounds : Rounds b now-xs joined
+    pub few : neutrals b now-dirs ≤ k
     pub same : construct (b .jobs) b i dirs xs ≡ construct k b i now-dirs now-xs
 
   pub building-starts : (i : ℕ) (dirs : Directions) (xs : List ℕ) (k : ℕ) {dir loads joined : List ℕ} → Seen b dirs dir loads → Rounds b xs joined → k ≡ n .jobs
       → Building i dirs xs k dir loads joined
   building-starts i dirs xs k S X e =
-      record { now-dirs = dirs; now-xs = xs; seen = S; rounds = X; same = ap (λ (m : ℕ). construct m b i dirs xs) (sym (e ∙ R .jobs)) }
+      record {
+        now-dirs = dirs;
+        now-xs = xs;
+        seen = S;
+        rounds = X;
+        few = omega (arith, e, R .jobs, count-le (b .jobs) (neutral dirs));
+        same = ap (λ (m : ℕ). construct m b i dirs xs) (sym (e ∙ R .jobs));
+      }
 
   module _ {i : ℕ} {dirs : Directions} {xs : List ℕ} {k : ℕ} {dir loads joined : List ℕ} (B : Building i dirs xs k dir loads joined) {joined′ : List ℕ}
       (X : Rounds b (conflictSet (b .benches) b i (B .now-dirs) (B .now-xs)) joined′) where
@@ -280,23 +292,38 @@ module _ (b : Board) (n : Limits) (low high weight : List ℕ) (R : Rocks b n lo
       pub building-ends : v ≡ n .benches → Built b (construct (b .jobs) b i dirs xs) dir loads joined′
       building-ends stop = built (B .same ∙ construct-ends k b i (B .now-dirs) (B .now-xs) (sym building-at ∙ stop ∙ R .benches))
 
-      pub building-goes-on : (u r : ℕ) (dir′ loads′ : List ℕ) → v ≢ n .benches → 0 < k
-          → r ≡ least (n .rocks) (λ j. touchesAt low high j v && fakeAt (n .benches) dir joined′ j v) → u ≡ otherAt low high r v
-          → ((x : Directions) → Seen b x (set dir r (plusOf u 1)) (set loads u (plusOf (getD loads u 0) (getD weight r 0)))
-          → Seen b (forcedOrientations b x) dir′ loads′)
-          → Building i dirs xs (k - 1) dir′ loads′ joined′
-      building-goes-on u r dir′ loads′ ne more first at call =
-          let step = fake-step (B .now-dirs) dir (B .seen .directed) closed joined′ X v r e ne first in
-          let j = least (b .jobs) (fake b (B .now-dirs) closed v) in
-          record {
-            now-dirs = forcedOrientations b (direct b (B .now-dirs) v j);
-            now-xs = closed;
-            seen =
-                call (direct b (B .now-dirs) v j)
-                (subst (λ (x : ℕ). Seen b (direct b (B .now-dirs) v j) (set dir r (plusOf x 1)) (set loads x (plusOf (getD loads x 0) (getD weight r 0)))) (sym at)
-                (subst (λ (x : ℕ). Seen b (direct b (B .now-dirs) v x) (set dir r (plusOf (otherAt low high r v) 1))
-                (set loads (otherAt low high r v) (plusOf (getD loads (otherAt low high r v) 0) (getD weight r 0)))) (step .rock-is)
-                (directs-seen b n low high weight R (B .now-dirs) r v (step .rock-below) (step .touched) dir loads (B .seen) (step .free))));
-            rounds = X;
-            same = B .same ∙ construct-turns k b i (B .now-dirs) (B .now-xs) v more building-at (step .bench-below);
-          }
+      module _ (u r : ℕ) (ne : v ≢ n .benches) (first : r ≡ least (n .rocks) (λ j. touchesAt low high j v && fakeAt (n .benches) dir joined′ j v))
+          (at : u ≡ otherAt low high r v) where
+        step : FakeStep (B .now-dirs) dir (B .seen .directed) closed joined′ X v r
+        step = fake-step (B .now-dirs) dir (B .seen .directed) closed joined′ X v r e ne first
+
+        abbrev pub faked : Directions
+        faked = direct b (B .now-dirs) v (least (b .jobs) (fake b (B .now-dirs) closed v))
+
+        pub fake-seen : Seen b faked (set dir r (plusOf u 1)) (set loads u (plusOf (getD loads u 0) (getD weight r 0)))
+        fake-seen =
+            subst (λ (x : ℕ). Seen b faked (set dir r (plusOf x 1)) (set loads x (plusOf (getD loads x 0) (getD weight r 0)))) (sym at)
+            (subst (λ (x : ℕ). Seen b (direct b (B .now-dirs) v x) (set dir r (plusOf (otherAt low high r v) 1))
+            (set loads (otherAt low high r v) (plusOf (getD loads (otherAt low high r v) 0) (getD weight r 0)))) (step .rock-is)
+            (directs-seen b n low high weight R (B .now-dirs) r v (step .rock-below) (step .touched) dir loads (B .seen) (step .free)))
+
+        fewer : 0 < k → neutrals b (forcedOrientations b faked) ≤ k - 1
+        fewer more =
+            let j = rockAt b r in
+            let is : direct b (B .now-dirs) v j ≡ faked = ap (direct b (B .now-dirs) v) (step .rock-is) in
+            let drops : neutrals b faked < neutrals b (B .now-dirs) =
+            subst (λ (x : Directions). neutrals b x < neutrals b (B .now-dirs)) is
+            (neutrals-direct b (B .seen .directed .pointed) v j (rock-below b n low high weight R r (step .rock-below)) (step .free)) in
+            let call = forced-call b (R .sound) faked (fake-seen .directed .pointed) in
+            omega (arith, B .few, drops, count-mono (b .jobs) (neutral (forcedOrientations b faked)) (neutral faked) (λ i h q. steps-neutral b (call .steps) i q))
+
+        pub building-goes-on : {dir′ loads′ : List ℕ} → 0 < k → Seen b (forcedOrientations b faked) dir′ loads′ → Building i dirs xs (k - 1) dir′ loads′ joined′
+        building-goes-on more S =
+            record {
+              now-dirs = forcedOrientations b faked;
+              now-xs = closed;
+              seen = S;
+              rounds = X;
+              few = fewer more;
+              same = B .same ∙ construct-turns k b i (B .now-dirs) (B .now-xs) v more building-at (step .bench-below);
+            }

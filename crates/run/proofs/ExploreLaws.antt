@@ -1,12 +1,12 @@
 -- Laws of the tests of an exploration: one for each way in which the program's functions return; and of searches in parts.
 use Prim.Native.Nat.{ℕ, zero, suc, _-_, _/_, _%_, _^_, _<_, max}
 use mathlib.Core.Path.{_≡_, refl, sym, ap, _∙_}
-use mathlib.Core.Bool.{Bool, true, false, cond, not, _&&_, _||_}
+use mathlib.Core.Bool.{Bool, true, false, cond, _&&_, _||_}
 use native.Mathlib.Omega.{arith}
 use native.Mathlib.Nat.{mod-lt, zero-div}
 use lib.Dec.{eqb, lit<}
 use lib.Bits.{bitOr, or-shr, or-step}
-use Rattle.bools.proofs.BoolLaws.{and-false-right, or-right}
+use Rattle.bools.proofs.BoolLaws.{and-false-right}
 use Rattle.sums.specs.Search.{any}
 use Rattle.sums.proofs.SearchLaws.{any-false}
 use Rattle.bits.specs.Bits.{isSet}
@@ -19,13 +19,6 @@ or-yes {a} b e p = let x : a ≡ true = sym e ∙ p in rw x
 pub or-rest : {a b t u : Bool} → t ≡ a → t ≡ false → u ≡ b → u ≡ (a || b)
 or-rest {a} {b} e p q = let x : a ≡ false = sym e ∙ p in rw x q
 
-pub or-last-yes : {b t : Bool} (a : Bool) → t ≡ b → t ≡ true → true ≡ (a || b)
-or-last-yes a e p = sym (or-right a (sym e ∙ p))
-
-pub or-last-no : {b t : Bool} (a : Bool) → t ≡ b → t ≡ false → a ≡ (a || b)
-or-last-no {b} true e p = refl
-or-last-no {b} false e p = sym (sym e ∙ p)
-
 pub and-not-second : {b t : Bool} (a c : Bool) → t ≡ b → t ≡ false → false ≡ (a && (b && c))
 and-not-second {b} a c e p = let x : b ≡ false = sym e ∙ p in rw x (sym (and-false-right a refl))
 
@@ -34,10 +27,6 @@ cond-yes {c = c} y e p q = let s : c ≡ true = sym e ∙ p in rw s q
 
 pub cond-no {ℓ} : {A : Type ℓ} {y z : A} {c t : Bool} (x : A) → t ≡ c → t ≡ false → z ≡ y → z ≡ cond c x y
 cond-no {c = c} x e p q = let s : c ≡ false = sym e ∙ p in rw s q
-
-pub cond-swap {ℓ} : {A : Type ℓ} {z : A} {o t : Bool} (w : Bool) (x y : A) → t ≡ o → t ≡ true → z ≡ cond w x y → z ≡ cond (o && not w) y x
-cond-swap {o = o} true x y e p q = let s : o ≡ true = sym e ∙ p in rw s q
-cond-swap {o = o} false x y e p q = let s : o ≡ true = sym e ∙ p in rw s q
 
 -- ── searches in parts ──
 
@@ -83,8 +72,3 @@ isSet-or n x y v =
 pub isSet-zero : (n v : ℕ) → isSet n 0 v ≡ false
 unfolding isSet
 isSet-zero n v = rw (zero-div (2 ^ (n - 1 - v)))
-
--- The test of a bit.
-pub bit-test : (mask v : ℕ) → eqb (mask / 2 ^ (63 - v) % 2) 1 ≡ isSet 64 mask v
-unfolding isSet
-bit-test mask v = refl

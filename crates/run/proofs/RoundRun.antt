@@ -1,12 +1,12 @@
 -- The arrays follow the rounds of an exploration.
 --     Filled               what the loop keeps that collects the benches which the pebbles allow
 --     reach-shows          the set that the program makes is that of the benches within reach
---     Opening              what the loop keeps that opens a round
+--     begun                how a round opens
 --     Exploring            what the loop over the rounds keeps; how it goes on, and how it ends
-use Prim.Native.Nat.{ℕ, zero, suc, _+_, _-_, _≤_, _<_}
+use Prim.Native.Nat.{ℕ, zero, suc, _+_, _-_, _^_, _≤_, _<_}
 use mathlib.Core.Path.{_≡_, refl, sym, ap, ap₂, subst, _∙_}
 use mathlib.Core.Bool.{Bool, true, false, cond, not, _&&_, _||_}
-use mathlib.Core.Logic.{inl, inr, _≢_}
+use mathlib.Core.Logic.{inl, inr}
 use mathlib.Core.List.{List}
 use native.Mathlib.Omega.{arith}
 use native.Mathlib.Numerals.{add-one}
@@ -14,26 +14,28 @@ use lib.ListN.{length, getD, set, replicate, length-set, length-replicate, getD-
 use lib.Dec.{eqb, ltb}
 use lib.Bits.{bitOr}
 use lib.Seq.{getD-set-same, getD-set-other}
-use borrow.Author.Tests.{lt-ltb, eq-eqb, ne-eqb, eqb-true}
-use Rattle.bools.proofs.BoolLaws.{bool-ext, and-intro, and-left, and-right}
-use Rattle.bools.proofs.OrderLaws.{eq-or-ne, last-or-below}
+use borrow.Author.Tests.{lt-ltb, le-ltb, ltb-true, eq-eqb, ne-eqb, eqb-true}
+use Rattle.bools.proofs.BoolLaws.{bool-ext, and-intro, and-left, and-right, and-false-left, not-intro-true}
+use Rattle.bools.proofs.OrderLaws.{eq-or-ne, lt-or-le}
 use Rattle.sums.specs.Search.{any}
-use Rattle.sums.proofs.SearchLaws.{any-intro, any-elim, any-none}
+use Rattle.sums.proofs.SearchLaws.{any-intro, any-elim, any-none, any-false}
 use Rattle.sums.proofs.TableLaws.{length-table, getD-table}
 use Rattle.bits.specs.Bits.{isSet}
+use Rattle.bits.proofs.SetBits.{any-isSet}
 use Rattle.run.specs.declared.rocks.Limits.{Limits}
 use Rattle.algorithm.specs.Board.{Board, Directions, load, overloaded}
 use Rattle.algorithm.specs.Properties.{SoundBoard}
 use Rattle.algorithm.specs.Explore.{Explored, never, roundOf, inConflict, activated, construct, activate, inReach, typeA, openRound, rounds, unexplored, explore}
 use Rattle.algorithm.specs.Forced.{forcedOrientations}
-use Rattle.run.specs.Arrays.{plusOf, withinAt, rocksOf, rockAt, Rocks, Directed, Loaded, Seen, Owned, Rounds, Pebbles}
-use Rattle.run.specs.ExploreArrays.{addedAt, moreAt, reachAt, opensAt, Reaches, openedLevels, openedJoined, Begun, Built}
+use Rattle.run.specs.Arrays.{plusOf, rocksOf, rockAt, Rocks, Directed, Loaded, Seen, Owned, Rounds, Pebbles}
+use Rattle.run.specs.ExploreArrays.{addedAt, opensAt, Reaches, openedLevels, openedJoined, Begun, Built}
 use Rattle.run.specs.Shown.{Shown}
 use Rattle.algorithm.proofs.BoardLaws.{pointed-start, rockLoad-none}
 use Rattle.run.proofs.ScanLaws.{rock-below}
 use Rattle.run.proofs.ForcedRun.{plus-one}
 use Rattle.run.proofs.ExploreLaws.{cond-no, isSet-or, isSet-zero}
-use Rattle.run.proofs.ConflictRun.{within-at}
+use Rattle.run.proofs.ConflictRun.{within-same}
+use Rattle.run.proofs.RoundSets.{Raised, Sets}
 
 or-none : (a : Bool) → a ≡ (a || false)
 or-none true = refl
@@ -102,29 +104,6 @@ filled-all b k F e = record { entries = λ u v hu hv. F .entries u v hu hv ∙ a
 
 -- ── the benches within reach ──
 
-pub reach-none : (i : ℕ) (from level : List ℕ) → 0 ≡ reachAt 0 i from level
-unfolding reachAt
-reach-none i from level = refl
-
-pub reach-next : (u i : ℕ) (from level : List ℕ) {reach next : ℕ} → reach ≡ reachAt u i from level → next ≡ moreAt i from level u reach
-    → next ≡ reachAt (u + 1) i from level
-unfolding reachAt
-reach-next u i from level e q = rw add-one (q ∙ ap (moreAt i from level u) e)
-
-isSet-more : (c : Bool) (x y v : ℕ) → isSet 64 (cond c (bitOr x y) x) v ≡ (isSet 64 x v || (c && isSet 64 y v))
-isSet-more true x y v = isSet-or 64 x y v
-isSet-more false x y v = or-none (isSet 64 x v)
-
-abbrev from-level : ℕ → List ℕ → List ℕ → ℕ → ℕ → Bool
-from-level i from level v u = eqb (plusOf (getD level u 0) 1) i && isSet 64 (getD from u 0) v
-
-isSet-reach : (k i : ℕ) (from level : List ℕ) (v : ℕ) → isSet 64 (reachAt k i from level) v ≡ any k (from-level i from level v)
-unfolding reachAt
-isSet-reach zero i from level v = isSet-zero 64 v
-isSet-reach (suc k) i from level v =
-    isSet-more (eqb (plusOf (getD level k 0) 1) i) (reachAt k i from level) (getD from k 0) v
-    ∙ ap (λ (x : Bool). x || from-level i from level v k) (isSet-reach k i from level v)
-
 module _ (b : Board) (sound : SoundBoard b) (few : b .benches ≤ 64) (i : ℕ) (in-time : i ≤ b .benches) (from ys level : List ℕ) (T : Reaches b from) (Y : Rounds b ys level) where
   level-before : (u : ℕ) → u < b .benches → plusOf (getD level u 0) 1 ≡ i → suc (roundOf b ys u) ≡ i
   level-before u h e = let q = Y .entries u h in omega (arith, e, q)
@@ -132,15 +111,21 @@ module _ (b : Board) (sound : SoundBoard b) (few : b .benches ≤ 64) (i : ℕ) 
   level-at : (u : ℕ) → u < b .benches → suc (roundOf b ys u) ≡ i → plusOf (getD level u 0) 1 ≡ i
   level-at u h e = let q = Y .entries u h in omega (arith, e, q)
 
-  pub reach-shows : {reach : ℕ} (m : ℕ) → m ≡ b .benches → reach ≡ reachAt m i from level → (v : ℕ) → v < b .benches → isSet 64 reach v ≡ inReach b i ys v
-  reach-shows m same e v hv =
+  -- The benches of the level before i are in the set `fresh`.
+  reach-shows : (reach fresh : ℕ) → ((v : ℕ) → v < 64 → isSet 64 reach v ≡ any 64 (λ u. isSet 64 fresh u && isSet 64 (getD from u 0) v))
+      → ((u : ℕ) → u < 64 → isSet 64 fresh u ≡ (ltb u (b .benches) && eqb (plusOf (getD level u 0) 1) i))
+      → (v : ℕ) → v < b .benches → isSet 64 reach v ≡ inReach b i ys v
+  reach-shows reach fresh er ef v hv =
       let near : ℕ → Bool = λ j. b .pebble j && b .allows j v && eqb (suc (roundOf b ys (b .place j))) i in
-      ap (λ (x : ℕ). isSet 64 x v) (e ∙ ap (λ (k : ℕ). reachAt k i from level) same) ∙ isSet-reach (b .benches) i from level v
-      ∙ bool-ext (any (b .benches) (from-level i from level v)) (inReach b i ys v)
+      let meets : ℕ → Bool = λ u. isSet 64 fresh u && isSet 64 (getD from u 0) v in
+      er v (omega arith)
+      ∙ bool-ext (any 64 meets) (inReach b i ys v)
       (λ p.
-      let (u, hu, q) = any-elim (b .benches) (from-level i from level v) p in
-      let at : plusOf (getD level u 0) 1 ≡ i = eqb-true (plusOf (getD level u 0) 1) i (and-left (eqb (plusOf (getD level u 0) 1) i) (isSet 64 (getD from u 0) v) q) in
-      let set-there = and-right (eqb (plusOf (getD level u 0) 1) i) (isSet 64 (getD from u 0) v) q in
+      let (u, h, q) = any-elim 64 meets p in
+      let level-there = sym (ef u h) ∙ and-left (isSet 64 fresh u) (isSet 64 (getD from u 0) v) q in
+      let hu : u < b .benches = ltb-true u (b .benches) (and-left (ltb u (b .benches)) (eqb (plusOf (getD level u 0) 1) i) level-there) in
+      let at : plusOf (getD level u 0) 1 ≡ i = eqb-true (plusOf (getD level u 0) 1) i (and-right (ltb u (b .benches)) (eqb (plusOf (getD level u 0) 1) i) level-there) in
+      let set-there = and-right (isSet 64 fresh u) (isSet 64 (getD from u 0) v) q in
       let (j, hj, s) = any-elim (b .jobs) (lies b u v) (sym (T .entries u v hu hv) ∙ set-there) in
       let both = and-left (b .pebble j && eqb (b .place j) u) (b .allows j v) s in
       let lies-there : b .place j ≡ u = eqb-true (b .place j) u (and-right (b .pebble j) (eqb (b .place j) u) both) in
@@ -154,114 +139,95 @@ module _ (b : Board) (sound : SoundBoard b) (few : b .benches ≤ 64) (i : ℕ) 
       let u = b .place j in
       let hu : u < b .benches = sound .allowed-below j u hj (sound .pebble-allowed j hj is-pebble) in
       let at = eqb-true (suc (roundOf b ys u)) i (and-right (b .pebble j && b .allows j v) (eqb (suc (roundOf b ys u)) i) s) in
-      any-intro (b .benches) (from-level i from level v) u hu
-      (and-intro (eq-eqb (plusOf (getD level u 0) 1) i (level-at u hu at))
+      any-intro 64 meets u (omega arith)
+      (and-intro (ef u (omega arith) ∙ and-intro (lt-ltb u (b .benches) hu) (eq-eqb (plusOf (getD level u 0) 1) i (level-at u hu at)))
       (T .entries u v hu hv
       ∙ any-intro (b .jobs) (lies b u v) j hj (and-intro (and-intro is-pebble (eq-eqb u u refl)) (and-right (b .pebble j) (b .allows j v) both)))))
 
 -- ── the opening of a round ──
 
-put-here : (c : Bool) (xs : List ℕ) (k i : ℕ) → k < length xs → getD (cond c (set xs k i) xs) k 0 ≡ cond c i (getD xs k 0)
-put-here true xs k i h = getD-set-same xs k i 0 h
-put-here false xs k i h = refl
-
-put-there : (c : Bool) (xs : List ℕ) (k i v : ℕ) → v ≢ k → getD (cond c (set xs k i) xs) v 0 ≡ getD xs v 0
-put-there true xs k i v ne = getD-set-other xs k v i 0 ne
-put-there false xs k i v ne = refl
-
-put-length : (c : Bool) (xs : List ℕ) (k i : ℕ) → length (cond c (set xs k i) xs) ≡ length xs
-put-length true xs k i = length-set xs k i
-put-length false xs k i = refl
-
--- The first k entries are as f says, and the others still as g says.
-pub record Half (m : ℕ) (f g : ℕ → ℕ) (k : ℕ) (xs : List ℕ) : Type 0 where
-  pub room : m ≤ length xs
-  pub done : (v : ℕ) → v < k → v < m → getD xs v 0 ≡ f v
-  pub left : (v : ℕ) → k ≤ v → v < m → getD xs v 0 ≡ g v
-
-half-next : (m i k : ℕ) (f g : ℕ → ℕ) (xs : List ℕ) (c : Bool) → k < m → Half m f g k xs → cond c i (g k) ≡ f k → {ys : List ℕ} → ys ≡ cond c (set xs k i) xs
-    → Half m f g (k + 1) ys
-half-next m i k f g xs c h H e q =
-    rw q (
-    record {
-      room = omega (arith, put-length c xs k i, H .room);
-      done = λ v l hv. elim (last-or-below {i = v} {n = k} (omega arith)) [
-        | inl same ↦
-            subst (λ (u : ℕ). getD (cond c (set xs k i) xs) u 0 ≡ f u) (sym same)
-            (put-here c xs k i (omega (arith, H .room)) ∙ ap (λ (x : ℕ). cond c i x) (H .left k (omega arith) h) ∙ e)
-        | inr below ↦ put-there c xs k i v (λ s. omega arith) ∙ H .done v below hv
-      ];
-      left = λ v l hv. put-there c xs k i v (λ s. omega arith) ∙ H .left v (omega arith) hv;
-    })
-
 type-a : (i : ℕ) (b : Board) (x : Explored) (k : ℕ) → typeA b i x k ≡ cond (eqb i 0) (overloaded b (x .dir) k) (not (activated b x k) && inReach b i (x .level) k)
 type-a zero b x k = refl
 type-a (suc i) b x k = cond-no (overloaded b (x .dir) k) refl (ne-eqb (suc i) 0 (λ e. omega arith)) refl
 
-module _ (b : Board) (n : Limits) (low high weight : List ℕ) (R : Rocks b n low high weight) (i : ℕ) (x : Explored) where
-  -- The first k benches have opened the round where they can.
-  pub record Opening (k : ℕ) (opened : Bool) (rounds levels : List ℕ) : Type 0 where
-    pub some : opened ≡ any k (typeA b i x)
-    pub joined : Half (b .benches) (λ v. cond (typeA b i x v && not (inConflict b x v)) i (roundOf b (x .joined) v)) (roundOf b (x .joined)) k rounds
-    pub level : Half (b .benches) (λ v. cond (typeA b i x v) i (roundOf b (x .level) v)) (roundOf b (x .level)) k levels
+and-swap : (a b : Bool) → (a && b) ≡ (b && a)
+and-swap true true = refl
+and-swap true false = refl
+and-swap false true = refl
+and-swap false false = refl
 
-  pub opening-starts : {joined level : List ℕ} → Rounds b (x .joined) joined → Rounds b (x .level) level → Opening 0 false joined level
-  opening-starts X Y =
-      record {
-        some = refl;
-        joined = record { room = X .room; done = λ v l hv. absurd (omega arith); left = λ v l hv. X .entries v hv };
-        level = record { room = Y .room; done = λ v l hv. absurd (omega arith); left = λ v l hv. Y .entries v hv };
-      }
+cond-none : (c : Bool) → cond c false false ≡ false
+cond-none true = refl
+cond-none false = refl
 
-  module _ (load : List ℕ) (reach : ℕ) (L : Loaded b (x .dir) load) (reached : (v : ℕ) → v < b .benches → isSet 64 reach v ≡ inReach b i (x .level) v) where
-    opens-same : (level : List ℕ) (k : ℕ) → k < b .benches → getD level k 0 ≡ roundOf b (x .level) k → opensAt n i load level reach k ≡ typeA b i x k
-    opens-same level k h e =
-        ap₂ (λ (p q : Bool). cond (eqb i 0) p q) (ap₂ ltb (R .bound) (L .entries k h))
-        (ap₂ (λ (p q : Bool). p && q) (ap not (within-at b n low high weight R (x .level) level k e))
-        (ap (λ (p : Bool). p && isSet 64 reach k) (lt-ltb k 64 (omega (arith, R .few-benches))) ∙ reached k h))
-        ∙ sym (type-a i b x k)
+module _ (b : Board) (n : Limits) (low high weight : List ℕ) (R : Rocks b n low high weight) where
+  module _ (i : ℕ) (x : Explored) (all active reach opened fresh wait : ℕ) (dir load joined level joined′ level′ : List ℕ)
+      (S : Sets n low high weight i all dir load joined level active fresh wait) (O : Raised n i all active reach load joined level opened joined′ level′)
+      (L : Loaded b (x .dir) load) (X : Rounds b (x .joined) joined) (Y : Rounds b (x .level) level)
+      (reached : (v : ℕ) → v < b .benches → isSet 64 reach v ≡ inReach b i (x .level) v) where
+    opens-inside : (v : ℕ) → v < b .benches → opensAt n i all active reach load v ≡ typeA b i x v
+    opens-inside v h =
+        let l : v < n .benches = omega (arith, R .benches) in
+        let t : ltb v (n .benches) ≡ true = lt-ltb v (n .benches) l in
+        ap₂ (λ (p q : Bool). cond (eqb i 0) p q)
+        (ap₂ (λ (p q : Bool). p && q) t (ap₂ ltb (R .bound) (L .entries v h)))
+        (ap₂ (λ (p q : Bool). p && q) (S .alls v (omega (arith, R .few-benches)) ∙ t)
+        (ap₂ (λ (p q : Bool). p && not q) (reached v h) (S .actives v l ∙ within-same b n low high weight R (x .level) level Y v h)
+        ∙ and-swap (inReach b i (x .level) v) (not (activated b x v))))
+        ∙ sym (type-a i b x v)
 
-    pub opening-next : {k : ℕ} {opened opened′ : Bool} {joined level joined′ level′ : List ℕ} → Opening k opened joined level → k < n .benches
-        → opened′ ≡ (opened || opensAt n i load level reach k)
-        → joined′ ≡ cond (opensAt n i load level reach k && not (withinAt (n .benches) joined k)) (set joined k i) joined
-        → level′ ≡ cond (opensAt n i load level reach k) (set level k i) level
-        → Opening (k + 1) opened′ joined′ level′
-    opening-next {k} {opened} {opened′} {joined} {level} O less eo ej el =
-        let h : k < b .benches = omega (arith, R .benches) in
-        let same = opens-same level k h (O .level .left k (omega arith) h) in
-        let inside : withinAt (n .benches) joined k ≡ inConflict b x k =
-        within-at b n low high weight R (x .joined) joined k (O .joined .left k (omega arith) h) in
+    opens-same : (v : ℕ) → v < 64 → isSet 64 opened v ≡ (ltb v (b .benches) && typeA b i x v)
+    opens-same v h = O .opens v h ∙ elim (lt-or-le v (b .benches)) [
+      | inl l ↦ opens-inside v l ∙ sym (ap (λ (p : Bool). p && typeA b i x v) (lt-ltb v (b .benches) l))
+      | inr l ↦
+          let out : ltb v (n .benches) ≡ false = le-ltb v (n .benches) (omega (arith, R .benches)) in
+          ap₂ (λ (p q : Bool). cond (eqb i 0) p q) (and-false-left (ltb (n .bound) (getD load v 0)) out)
+          (and-false-left (isSet 64 reach v && not (isSet 64 active v)) (S .alls v h ∙ out))
+          ∙ cond-none (eqb i 0) ∙ sym (and-false-left (typeA b i x v) (le-ltb v (b .benches) l))
+    ]
+
+    opened-at : (v : ℕ) → v < b .benches → isSet 64 opened v ≡ typeA b i x v
+    opened-at v l = O .opens v (omega (arith, R .few-benches)) ∙ opens-inside v l
+
+    begun : Begun b i x opened joined′ level′
+    begun =
         record {
-          some = rw add-one (eo ∙ ap₂ (λ (p q : Bool). p || q) (O .some) same);
+          some = opens-same;
           joined =
-              half-next (b .benches) i k (λ v. cond (typeA b i x v && not (inConflict b x v)) i (roundOf b (x .joined) v)) (roundOf b (x .joined)) joined
-              (opensAt n i load level reach k && not (withinAt (n .benches) joined k)) h (O .joined)
-              (ap₂ (λ (p q : Bool). cond (p && not q) i (roundOf b (x .joined) k)) same inside) ej;
+              record {
+                one-to-a-bench = length-table (b .benches) (λ v. cond (typeA b i x v && not (inConflict b x v)) i (roundOf b (x .joined) v));
+                room = omega (arith, O .long-joined, X .room);
+                entries = λ v h. O .entered v (omega (arith, X .room)) (omega (arith, R .few-benches))
+                    ∙ ap₂ (λ (p q : Bool). cond (p && not q) i (getD joined v 0)) (opened-at v h) (within-same b n low high weight R (x .joined) joined X v h)
+                    ∙ ap (λ (k : ℕ). cond (typeA b i x v && not (inConflict b x v)) i k) (X .entries v h)
+                    ∙ sym (getD-table (b .benches) (λ u. cond (typeA b i x u && not (inConflict b x u)) i (roundOf b (x .joined) u)) v (never b) h);
+              };
           level =
-              half-next (b .benches) i k (λ v. cond (typeA b i x v) i (roundOf b (x .level) v)) (roundOf b (x .level)) level
-              (opensAt n i load level reach k) h (O .level) (ap (λ (p : Bool). cond p i (roundOf b (x .level) k)) same) el;
+              record {
+                one-to-a-bench = length-table (b .benches) (λ v. cond (typeA b i x v) i (roundOf b (x .level) v));
+                room = omega (arith, O .long-level, Y .room);
+                entries = λ v h. O .raised v (omega (arith, Y .room))
+                    ∙ ap₂ (λ (p q : Bool). cond (p && q) i (getD level v 0)) (lt-ltb v 64 (omega (arith, R .few-benches))) (opened-at v h)
+                    ∙ ap (λ (k : ℕ). cond (typeA b i x v) i k) (Y .entries v h)
+                    ∙ sym (getD-table (b .benches) (λ u. cond (typeA b i x u) i (roundOf b (x .level) u)) v (never b) h);
+              };
         }
 
-  pub opening-ends : {k : ℕ} {opened : Bool} {joined level : List ℕ} → Opening k opened joined level → k ≡ n .benches → Begun b i x opened joined level
-  opening-ends {k} O e =
-      let all : k ≡ b .benches = e ∙ R .benches in
-      record {
-        some = O .some ∙ ap (λ (m : ℕ). any m (typeA b i x)) all;
-        joined =
-            record {
-              one-to-a-bench = length-table (b .benches) (λ v. cond (typeA b i x v && not (inConflict b x v)) i (roundOf b (x .joined) v));
-              room = O .joined .room;
-              entries = λ v h. O .joined .done v (omega arith) h
-                  ∙ sym (getD-table (b .benches) (λ u. cond (typeA b i x u && not (inConflict b x u)) i (roundOf b (x .joined) u)) v (never b) h);
-            };
-        level =
-            record {
-              one-to-a-bench = length-table (b .benches) (λ v. cond (typeA b i x v) i (roundOf b (x .level) v));
-              room = O .level .room;
-              entries = λ v h. O .level .done v (omega arith) h
-                  ∙ sym (getD-table (b .benches) (λ u. cond (typeA b i x u) i (roundOf b (x .level) u)) v (never b) h);
-            };
-      }
+-- Where the set is empty no bench opens the round, and else some bench does.
+none-opens : (b : Board) (i : ℕ) (x : Explored) {opened : ℕ} {joined level : List ℕ} → b .benches ≤ 64 → Begun b i x opened joined level → opened ≡ 0
+    → any (b .benches) (typeA b i x) ≡ false
+none-opens b i x {opened} few O e =
+    any-false (b .benches) (typeA b i x) (λ v h.
+    sym (ap (λ (p : Bool). p && typeA b i x v) (lt-ltb v (b .benches) h)) ∙ sym (O .some v (omega arith)) ∙ ap (λ (k : ℕ). isSet 64 k v) e ∙ isSet-zero 64 v)
+
+some-opens : (b : Board) (i : ℕ) (x : Explored) {opened : ℕ} {joined level : List ℕ} → Begun b i x opened joined level → 0 < opened → opened < 2 ^ 64
+    → any (b .benches) (typeA b i x) ≡ true
+some-opens b i x {opened} O some fits =
+    let full : any 64 (isSet 64 opened) ≡ true = any-isSet 64 opened fits ∙ not-intro-true (ne-eqb opened 0 (λ z. omega arith)) in
+    let (v, h, p) = any-elim 64 (isSet 64 opened) full in
+    let both = sym (O .some v h) ∙ p in
+    any-intro (b .benches) (typeA b i x) v (ltb-true v (b .benches) (and-left (ltb v (b .benches)) (typeA b i x v) both))
+    (and-right (ltb v (b .benches)) (typeA b i x v) both)
 
 -- ── the rounds ──
 
@@ -291,10 +257,10 @@ unfolding openRound
 round-shown b i x dir loads joined level B Y = record { seen = B .seen; joined = B .joined; level = Y }
 
 -- Where no bench opens the round, the arrays show what they showed.
-none-opened : (b : Board) (i : ℕ) (x : Explored) {dir loads joined level joined′ level′ : List ℕ} {opened : Bool} → Shown b x dir loads joined level
-    → Begun b i x opened joined′ level′ → opened ≡ false → Shown b x dir loads joined′ level′
+none-opened : (b : Board) (i : ℕ) (x : Explored) {dir loads joined level joined′ level′ : List ℕ} {opened : ℕ} → Shown b x dir loads joined level
+    → Begun b i x opened joined′ level′ → any (b .benches) (typeA b i x) ≡ false → Shown b x dir loads joined′ level′
 none-opened b i x S O e =
-    let none = any-none (b .benches) (typeA b i x) (sym (O .some) ∙ e) in
+    let none = any-none (b .benches) (typeA b i x) e in
     record {
       seen = S .seen;
       joined =
@@ -368,28 +334,33 @@ module _ (b : Board) (n : Limits) (low high weight : List ℕ) (R : Rocks b n lo
       subst (λ (x : Explored). Shown b x dir loads joined level)
       (sym (E .same ∙ ap (λ (k : ℕ). rounds k b i (E .now-x)) none ∙ rounds-none b i (E .now-x))) (E .shown)
 
-  module _ {i turns : ℕ} {from dir loads joined level : List ℕ} (T : Reaches b from) (E : Exploring i dir loads joined level)
-      (in-time : i < turns) (bound : turns ≡ plusOf (n .benches) 1) {reach : ℕ} {opened : Bool} {joined′ level′ : List ℕ}
-      (e : reach ≡ reachAt (n .benches) i from level)
-      (opening : (x : Explored) → Loaded b (x .dir) loads → Rounds b (x .joined) joined → Rounds b (x .level) level
-      → ((v : ℕ) → v < b .benches → isSet 64 reach v ≡ inReach b i (x .level) v) → Begun b i x opened joined′ level′) where
+  module _ {i turns all active reach fresh wait opened : ℕ} {from dir loads joined level joined′ level′ : List ℕ} (T : Reaches b from)
+      (E : Exploring i dir loads joined level) (in-time : i < turns) (bound : turns ≡ plusOf (n .benches) 1)
+      (e : (v : ℕ) → v < 64 → isSet 64 reach v ≡ any 64 (λ u. isSet 64 fresh u && isSet 64 (getD from u 0) v))
+      (S : Sets n low high weight i all dir loads joined level active fresh wait) (O : Raised n i all active reach loads joined level opened joined′ level′) where
     opened-now : Begun b i (E .now-x) opened joined′ level′
     opened-now =
-        opening (E .now-x) (E .shown .seen .loaded) (E .shown .joined) (E .shown .level)
-        (reach-shows b (R .sound) (R .few-benches) i (omega (arith, bound, R .benches)) from (E .now-x .level) level T (E .shown .level) (n .benches) (R .benches) e)
+        begun b n low high weight R i (E .now-x) all active reach opened fresh wait dir loads joined level joined′ level′ S O
+        (E .shown .seen .loaded) (E .shown .joined) (E .shown .level)
+        (reach-shows b (R .sound) (R .few-benches) i (omega (arith, bound, R .benches)) from (E .now-x .level) level T (E .shown .level) reach fresh e
+        (λ u h. S .freshly u h ∙ ap (λ (m : ℕ). ltb u m && eqb (plusOf (getD level u 0) 1) i) (R .benches)))
 
-    pub exploring-ends : opened ≡ false → Shown b (explore b) dir loads joined′ level′
+    pub exploring-joined : Rounds b (openedJoined b i (E .now-x)) joined′
+    exploring-joined = opened-now .joined
+
+    pub exploring-ends : opened ≡ 0 → Shown b (explore b) dir loads joined′ level′
     exploring-ends shut =
+        let none = none-opens b i (E .now-x) (R .few-benches) opened-now shut in
         subst (λ (x : Explored). Shown b x dir loads joined′ level′)
-        (sym (E .same ∙ rounds-stops (E .left) b i (E .now-x) (sym (opened-now .some) ∙ shut)))
-        (none-opened b i (E .now-x) (E .shown) opened-now shut)
+        (sym (E .same ∙ rounds-stops (E .left) b i (E .now-x) none))
+        (none-opened b i (E .now-x) (E .shown) opened-now none)
 
-    pub exploring-goes-on : {dir′ loads′ joined″ level″ : List ℕ} → opened ≡ true
+    pub exploring-goes-on : {dir′ loads′ joined″ level″ : List ℕ} → 0 < opened → opened < 2 ^ 64
         → ((dirs : Directions) (xs : List ℕ) → Seen b dirs dir loads → Rounds b xs joined′ → Built b (construct (b .jobs) b i dirs xs) dir′ loads′ joined″)
         → ((dirs : Directions) (xs ys : List ℕ) → Directed b dirs dir′ → Rounds b xs joined″ → Rounds b ys level′
         → Rounds b (activate (b .benches) b i dirs xs ys) level″)
         → Exploring (i + 1) dir′ loads′ joined″ level″
-    exploring-goes-on {dir′} {loads′} {joined″} {level″} did build act =
+    exploring-goes-on {dir′} {loads′} {joined″} {level″} some fits build act =
         let x = E .now-x in
         let one : E .left ≡ suc (E .left - 1) = omega (arith, E .in-all, bound, R .benches) in
         let B = build (x .dir) (openedJoined b i x) (E .shown .seen) (opened-now .joined) in
@@ -403,5 +374,5 @@ module _ (b : Board) (n : Limits) (low high weight : List ℕ) (R : Rocks b n lo
           left = E .left - 1;
           in-all = omega (arith, E .in-all, one);
           same =
-              E .same ∙ ap (λ (k : ℕ). rounds k b i x) one ∙ rounds-goes (E .left - 1) b i x (sym (opened-now .some) ∙ did);
+              E .same ∙ ap (λ (k : ℕ). rounds k b i x) one ∙ rounds-goes (E .left - 1) b i x (some-opens b i x opened-now some fits);
         })

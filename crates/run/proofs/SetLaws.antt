@@ -1,9 +1,10 @@
 -- Sets of numbers below 64 as numbers.
 --     and-isSet, or-isSet, less-isSet     the numbers that both sets have, that one has, and that the first has and the second lacks
 --     lowest-first              the lowest number of a set: it is in the set, and none below it
+--     above-set                 the numbers of a set that are higher than one
 --     after-set, after-less     a set without its lowest number; as a number it is less
 use Prim.Native.Nat.{ℕ, zero, suc, _+_, _-_, _*_, _/_, _%_, _^_, _≤_, _<_, min, max}
-use mathlib.Core.Path.{_≡_, refl, sym, ap, ap₂, subst, _∙_}
+use mathlib.Core.Path.{_≡_, refl, sym, ap, subst, _∙_}
 use mathlib.Core.Bool.{Bool, true, false, not, _&&_, _||_}
 use mathlib.Core.Logic.{inl, inr}
 use native.Mathlib.Omega.{arith}
@@ -12,10 +13,9 @@ use lib.Dec.{eqb, ltb}
 use native.Mathlib.Nat.{mod-lt, mul-le-mul, le-refl}
 use lib.Pow.{field, mod-mod-pow, pow-pos, pow-lt, pow-mono, shr-lt}
 use lib.Pow.{split as parts-of}
-use borrow.Author.Tests.{eq-eqb, ne-eqb, eqb-true}
-use Rattle.bools.proofs.BoolLaws.{split, clash, and-intro, and-false-left, and-false-right, not-intro-true}
+use borrow.Author.Tests.{eq-eqb, ne-eqb, eqb-true, lt-ltb, le-ltb}
+use Rattle.bools.proofs.BoolLaws.{and-intro, and-false-left, and-false-right, not-intro-true}
 use Rattle.bools.proofs.OrderLaws.{eq-or-ne, lt-or-le}
-use Rattle.sums.specs.Search.{least}
 use Rattle.sums.proofs.SearchLaws.{least-holds, least-before}
 use Rattle.bits.specs.Bits.{isSet}
 use Rattle.bits.proofs.SetBits.{isSet-zero}
@@ -164,3 +164,14 @@ after-less set v e h =
 
 pub after-none : (set v u : ℕ) → 63 < v → u < 64 → isSet 64 set u ≡ (isSet 64 set u && not (eqb u v))
 after-none set v u h l = sym (and-true (isSet 64 set u) (not-intro-true (ne-eqb u v (λ e. omega arith))))
+
+-- ── the numbers above one ──
+
+pub above-set : (set v u : ℕ) → v < 64 → u < 64 → isSet 64 (set % 2 ^ (63 - v)) u ≡ (isSet 64 set u && ltb v u)
+above-set set v u hv hu = elim (lt-or-le v u) [
+  | inl l ↦ after-above set v u l hu ∙ sym (and-true (isSet 64 set u) (lt-ltb v u l))
+  | inr l ↦ after-below set v u l hv ∙ sym (and-false-right (isSet 64 set u) (le-ltb v u l))
+]
+
+pub above-none : (set v u : ℕ) → 63 < v → u < 64 → isSet 64 0 u ≡ (isSet 64 set u && ltb v u)
+above-none set v u h l = isSet-zero 64 u ∙ sym (and-false-right (isSet 64 set u) (le-ltb v u (omega arith)))

@@ -2,9 +2,9 @@
 --     within-leb, congested-shown     the test of the levels is whether a bench is overloaded
 --     push-moves, push-stays          what a push makes of the state
 --     Turning                         what the loop of the turns keeps; how it goes on, and how it ends
-use Prim.Native.Nat.{ℕ, zero, suc, _+_, _-_, _*_, _≤_, _<_, _^_}
+use Prim.Native.Nat.{ℕ, suc, _+_, _-_, _*_, _≤_, _<_, _^_}
 use mathlib.Core.Path.{_≡_, refl, sym, ap, subst, _∙_}
-use mathlib.Core.Bool.{Bool, true, false, _&&_}
+use mathlib.Core.Bool.{Bool, true, false}
 use mathlib.Core.Logic.{inl, inr, _≢_}
 use mathlib.Core.List.{List}
 use native.Mathlib.Omega.{arith}
@@ -12,21 +12,21 @@ use native.Mathlib.Nat.{mul-le-mul}
 use lib.ListN.{length, getD, set, replicate, length-set, length-replicate, getD-replicate}
 use lib.Dec.{leb, ltb}
 use lib.Seq.{getD-set-same, getD-set-other}
-use borrow.Author.Tests.{lt-ltb, le-ltb, le-leb, ltb-true, leb-true}
-use Rattle.bools.proofs.BoolLaws.{split, clash, tests, bool-ext, and-intro, and-false-left, and-false-right}
-use Rattle.bools.proofs.OrderLaws.{eq-or-ne, lt-or-le}
+use borrow.Author.Tests.{lt-ltb, le-ltb, le-leb}
+use Rattle.bools.proofs.BoolLaws.{tests, bool-ext, and-intro, and-false-left, and-false-right}
+use Rattle.bools.proofs.OrderLaws.{eq-or-ne}
 use Rattle.sums.specs.Sum.{sum, count}
-use Rattle.sums.specs.Search.{any, least}
-use Rattle.sums.proofs.SearchLaws.{any-cong, any-intro, any-elim, least-holds, least-le}
+use Rattle.sums.specs.Search.{any}
+use Rattle.sums.proofs.SearchLaws.{any-cong, any-intro, any-elim, any-least, least-holds, least-le}
 use Rattle.sums.proofs.CountLaws.{count-le}
 use Rattle.run.specs.declared.rocks.Limits.{Limits}
 use Rattle.run.specs.declared.state.State.{State as Kept}
 use Rattle.algorithm.specs.Board.{Board}
-use Rattle.algorithm.specs.Explore.{Explored, never, roundOf, within, activated}
+use Rattle.algorithm.specs.Explore.{never, roundOf, within, activated}
 use Rattle.algorithm.specs.Push.{canPush, pushJob, pushBench}
 use Rattle.algorithm.specs.Day.{Day, pebble}
 use Rattle.algorithm.specs.Start.{State, start}
-use Rattle.algorithm.specs.Run.{boardOf, explored, congested, canMove, nextState, answerAt, turns, budget}
+use Rattle.algorithm.specs.Run.{boardOf, explored, congested, canMove, nextState, turns, budget}
 use Rattle.algorithm.specs.States.{Reached, by-move}
 use Rattle.run.specs.Arrays.{plusOf, withinAt, rocksOf, Rocks, Owned, Rounds, Pebbles}
 use Rattle.run.specs.ExploreArrays.{Reaches}
@@ -37,6 +37,8 @@ use Rattle.algorithm.proofs.PushLaws.{push-allowed}
 use Rattle.algorithm.proofs.Budget.{turns-spent, turns-move, turns-stop}
 use Rattle.algorithm.proofs.DayFacts.{reached-run}
 use Rattle.run.proofs.ForcedRun.{plus-one}
+use Rattle.run.specs.KeptArrays.{shiftedOf, ReachShifted}
+use Rattle.run.proofs.KeptRun.{moved-owned, moved-reach}
 use Rattle.run.proofs.HeldLaws.{held-good, held-rocks, held-pebbles, held-owned, few-rocks}
 
 within-leb : (k m : ℕ) → leb k m ≡ ltb k (suc m)
@@ -112,9 +114,13 @@ module _ (d : Day) (n : Limits) (low high weights amount : List ℕ) (pebbles : 
       and-intro (any-intro (d .benches) (activated b x) v l (lt-ltb (roundOf b (x .level) v) (never b) (omega (arith, push-allowed b x (pushJob b x) v p .active)))) (lt-ltb (pushJob b x) (d .jobs) h)
 
   pub push-moves : (m : ℕ) (s : State) (before after : Kept) → Held d m s (before .left) (before .place) → before .moves ≡ m
+      → Owned (boardOf d s) (before .own) → Reaches (boardOf d s) (before .from) → length (before .own) ≡ 64 → length (before .from) ≡ 64
       → (job bench : ℕ) → job ≡ pushJob (boardOf d s) (explored d s) → (job < d .jobs → bench ≡ pushBench (boardOf d s) (explored d s)) → job < n .jobs
-      → after .left ≡ before .left → after .place ≡ set (before .place) job bench → after .moves ≡ plusOf (before .moves) 1 → Pushed d m s before after
-  push-moves m s before after H made job bench ej eb below l p q =
+      → after .left ≡ before .left → after .place ≡ set (before .place) job bench → after .moves ≡ plusOf (before .moves) 1
+      → after .own ≡ shiftedOf (before .own) (getD (before .place) job 0) bench (getD amount job 0)
+      → ReachShifted (n .jobs) pebbles allowed (after .place) (before .from) (getD (before .place) job 0) bench job (after .from)
+      → Pushed d m s before after
+  push-moves m s before after H made O F so sf job bench ej eb below l p q eo S =
       let b = boardOf d s in
       let x = explored d s in
       let j = pushJob b x in
@@ -123,8 +129,11 @@ module _ (d : Day) (n : Limits) (low high weights amount : List ℕ) (pebbles : 
       let found : j < d .jobs = omega (arith, ej, h) in
       let can = can-move s found in
       let bench-is = eb h in
-      a-move can
-      (record {
+      let some = least-holds (d .jobs) (λ i. any (d .benches) (canPush b x i)) found in
+      let benched : v < d .benches = any-least (d .benches) (canPush b x j) some in
+      let allowed-push = push-allowed b x j v (least-holds (d .benches) (canPush b x j) benched) in
+      let is : pebble d job ≡ true = subst (λ (k : ℕ). pebble d k ≡ true) (sym ej) (allowed-push .pebble) in
+      let H₁ : Held d (suc m) (nextState d s) (after .left) (after .place) = record {
         reached = by-move (H .reached) can;
         lefts = λ i l′. ap (λ (xs : List Bool). getD xs i false) l ∙ H .lefts i l′;
         room = omega (arith, ap length p, length-set (before .place) job bench, H .room);
@@ -137,8 +146,12 @@ module _ (d : Day) (n : Limits) (low high weights amount : List ℕ) (pebbles : 
           | inr ne ↦
               getD-set-other (before .place) job i bench 0 ne ∙ H .places i l′ ∙ sym (getD-set-other (s .place) j i v 0 (λ e. ne (e ∙ sym ej)))
         ];
-      })
-      (q ∙ ap (λ (k : ℕ). plusOf k 1) made ∙ plus-one m (omega (arith, few-moves m s (H .reached))))
+      } in
+      let H₂ : Held d (suc m) (nextState d s) (before .left) (after .place) = subst (λ (ls : List Bool). Held d (suc m) (nextState d s) ls (after .place)) l H₁ in
+      let at-bench : bench < d .benches = omega (arith, bench-is, benched) in
+      a-move can H₁ (q ∙ ap (λ (k : ℕ). plusOf k 1) made ∙ plus-one m (omega (arith, few-moves m s (H .reached))))
+      (moved-owned d n low high weights amount pebbles allowed R m s (before .left) (before .place) H job bench h at-bench is (after .place) p (suc m) (nextState d s) H₂ (before .own) (after .own) so O eo)
+      (moved-reach d n low high weights amount pebbles allowed R m s (before .left) (before .place) H job bench h at-bench is (after .place) p (suc m) (nextState d s) H₂ (before .from) (after .from) sf F S)
 
   pub push-stays : (m : ℕ) (s : State) (before after : Kept) → (job : ℕ) → job ≡ pushJob (boardOf d s) (explored d s) → n .jobs ≤ job → after ≡ before → Pushed d m s before after
   push-stays m s before after job e far same =
@@ -153,37 +166,39 @@ module _ (d : Day) (n : Limits) (low high weights amount : List ℕ) (pebbles : 
     pub held : Held d moves state (kept .left) (kept .place)
     pub made : kept .moves ≡ moves
     pub owned : Owned (boardOf d state) (kept .own)
+    pub reaches : Reaches (boardOf d state) (kept .from)
     pub shown : Shown (boardOf d state) (explored d state) (kept .dir) (kept .load) (kept .joined) (kept .level)
     pub same : turns (budget d) d (start d) 0 ≡ turns k d state moves
 
-  abbrev Oriented : Kept → Kept → Type 0
+  abbrev pub Oriented : Kept → Kept → Type 0
   Oriented kept after =
-      (after .left ≡ kept .left) × (after .place ≡ kept .place) × (after .moves ≡ kept .moves)
-      × ((m : ℕ) (s : State) → Held d m s (kept .left) (kept .place)
-      → Owned (boardOf d s) (after .own) × Shown (boardOf d s) (explored d s) (after .dir) (after .load) (after .joined) (after .level))
+      (after .left ≡ kept .left) × (after .place ≡ kept .place) × (after .moves ≡ kept .moves) × (after .own ≡ kept .own) × (after .from ≡ kept .from)
+      × ((m : ℕ) (s : State) → Held d m s (kept .left) (kept .place) → Owned (boardOf d s) (kept .own) → Reaches (boardOf d s) (kept .from)
+      → Shown (boardOf d s) (explored d s) (after .dir) (after .load) (after .joined) (after .level))
 
   held-after : {m : ℕ} {s : State} (kept after : Kept) → after .left ≡ kept .left → after .place ≡ kept .place → Held d m s (kept .left) (kept .place)
       → Held d m s (after .left) (after .place)
   held-after {m} {s} kept after l p H = rw (l, p) H
 
-  turning-starts : (kept after : Kept) → Held d 0 (start d) (kept .left) (kept .place) → kept .moves ≡ 0 → Oriented kept after → Turning (budget d) after
-  turning-starts kept after H made O =
-      record {
+  -- What `weigh` and the first exploration make of the first state.
+  pub starts : (first kept after : Kept) {k : ℕ} → k ≡ budget d → Held d 0 (start d) (first .left) (first .place) → first .moves ≡ 0
+      → (kept .left ≡ first .left) × (kept .place ≡ first .place) × (kept .moves ≡ first .moves)
+      → ((m : ℕ) (s : State) → Held d m s (first .left) (first .place) → Owned (boardOf d s) (kept .own) × Reaches (boardOf d s) (kept .from))
+      → Oriented kept after → Turning k after
+  starts first kept after e H made same filled O =
+      let held : Held d 0 (start d) (kept .left) (kept .place) = held-after first kept (same .0) (same .1) H in
+      let full = filled 0 (start d) H in
+      rw e
+      (record {
         moves = 0;
         state = start d;
-        held = held-after kept after (O .0) (O .1) H;
-        made = O .2 ∙ made;
-        owned = O .3 0 (start d) H .0;
-        shown = O .3 0 (start d) H .1;
+        held = held-after kept after (O .0) (O .1) held;
+        made = O .2 ∙ same .2 ∙ made;
+        owned = subst (Owned (boardOf d (start d))) (sym (O .3)) (full .0);
+        reaches = subst (Reaches (boardOf d (start d))) (sym (O .4)) (full .1);
+        shown = O .5 0 (start d) held (full .0) (full .1);
         same = refl;
-      }
-
-  pub starts : (kept after : Kept) {k : ℕ} → k ≡ budget d → Held d 0 (start d) (kept .left) (kept .place) → kept .moves ≡ 0
-      → after .left ≡ kept .left → after .place ≡ kept .place → after .moves ≡ kept .moves
-      → ((m : ℕ) (s : State) → Held d m s (kept .left) (kept .place)
-      → Owned (boardOf d s) (after .own) × Shown (boardOf d s) (explored d s) (after .dir) (after .load) (after .joined) (after .level))
-      → Turning k after
-  starts kept after e H made l p q shown = rw e (turning-starts kept after H made (l, p, q, shown))
+      })
 
   module _ {k : ℕ} {kept : Kept} (T : Turning k kept) where
     stop : canMove d (T .state) ≡ false → Last d kept
@@ -219,7 +234,7 @@ module _ (d : Day) (n : Limits) (low high weights amount : List ℕ) (pebbles : 
       turning-stuck same = stuck P same
         where
           stuck : Pushed d (T .moves) (T .state) kept after → after .moves ≡ kept .moves → Last d after
-          stuck (a-move can H made) same = absurd (omega (arith, T .made))
+          stuck (a-move can H made O F) same = absurd (omega (arith, T .made))
           stuck (no-move none e) same =
               subst (λ (x : Kept). Last d x) (sym e)
               (stop (and-false-right (congested d (T .state)) (le-ltb (pushJob (boardOf d (T .state)) (explored d (T .state))) (d .jobs) (omega (arith, none)))))
@@ -228,14 +243,15 @@ module _ (d : Day) (n : Limits) (low high weights amount : List ℕ) (pebbles : 
       turning-next last ne more O = next P ne
         where
           next : Pushed d (T .moves) (T .state) kept after → after .moves ≢ kept .moves → Turning (k - 1) last
-          next (a-move can H made) ne =
+          next (a-move can H made own-next reach-next) ne =
               record {
                 moves = suc (T .moves);
                 state = nextState d (T .state);
                 held = held-after after last (O .0) (O .1) H;
                 made = O .2 ∙ made;
-                owned = O .3 (suc (T .moves)) (nextState d (T .state)) H .0;
-                shown = O .3 (suc (T .moves)) (nextState d (T .state)) H .1;
+                owned = subst (Owned (boardOf d (nextState d (T .state)))) (sym (O .3)) own-next;
+                reaches = subst (Reaches (boardOf d (nextState d (T .state)))) (sym (O .4)) reach-next;
+                shown = O .5 (suc (T .moves)) (nextState d (T .state)) H own-next reach-next;
                 same =
                     let e : k ≡ suc (k - 1) = omega arith in
                     T .same ∙ ap (λ (i : ℕ). turns i d (T .state) (T .moves)) e ∙ turns-move d (T .state) (T .moves) (k - 1) can;

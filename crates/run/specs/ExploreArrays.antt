@@ -3,12 +3,11 @@
 --     ruleOneAt, ruleTwoAt      rule 1 and rule 2 at v, by rock r
 --     activatesAt               v is to be activated, by rock r
 --     addedAt                   the sets after the pebble j added the benches that it allows
---     moreAt, reachAt           the benches that the pebbles on bench u, and on the first k benches, reach from the level before i
---     hasAt, opensAt            the set has bench v; bench v opens round i
+--     opensAt                   bench v opens round i: all is the set of the benches, active that of the activated ones
 --     openedLevels, openedJoined     the two tables with which round i begins
 --     Built, Begun              the arrays show what CONFLICT SET CONSTRUCTION leaves behind, and how a round begins
 --     Reaches b from            entry u of the array is the set of the benches that the pebbles on u allow
-use Prim.Native.Nat.{ℕ, zero, suc, _+_, _<_}
+use Prim.Native.Nat.{ℕ, _+_, _<_}
 use mathlib.Core.Path.{_≡_}
 use mathlib.Core.Bool.{Bool, false, cond, not, _&&_, _||_}
 use mathlib.Core.List.{List}
@@ -21,7 +20,7 @@ use Rattle.bits.specs.Bits.{isSet}
 use Rattle.run.specs.declared.rocks.Limits.{Limits}
 use Rattle.algorithm.specs.Board.{Board}
 use Rattle.algorithm.specs.Explore.{Explored, Constructed, roundOf, inConflict, typeA}
-use Rattle.run.specs.Arrays.{plusOf, otherAt, withinAt, fatherAt, childAt, Seen, Rounds}
+use Rattle.run.specs.Arrays.{otherAt, withinAt, fatherAt, childAt, Seen, Rounds}
 
 -- ── the tests of rock r at its end v ──
 
@@ -52,19 +51,9 @@ abbrev pub addedAt : List Bool → List ℕ → List ℕ → List ℕ → ℕ �
 addedAt pebble allowed place from j =
     cond (getD pebble j false) (set from (getD place j 0) (bitOr (getD from (getD place j 0) 0) (getD allowed j 0))) from
 
-abbrev pub moreAt : ℕ → List ℕ → List ℕ → ℕ → ℕ → ℕ
-moreAt i from level u reach = cond (eqb (plusOf (getD level u 0) 1) i) (bitOr reach (getD from u 0)) reach
-
-unfoldable pub reachAt : ℕ → ℕ → List ℕ → List ℕ → ℕ
-reachAt zero i from level = 0
-reachAt (suc k) i from level = moreAt i from level k (reachAt k i from level)
-
-abbrev pub hasAt : ℕ → ℕ → Bool
-hasAt mask v = ltb v 64 && isSet 64 mask v
-
-abbrev pub opensAt : Limits → ℕ → List ℕ → List ℕ → ℕ → ℕ → Bool
-opensAt n i load level reach v =
-    cond (eqb i 0) (ltb (n .bound) (getD load v 0)) (not (withinAt (n .benches) level v) && hasAt reach v)
+abbrev pub opensAt : Limits → ℕ → ℕ → ℕ → ℕ → List ℕ → ℕ → Bool
+opensAt n i all active reach load v =
+    cond (eqb i 0) (ltb v (n .benches) && ltb (n .bound) (getD load v 0)) (isSet 64 all v && (isSet 64 reach v && not (isSet 64 active v)))
 
 -- The sets of the benches that the pebbles on each bench allow.
 pub record Reaches (b : Board) (from : List ℕ) : Type 0 where
@@ -79,8 +68,8 @@ openedLevels b i x = table (b .benches) (λ v. cond (typeA b i x v) i (roundOf b
 abbrev pub openedJoined : Board → ℕ → Explored → List ℕ
 openedJoined b i x = table (b .benches) (λ v. cond (typeA b i x v && not (inConflict b x v)) i (roundOf b (x .joined) v))
 
-pub record Begun (b : Board) (i : ℕ) (x : Explored) (opened : Bool) (rounds levels : List ℕ) : Type 0 where
-  pub some : opened ≡ any (b .benches) (typeA b i x)
+pub record Begun (b : Board) (i : ℕ) (x : Explored) (opened : ℕ) (rounds levels : List ℕ) : Type 0 where
+  pub some : (v : ℕ) → v < 64 → isSet 64 opened v ≡ (ltb v (b .benches) && typeA b i x v)
   pub joined : Rounds b (openedJoined b i x) rounds
   pub level : Rounds b (openedLevels b i x) levels
 

@@ -4,7 +4,7 @@
 --     Ready d n ..              the tables that the run reads: numbers, rocks, weights, pebbles and allowed benches of the day
 --     Pushed, Last              what a push makes of a state; the state at which the turns end
 --     Held d m s left place     the state's tables hold the state s, to which the run comes after m moves
-use Prim.Native.Nat.{ℕ, suc, _+_, _≤_, _<_, _^_}
+use Prim.Native.Nat.{ℕ, suc, _≤_, _<_, _^_}
 use mathlib.Core.Path.{_≡_}
 use mathlib.Core.Bool.{Bool, true, false, cond, not, _&&_}
 use mathlib.Core.List.{List}
@@ -22,7 +22,8 @@ use Rattle.algorithm.specs.Push.{pushJob}
 use Rattle.run.specs.Shown.{Shown}
 use Rattle.run.specs.declared.state.State.{State as Kept}
 use Rattle.algorithm.specs.States.{Reached}
-use Rattle.run.specs.Arrays.{plusOf}
+use Rattle.run.specs.Arrays.{plusOf, Owned}
+use Rattle.run.specs.ExploreArrays.{Reaches}
 
 -- What job j puts on bench v, if it is not left.
 abbrev pub amountOn : List ℕ → List Bool → List ℕ → ℕ → ℕ → ℕ
@@ -68,7 +69,8 @@ pub record Held (d : Day) (m : ℕ) (s : State) (left : List Bool) (place : List
 
 -- What a push makes of the program's state: the next state and one move more, or nothing where there is no move.
 pub data Pushed (d : Day) (m : ℕ) (s : State) (before after : Kept) : Type 0 where
-  a-move : canMove d s ≡ true → Held d (suc m) (nextState d s) (after .left) (after .place) → after .moves ≡ suc m → Pushed d m s before after
+  a-move : canMove d s ≡ true → Held d (suc m) (nextState d s) (after .left) (after .place) → after .moves ≡ suc m
+      → Owned (boardOf d (nextState d s)) (after .own) → Reaches (boardOf d (nextState d s)) (after .from) → Pushed d m s before after
   no-move : pushJob (boardOf d s) (explored d s) ≡ d .jobs → after ≡ before → Pushed d m s before after
 
 -- The program's state at which the turns of the run end.

@@ -6,3 +6,6 @@ pub mod PushArrays
 pub mod StartArrays
 pub mod SettleArrays
 pub mod TableArrays
+pub mod SetArrays
+pub mod CandidateArrays
+pub mod KeptArrays

@@ -2,15 +2,19 @@
 use crate::arrays;
 use crate::rocks;
 use crate::rocks::Limits;
+use crate::sets;
 ghost use mathlib.Core.Path.{_≡_};
-ghost use Prim.Native.Nat.{ℕ, _<_};
-ghost use mathlib.Core.Bool.{_&&_, _||_, not};
+ghost use Prim.Native.Nat.{ℕ, _<_, _≤_};
+ghost use mathlib.Core.Bool.{cond, _&&_, _||_, not};
 ghost use mathlib.Core.List.{List};
-ghost use Rattle.sums.specs.Search.{least};
+ghost use lib.ListN.{getD, length};
+ghost use Rattle.bits.specs.Bits.{isSet};
 ghost use Rattle.algorithm.specs.Board.{Board, Directions};
 ghost use Rattle.algorithm.specs.Explore.{activate as activated};
-ghost use Rattle.run.specs.Arrays.{lowestEnd, Rocks, Directed, Owned, Rounds};
+ghost use Rattle.run.specs.Arrays.{rocksOf, Rocks, Directed, Owned, Rounds};
 ghost use Rattle.run.specs.ExploreArrays.{ruleOneAt, ruleTwoAt, activatesAt};
+ghost use Rattle.run.specs.SetArrays.{Here, Waits};
+ghost use Rattle.run.specs.CandidateArrays.{someRock, benchOf};
 
 // rule1 b dir joined v, by the rock r.
 fn rule_one<'a>(
@@ -85,60 +89,84 @@ fn activates<'a>(
     rule_two(n, low, high, weight, dir, joined, level, r, v)
 }
 
-// least benches (λ v. within b joined v && not (within b level v) && (rule1 .. v || rule2 .. v)).
+// Whether v is to be activated, by one of its rocks.
+fn active_by<'a>(
+    n: Limits,
+    low: &'a [usize],
+    high: &'a [usize],
+    weight: &'a [usize],
+    here: &'a [usize],
+    own: &'a [usize],
+    dir: &'a [usize],
+    joined: &'a [usize],
+    level: &'a [usize],
+    v: usize,
+) -> bool
+    ensures { λ t. ⌜ t ≡ someRock (now (here .entry)) (activatesAt n (now (low .entry)) (now (high .entry)) (now (weight .entry)) (now (own .entry)) (now (dir .entry)) (now (joined .entry)) (now (level .entry))) v ⌝ }
+{
+    let mut left = arrays::at(here, v);
+    while 0 < left {
+        let r = sets::lowest(left);
+        if activates(n, low, high, weight, own, dir, joined, level, r, v) {
+            return true;
+        }
+        left = sets::after(left, r);
+    }
+    false
+}
+
+// The lowest bench of the set that is to be activated, and 64 where there is none.
 fn first_active<'a>(
     n: Limits,
     low: &'a [usize],
     high: &'a [usize],
     weight: &'a [usize],
+    here: &'a [usize],
+    wait: usize,
     own: &'a [usize],
     dir: &'a [usize],
     joined: &'a [usize],
     level: &'a [usize],
 ) -> usize
-    ensures { λ v. ⌜ v ≡ lowestEnd (n .benches) (n .rocks) (now (low .entry)) (now (high .entry)) (activatesAt n (now (low .entry)) (now (high .entry)) (now (weight .entry)) (now (own .entry)) (now (dir .entry)) (now (joined .entry)) (now (level .entry))) ⌝ }
+    ensures { λ v. ⌜ v ≡ benchOf (now (here .entry)) (activatesAt n (now (low .entry)) (now (high .entry)) (now (weight .entry)) (now (own .entry)) (now (dir .entry)) (now (joined .entry)) (now (level .entry))) wait ⌝ }
 {
-    let mut v = n.benches;
-    let mut r = 0;
-    while r < n.rocks {
-        let lo = arrays::at(low, r);
-        v = arrays::lower(
-            v,
-            lo,
-            activates(n, low, high, weight, own, dir, joined, level, r, lo),
-        );
-        let hi = arrays::at(high, r);
-        v = arrays::lower(
-            v,
-            hi,
-            activates(n, low, high, weight, own, dir, joined, level, r, hi),
-        );
-        r += 1;
+    let mut left = wait;
+    while 0 < left {
+        let v = sets::lowest(left);
+        if active_by(n, low, high, weight, here, own, dir, joined, level, v) {
+            return v;
+        }
+        left = sets::after(left, v);
     }
-    v
+    64
 }
 
-// activate benches b i dir joined level.
+// activate benches b i dir joined level, where every bench that may be activated waits. Says which still do.
 pub fn activate<'a>(
     n: Limits,
     i: usize,
     low: &'a [usize],
     high: &'a [usize],
     weight: &'a [usize],
+    here: &'a [usize],
+    wait: usize,
     own: &'a [usize],
     dir: &'a [usize],
     joined: &'a [usize],
     level: &mut [usize],
-)
-    ensures { λ _. ⌜ ((b : Board) → (dirs : Directions) → (xs : List ℕ) → (ys : List ℕ) → Rocks b n (now (low .entry)) (now (high .entry)) (now (weight .entry)) → Owned b (now (own .entry)) → Directed b dirs (now (dir .entry)) → Rounds b xs (now (joined .entry)) → Rounds b ys (now (level .entry)) → Rounds b (activated (b .benches) b i dirs xs ys) (now (level .exit))) ⌝ }
+) -> usize
+    ensures { λ left. ⌜ ((v : ℕ) → v < length (now (level .entry)) → v < 64 → getD (now (level .exit)) v 0 ≡ cond (isSet 64 wait v && not (isSet 64 left v)) i (getD (now (level .entry)) v 0)) × ((b : Board) → (dirs : Directions) → (xs : List ℕ) → (ys : List ℕ) → Rocks b n (now (low .entry)) (now (high .entry)) (now (weight .entry)) → rocksOf b ≤ 64 → Here n (now (low .entry)) (now (high .entry)) (now (here .entry)) → i ≤ n .benches → Waits n (now (joined .entry)) (now (level .entry)) wait → Owned b (now (own .entry)) → Directed b dirs (now (dir .entry)) → Rounds b xs (now (joined .entry)) → Rounds b ys (now (level .entry)) → Rounds b (activated (b .benches) b i dirs xs ys) (now (level .exit))) ⌝ }
 {
+    let mut left = wait;
     let mut turns = n.benches;
     while 0 < turns {
-        let v = first_active(n, low, high, weight, own, dir, joined, level);
-        if v == n.benches {
-            return;
+        let v = first_active(n, low, high, weight, here, left, own, dir, joined, level);
+        if 63 < v {
+            return left;
         }
         arrays::put(level, v, i);
+        left = sets::less(left, arrays::with(0, v));
         turns -= 1;
     }
+    left
 }

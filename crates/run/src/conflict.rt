@@ -1,176 +1,179 @@
 // The conflict set and fake orientations.
 use crate::arrays;
 use crate::forced;
+use crate::neighbours;
 use crate::rocks;
 use crate::rocks::Limits;
+use crate::sets;
 ghost use mathlib.Core.Path.{_≡_};
-ghost use Prim.Native.Nat.{ℕ, _<_};
-ghost use mathlib.Core.Bool.{_&&_};
+ghost use Prim.Native.Nat.{ℕ, _≤_};
 ghost use mathlib.Core.List.{List};
-ghost use lib.ListN.{set};
-ghost use Rattle.sums.specs.Search.{least};
 ghost use Rattle.algorithm.specs.Board.{Board, Directions};
 ghost use Rattle.algorithm.specs.Explore.{conflictSet, construct as constructed};
-ghost use Rattle.run.specs.Arrays.{lowestEnd, touchesAt, Rocks, Directed, Seen, Rounds};
+ghost use Rattle.run.specs.Arrays.{rocksOf, Rocks, Directed, Seen, Rounds};
 ghost use Rattle.run.specs.ExploreArrays.{joinsAt, fakeAt, Built};
+ghost use Rattle.run.specs.SetArrays.{Here, Covers, Nowhere, forcesAt, Grew};
+ghost use Rattle.run.specs.CandidateArrays.{rockOf, benchOf};
 
-// joins b dir joined v, by the rock r.
-fn joins_by<'a>(
+// The lowest rock by which v joins the conflict set, and 64 where there is none.
+fn joining_rock<'a>(
     benches: usize,
     low: &'a [usize],
     high: &'a [usize],
+    here: &'a [usize],
     dir: &'a [usize],
     joined: &'a [usize],
-    r: usize,
     v: usize,
-) -> bool
-    ensures { λ t. ⌜ t ≡ joinsAt benches (now (low .entry)) (now (high .entry)) (now (dir .entry)) (now (joined .entry)) r v ⌝ }
+) -> usize
+    ensures { λ r. ⌜ r ≡ rockOf (now (here .entry)) (joinsAt benches (now (low .entry)) (now (high .entry)) (now (dir .entry)) (now (joined .entry))) v ⌝ }
 {
     if rocks::within(benches, joined, v) {
-        return false;
+        return 64;
     }
-    rocks::father(benches, low, high, dir, joined, r, v)
+    let mut left = arrays::at(here, v);
+    while 0 < left {
+        let r = sets::lowest(left);
+        if rocks::father(benches, low, high, dir, joined, r, v) {
+            return r;
+        }
+        left = sets::after(left, r);
+    }
+    64
 }
 
-// least benches (joins b dir joined).
+// The lowest candidate that joins the conflict set, and 64 where there is none.
 fn first_joining<'a>(
-    n: Limits,
+    benches: usize,
     low: &'a [usize],
     high: &'a [usize],
+    here: &'a [usize],
+    cand: usize,
     dir: &'a [usize],
     joined: &'a [usize],
 ) -> usize
-    ensures { λ v. ⌜ v ≡ lowestEnd (n .benches) (n .rocks) (now (low .entry)) (now (high .entry)) (joinsAt (n .benches) (now (low .entry)) (now (high .entry)) (now (dir .entry)) (now (joined .entry))) ⌝ }
+    ensures { λ v. ⌜ v ≡ benchOf (now (here .entry)) (joinsAt benches (now (low .entry)) (now (high .entry)) (now (dir .entry)) (now (joined .entry))) cand ⌝ }
 {
-    let mut v = n.benches;
-    let mut r = 0;
-    while r < n.rocks {
-        let lo = arrays::at(low, r);
-        v = arrays::lower(v, lo, joins_by(n.benches, low, high, dir, joined, r, lo));
-        let hi = arrays::at(high, r);
-        v = arrays::lower(v, hi, joins_by(n.benches, low, high, dir, joined, r, hi));
-        r += 1;
+    let mut left = cand;
+    while 0 < left {
+        let v = sets::lowest(left);
+        if joining_rock(benches, low, high, here, dir, joined, v) < 64 {
+            return v;
+        }
+        left = sets::after(left, v);
     }
-    v
+    64
 }
 
-// conflictSet benches b i dir joined.
+// conflictSet benches b i dir joined, where every bench that joins is a candidate. The result has the benches that joined.
 fn close<'a>(
     n: Limits,
     i: usize,
     low: &'a [usize],
     high: &'a [usize],
+    here: &'a [usize],
+    cand: usize,
     dir: &'a [usize],
     joined: &mut [usize],
-)
-    ensures { λ _. ⌜ ((b : Board) → (weight : List ℕ) → (dirs : Directions) → (xs : List ℕ) → Rocks b n (now (low .entry)) (now (high .entry)) weight → Directed b dirs (now (dir .entry)) → Rounds b xs (now (joined .entry)) → Rounds b (conflictSet (b .benches) b i dirs xs) (now (joined .exit))) ⌝ }
+) -> usize
+    ensures { λ grown. ⌜ ((b : Board) → (weight : List ℕ) → (dirs : Directions) → (xs : List ℕ) → Rocks b n (now (low .entry)) (now (high .entry)) weight → rocksOf b ≤ 64 → i ≤ b .benches → Here n (now (low .entry)) (now (high .entry)) (now (here .entry)) → Covers n (now (low .entry)) (now (high .entry)) (joinsAt (n .benches) (now (low .entry)) (now (high .entry)) (now (dir .entry)) (now (joined .entry))) cand → Directed b dirs (now (dir .entry)) → Rounds b xs (now (joined .entry)) → Rounds b (conflictSet (b .benches) b i dirs xs) (now (joined .exit)) × Grew n (now (joined .entry)) (now (joined .exit)) grown × Nowhere n (now (low .entry)) (now (high .entry)) (joinsAt (n .benches) (now (low .entry)) (now (high .entry)) (now (dir .entry)) (now (joined .exit)))) ⌝ }
 {
+    let mut cands = cand;
+    let mut grown = 0;
     let mut turns = n.benches;
     while 0 < turns {
-        let v = first_joining(n, low, high, dir, joined);
-        if v == n.benches {
-            return;
+        let v = first_joining(n.benches, low, high, here, cands, dir, joined);
+        if 63 < v {
+            return grown;
         }
         arrays::put(joined, v, i);
+        grown = arrays::with(grown, v);
+        let near = neighbours::others(low, high, arrays::at(here, v), v);
+        cands = sets::above(cands, v) | near;
         turns -= 1;
     }
+    grown
 }
 
-// fake b dir joined v j.
-fn fake_at<'a>(benches: usize, dir: &'a [usize], joined: &'a [usize], r: usize, v: usize) -> bool
-    ensures { λ t. ⌜ t ≡ fakeAt benches (now (dir .entry)) (now (joined .entry)) r v ⌝ }
-{
-    if arrays::at(dir, r) != 0 {
-        return false;
-    }
-    rocks::within(benches, joined, v)
-}
-
-// least benches (λ v. any jobs (fake b dir joined v)).
-fn first_fake<'a>(
-    n: Limits,
-    low: &'a [usize],
-    high: &'a [usize],
-    dir: &'a [usize],
-    joined: &'a [usize],
-) -> usize
-    ensures { λ v. ⌜ v ≡ lowestEnd (n .benches) (n .rocks) (now (low .entry)) (now (high .entry)) (fakeAt (n .benches) (now (dir .entry)) (now (joined .entry))) ⌝ }
-{
-    let mut v = n.benches;
-    let mut r = 0;
-    while r < n.rocks {
-        let lo = arrays::at(low, r);
-        v = arrays::lower(v, lo, fake_at(n.benches, dir, joined, r, lo));
-        let hi = arrays::at(high, r);
-        v = arrays::lower(v, hi, fake_at(n.benches, dir, joined, r, hi));
-        r += 1;
-    }
-    v
-}
-
-// Whether v is an end of rock r, which is neutral, and is in the conflict set.
-fn fake_end<'a>(
-    benches: usize,
-    low: &'a [usize],
-    high: &'a [usize],
-    dir: &'a [usize],
-    joined: &'a [usize],
-    r: usize,
-    v: usize,
-) -> bool
-    ensures { λ t. ⌜ t ≡ (touchesAt (now (low .entry)) (now (high .entry)) r v && fakeAt benches (now (dir .entry)) (now (joined .entry)) r v) ⌝ }
-{
-    if !rocks::touches(low, high, r, v) {
-        return false;
-    }
-    fake_at(benches, dir, joined, r, v)
-}
-
-// least jobs (fake b dir joined v), as a rock.
+// The lowest neutral rock at v where v is in the conflict set, and 64 where there is none.
 fn fake_rock<'a>(
-    n: Limits,
-    low: &'a [usize],
-    high: &'a [usize],
+    benches: usize,
+    here: &'a [usize],
     dir: &'a [usize],
     joined: &'a [usize],
     v: usize,
 ) -> usize
-    ensures { λ r. ⌜ r ≡ least (n .rocks) (λ k. touchesAt (now (low .entry)) (now (high .entry)) k v && fakeAt (n .benches) (now (dir .entry)) (now (joined .entry)) k v) ⌝ }
+    ensures { λ r. ⌜ r ≡ rockOf (now (here .entry)) (fakeAt benches (now (dir .entry)) (now (joined .entry))) v ⌝ }
 {
-    let mut r = 0;
-    while r < n.rocks {
-        if fake_end(n.benches, low, high, dir, joined, r, v) {
+    if !rocks::within(benches, joined, v) {
+        return 64;
+    }
+    let mut left = arrays::at(here, v);
+    while 0 < left {
+        let r = sets::lowest(left);
+        if arrays::at(dir, r) == 0 {
             return r;
         }
-        r += 1;
+        left = sets::after(left, r);
     }
-    r
+    64
 }
 
-// construct jobs b i dir joined.
+// The lowest candidate in the conflict set with a neutral rock, and 64 where there is none.
+fn first_fake<'a>(
+    benches: usize,
+    here: &'a [usize],
+    fakes: usize,
+    dir: &'a [usize],
+    joined: &'a [usize],
+) -> usize
+    ensures { λ v. ⌜ v ≡ benchOf (now (here .entry)) (fakeAt benches (now (dir .entry)) (now (joined .entry))) fakes ⌝ }
+{
+    let mut left = fakes;
+    while 0 < left {
+        let v = sets::lowest(left);
+        if fake_rock(benches, here, dir, joined, v) < 64 {
+            return v;
+        }
+        left = sets::after(left, v);
+    }
+    64
+}
+
+// construct jobs b i dir joined, where every bench that joins is in cand and every one with a rock for a fake orientation in fakes.
+// The result has the benches that joined.
 pub fn construct<'a>(
     n: Limits,
     i: usize,
     low: &'a [usize],
     high: &'a [usize],
     weight: &'a [usize],
+    here: &'a [usize],
+    cand: usize,
+    fakes: usize,
     dir: &mut [usize],
     load: &mut [usize],
     joined: &mut [usize],
-)
-    ensures { λ _. ⌜ ((b : Board) → (dirs : Directions) → (xs : List ℕ) → Rocks b n (now (low .entry)) (now (high .entry)) (now (weight .entry)) → Seen b dirs (now (dir .entry)) (now (load .entry)) → Rounds b xs (now (joined .entry)) → Built b (constructed (b .jobs) b i dirs xs) (now (dir .exit)) (now (load .exit)) (now (joined .exit))) ⌝ }
+) -> usize
+    ensures { λ grown. ⌜ ((b : Board) → (dirs : Directions) → (xs : List ℕ) → Rocks b n (now (low .entry)) (now (high .entry)) (now (weight .entry)) → rocksOf b ≤ 64 → i ≤ b .benches → Here n (now (low .entry)) (now (high .entry)) (now (here .entry)) → Covers n (now (low .entry)) (now (high .entry)) (joinsAt (n .benches) (now (low .entry)) (now (high .entry)) (now (dir .entry)) (now (joined .entry))) cand → Covers n (now (low .entry)) (now (high .entry)) (fakeAt (n .benches) (now (dir .entry)) (now (joined .entry))) fakes → Nowhere n (now (low .entry)) (now (high .entry)) (forcesAt (n .bound) (now (weight .entry)) (now (dir .entry)) (now (load .entry))) → Seen b dirs (now (dir .entry)) (now (load .entry)) → Rounds b xs (now (joined .entry)) → Built b (constructed (b .jobs) b i dirs xs) (now (dir .exit)) (now (load .exit)) (now (joined .exit)) × Grew n (now (joined .entry)) (now (joined .exit)) grown × Nowhere n (now (low .entry)) (now (high .entry)) (joinsAt (n .benches) (now (low .entry)) (now (high .entry)) (now (dir .exit)) (now (joined .exit))) × Nowhere n (now (low .entry)) (now (high .entry)) (fakeAt (n .benches) (now (dir .exit)) (now (joined .exit))) × Nowhere n (now (low .entry)) (now (high .entry)) (forcesAt (n .bound) (now (weight .entry)) (now (dir .exit)) (now (load .exit)))) ⌝ }
 {
+    let mut joining = cand;
+    let mut faking = fakes;
+    let mut grown = 0;
     let mut turns = n.jobs;
     while 0 < turns {
-        close(n, i, low, high, dir, joined);
-        let v = first_fake(n, low, high, dir, joined);
-        if v == n.benches {
-            return;
+        let more = close(n, i, low, high, here, joining, dir, joined);
+        grown = grown | more;
+        faking = faking | more;
+        let v = first_fake(n.benches, here, faking, dir, joined);
+        if 63 < v {
+            return grown;
         }
-        let r = fake_rock(n, low, high, dir, joined, v);
-        rocks::direct(low, high, weight, dir, load, r, v);
-        forced::force(n, low, high, weight, dir, load);
+        let r = fake_rock(n.benches, here, dir, joined, v);
+        let u = rocks::direct(low, high, weight, dir, load, r, v);
+        joining = forced::force(n, low, high, weight, here, arrays::with(0, u), dir, load);
+        faking = arrays::with(sets::above(faking, v), v);
         turns -= 1;
     }
-    close(n, i, low, high, dir, joined);
+    let more = close(n, i, low, high, here, joining, dir, joined);
+    grown | more
 }

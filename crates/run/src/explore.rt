@@ -3,18 +3,21 @@ use crate::activate;
 use crate::arrays;
 use crate::conflict;
 use crate::forced;
+use crate::neighbours;
 use crate::rocks;
 use crate::rocks::Limits;
+use crate::set_loops;
+use crate::sets;
 ghost use mathlib.Core.Path.{_≡_};
 ghost use Prim.Native.Nat.{ℕ, _<_, _≤_};
 ghost use mathlib.Core.Bool.{cond, _&&_, _||_, not};
-ghost use mathlib.Core.List.{List};
-ghost use lib.ListN.{length, set, replicate};
+ghost use lib.Dec.{eqb, ltb};
+ghost use lib.ListN.{getD, length, set, replicate};
 ghost use Rattle.bits.specs.Bits.{isSet};
 ghost use Rattle.algorithm.specs.Board.{Board};
-ghost use Rattle.algorithm.specs.Explore.{Explored, inReach, explore as explored};
-ghost use Rattle.run.specs.Arrays.{plusOf, withinAt, rocksOf, Rocks, Loaded, Owned, Rounds, Pebbles};
-ghost use Rattle.run.specs.ExploreArrays.{addedAt, moreAt, reachAt, hasAt, opensAt, Begun, Reaches};
+ghost use Rattle.algorithm.specs.Explore.{explore as explored};
+ghost use Rattle.run.specs.Arrays.{plusOf, withinAt, rocksOf, Rocks, Owned, Pebbles};
+ghost use Rattle.run.specs.ExploreArrays.{addedAt, opensAt, Reaches};
 ghost use Rattle.run.specs.Shown.{Shown};
 
 // Job j, where it is a pebble, adds the benches that it allows to the set of the bench on which it lies.
@@ -51,57 +54,54 @@ pub fn fill_from<'a>(
     }
 }
 
-// The set, and where bench u is of the level before i also the benches that its pebbles allow.
-fn reach_more<'a>(i: usize, from: &'a [usize], level: &'a [usize], u: usize, reach: usize) -> usize
-    ensures { λ r. ⌜ r ≡ moreAt i (now (from .entry)) (now (level .entry)) u reach ⌝ }
+// The set with v, where v counts.
+fn add(set: usize, v: usize, counts: bool) -> usize
+    ensures { λ r. ⌜ ((u : ℕ) → u < 64 → isSet 64 r u ≡ (isSet 64 set u || (counts && eqb u v))) ⌝ }
 {
-    if arrays::plus(arrays::at(level, u), 1) == i {
-        return reach | arrays::at(from, u);
-    }
-    reach
+    if counts { arrays::with(set, v) } else { set }
 }
 
-// The benches with inReach b i level, as a set.
-fn reach_of<'a>(benches: usize, i: usize, from: &'a [usize], level: &'a [usize]) -> usize
-    ensures { λ r. ⌜ r ≡ reachAt benches i (now (from .entry)) (now (level .entry)) ⌝ }
+// Every bench, as a set.
+fn everywhere(benches: usize) -> usize
+    ensures { λ r. ⌜ ((v : ℕ) → v < 64 → isSet 64 r v ≡ ltb v benches) ⌝ }
 {
-    let mut reach = 0;
-    let mut u = 0;
-    while u < benches {
-        reach = reach_more(i, from, level, u, reach);
-        u += 1;
+    let mut all = 0;
+    let mut v = 0;
+    while v < benches {
+        all = add(all, v, true);
+        v += 1;
     }
-    reach
+    all
 }
 
-// Whether the set has bench v, which is the bit of weight 2^(63 - v).
-fn reached(set: usize, v: usize) -> bool
-    ensures { λ t. ⌜ t ≡ hasAt set v ⌝ }
+// The overloaded benches, as a set.
+fn overloaded(n: Limits, load: &[usize]) -> usize
+    ensures { λ r. ⌜ ((v : ℕ) → v < 64 → isSet 64 r v ≡ (ltb v (n .benches) && ltb (n .bound) (getD (now (load .entry)) v 0))) ⌝ }
 {
-    if 63 < v {
-        return false;
+    let mut over = 0;
+    let mut v = 0;
+    while v < n.benches {
+        over = add(over, v, n.bound < arrays::at(load, v));
+        v += 1;
     }
-    (set >> (63 - v)) % 2 == 1
+    over
 }
 
-// typeA b i x v.
-fn opens<'a>(
+// The benches that open round i.
+fn opening<'a>(
     n: Limits,
     i: usize,
-    load: &'a [usize],
-    level: &'a [usize],
+    all: usize,
+    active: usize,
     reach: usize,
-    v: usize,
-) -> bool
-    ensures { λ t. ⌜ t ≡ opensAt n i (now (load .entry)) (now (level .entry)) reach v ⌝ }
+    load: &'a [usize],
+) -> usize
+    ensures { λ r. ⌜ ((v : ℕ) → v < 64 → isSet 64 r v ≡ opensAt n i all active reach (now (load .entry)) v) ⌝ }
 {
     if i == 0 {
-        return n.bound < arrays::at(load, v);
+        return overloaded(n, load);
     }
-    if rocks::within(n.benches, level, v) {
-        return false;
-    }
-    reached(reach, v)
+    sets::common(all, sets::less(reach, active))
 }
 
 // Bench v joins the conflict set in round i, unless it is in it.
@@ -113,48 +113,39 @@ fn enter(benches: usize, i: usize, joined: &mut [usize], v: usize)
     }
 }
 
-// Bench v opens round i if it can. Says whether it did, or one before it.
-fn open_bench<'a>(
-    n: Limits,
-    i: usize,
-    load: &'a [usize],
-    reach: usize,
-    joined: &mut [usize],
-    level: &mut [usize],
-    v: usize,
-    opened: bool,
-) -> bool
-    ensures { λ t. ⌜ (t ≡ (opened || opensAt n i (now (load .entry)) (now (level .entry)) reach v)) × (now (joined .exit) ≡ cond (opensAt n i (now (load .entry)) (now (level .entry)) reach v && not (withinAt (n .benches) (now (joined .entry)) v)) (set (now (joined .entry)) v i) (now (joined .entry))) × (now (level .exit) ≡ cond (opensAt n i (now (load .entry)) (now (level .entry)) reach v) (set (now (level .entry)) v i) (now (level .entry))) ⌝ }
+// The benches of the set join the conflict set in round i, unless they are in it.
+fn enter_all(benches: usize, i: usize, set: usize, joined: &mut [usize])
+    ensures { λ _. ⌜ ((v : ℕ) → v < length (now (joined .entry)) → v < 64 → getD (now (joined .exit)) v 0 ≡ cond (isSet 64 set v && not (withinAt benches (now (joined .entry)) v)) i (getD (now (joined .entry)) v 0)) ⌝ }
 {
-    if !opens(n, i, load, level, reach, v) {
-        return opened;
+    let mut left = set;
+    while 0 < left {
+        let v = sets::lowest(left);
+        enter(benches, i, joined, v);
+        left = sets::after(left, v);
     }
-    arrays::put(level, v, i);
-    enter(n.benches, i, joined, v);
-    true
 }
 
-// The levels and the conflict set with which openRound b i x begins; whether any bench opens it.
+// The levels and the conflict set with which openRound b i x begins; the benches that open it.
 fn open_round<'a>(
     n: Limits,
     i: usize,
-    load: &'a [usize],
+    all: usize,
+    active: usize,
     reach: usize,
+    load: &'a [usize],
     joined: &mut [usize],
     level: &mut [usize],
-) -> bool
-    ensures { λ t. ⌜ ((b : Board) → (low : List ℕ) → (high : List ℕ) → (weight : List ℕ) → (x : Explored) → Rocks b n low high weight → Loaded b (x .dir) (now (load .entry)) → Rounds b (x .joined) (now (joined .entry)) → Rounds b (x .level) (now (level .entry)) → ((v : ℕ) → v < b .benches → isSet 64 reach v ≡ inReach b i (x .level) v) → Begun b i x t (now (joined .exit)) (now (level .exit))) ⌝ }
+) -> usize
+    ensures { λ r. ⌜ ((v : ℕ) → v < 64 → isSet 64 r v ≡ opensAt n i all active reach (now (load .entry)) v) × ((v : ℕ) → v < length (now (joined .entry)) → v < 64 → getD (now (joined .exit)) v 0 ≡ cond (isSet 64 r v && not (withinAt (n .benches) (now (joined .entry)) v)) i (getD (now (joined .entry)) v 0)) × ((v : ℕ) → v < length (now (level .entry)) → getD (now (level .exit)) v 0 ≡ cond (ltb v 64 && isSet 64 r v) i (getD (now (level .entry)) v 0)) ⌝ }
 {
-    let mut opened = false;
-    let mut v = 0;
-    while v < n.benches {
-        opened = open_bench(n, i, load, reach, joined, level, v, opened);
-        v += 1;
-    }
+    let opened = opening(n, i, all, active, reach, load);
+    set_loops::put_all(level, opened, i);
+    enter_all(n.benches, i, opened, joined);
     opened
 }
 
 // explore b, where dir is 0 everywhere, load is own, and joined and level are never everywhere.
+// Kept in the rounds: the activated benches, those of the round before, and those of the conflict set that may be activated yet.
 pub fn explore<'a>(
     n: Limits,
     low: &'a [usize],
@@ -169,17 +160,51 @@ pub fn explore<'a>(
 )
     ensures { λ _. ⌜ ((b : Board) → Rocks b n (now (low .entry)) (now (high .entry)) (now (weight .entry)) → Owned b (now (own .entry)) → Reaches b (now (from .entry)) → rocksOf b ≤ 64 → length (now (own .entry)) ≡ 64 → now (dir .entry) ≡ replicate 64 0 → now (load .entry) ≡ now (own .entry) → now (joined .entry) ≡ replicate 64 (plusOf (n .benches) 1) → now (level .entry) ≡ replicate 64 (plusOf (n .benches) 1) → Shown b (explored b) (now (dir .exit)) (now (load .exit)) (now (joined .exit)) (now (level .exit))) ⌝ }
 {
-    forced::force(n, low, high, weight, dir, load);
+    let mut here = [0; 64];
+    set_loops::fill_here(n, low, high, &mut here);
+    let all = everywhere(n.benches);
+    forced::force(n, low, high, weight, &here, all, dir, load);
     let turns = arrays::plus(n.benches, 1);
+    let mut active = 0;
+    let mut fresh = 0;
+    let mut wait = 0;
     let mut i = 0;
     while i < turns {
-        let reach = reach_of(n.benches, i, from, level);
-        let opened = open_round(n, i, load, reach, joined, level);
-        if !opened {
+        let reach = set_loops::reach_of(from, fresh);
+        let opened = open_round(n, i, all, active, reach, load, joined, level);
+        if opened == 0 {
             return;
         }
-        conflict::construct(n, i, low, high, weight, dir, load, joined);
-        activate::activate(n, i, low, high, weight, own, dir, joined, level);
+        let cand = neighbours::neighbours(low, high, &here, opened);
+        let grown = conflict::construct(
+            n,
+            i,
+            low,
+            high,
+            weight,
+            &here,
+            cand,
+            opened,
+            dir,
+            load,
+            joined,
+        );
+        let asked = sets::common(all, sets::less(wait | grown, opened));
+        wait = activate::activate(
+            n,
+            i,
+            low,
+            high,
+            weight,
+            &here,
+            asked,
+            own,
+            dir,
+            joined,
+            level,
+        );
+        fresh = opened | sets::less(asked, wait);
+        active = active | fresh;
         i += 1;
     }
 }

@@ -1,149 +1,179 @@
-// FORCED ORIENTATIONS.
+// FORCED ORIENTATIONS. Only benches of a set that has every bench from which a rock is forced are looked at.
 use crate::arrays;
 use crate::rocks;
 use crate::rocks::Limits;
+use crate::sets;
 ghost use mathlib.Core.Path.{_≡_};
-ghost use mathlib.Core.Bool.{_&&_, true};
-ghost use lib.ListN.{set, length, replicate};
-ghost use Rattle.sums.specs.Search.{least};
+ghost use mathlib.Core.Bool.{true};
+ghost use mathlib.Core.List.{List};
+ghost use Prim.Native.Nat.{ℕ, _<_, _≤_};
+ghost use lib.ListN.{set};
 ghost use Rattle.algorithm.specs.Board.{Board, Directions};
 ghost use Rattle.algorithm.specs.Forced.{inner, nobody, forcedOrientations};
-ghost use Rattle.run.specs.Arrays.{lowestEnd, touchesAt, forcedAt, Rocks, Seen};
+ghost use Rattle.run.specs.Arrays.{rocksOf, Rocks, Seen};
+ghost use Rattle.run.specs.SetArrays.{forcesAt, Here, Covers, Nowhere, Tails};
+ghost use Rattle.run.specs.CandidateArrays.{rockOf, benchOf, Left, CoversBut};
 
-// Whether rock r is neutral and forced from bench v, one of its ends.
-fn forced_at<'a>(
+// A bench and a rock at it, and the candidates that are left.
+pub struct Found {
+    pub bench: usize,
+    pub rock: usize,
+    pub left: usize,
+}
+
+// The benches from which a rock may be forced, and the benches that a rock was directed away from.
+pub struct Sources {
+    pub watch: usize,
+    pub tails: usize,
+}
+
+// Whether rock r is neutral and forced from v.
+fn forces<'a>(
     bound: usize,
     weight: &'a [usize],
     dir: &'a [usize],
     load: &'a [usize],
-    marked: &'a [bool],
     r: usize,
     v: usize,
 ) -> bool
-    ensures { λ t. ⌜ t ≡ forcedAt bound (now (weight .entry)) (now (dir .entry)) (now (load .entry)) (now (marked .entry)) r v ⌝ }
+    ensures { λ t. ⌜ t ≡ forcesAt bound (now (weight .entry)) (now (dir .entry)) (now (load .entry)) r v ⌝ }
 {
     if arrays::at(dir, r) != 0 {
-        return false;
-    }
-    if !arrays::holds(marked, v) {
         return false;
     }
     arrays::exceeds(bound, arrays::at(load, v), arrays::at(weight, r))
 }
 
-// The lowest marked bench from which a rock is forced.
-fn first_forcing<'a>(
-    n: Limits,
-    low: &'a [usize],
-    high: &'a [usize],
-    weight: &'a [usize],
-    dir: &'a [usize],
-    load: &'a [usize],
-    marked: &'a [bool],
-) -> usize
-    ensures { λ v. ⌜ v ≡ lowestEnd (n .benches) (n .rocks) (now (low .entry)) (now (high .entry)) (forcedAt (n .bound) (now (weight .entry)) (now (dir .entry)) (now (load .entry)) (now (marked .entry))) ⌝ }
-{
-    let mut v = n.benches;
-    let mut r = 0;
-    while r < n.rocks {
-        let lo = arrays::at(low, r);
-        v = arrays::lower(v, lo, forced_at(n.bound, weight, dir, load, marked, r, lo));
-        let hi = arrays::at(high, r);
-        v = arrays::lower(v, hi, forced_at(n.bound, weight, dir, load, marked, r, hi));
-        r += 1;
-    }
-    v
-}
-
-// Whether v is an end of rock r from which it is forced.
-fn forced_end<'a>(
-    bound: usize,
-    low: &'a [usize],
-    high: &'a [usize],
-    weight: &'a [usize],
-    dir: &'a [usize],
-    load: &'a [usize],
-    marked: &'a [bool],
-    r: usize,
-    v: usize,
-) -> bool
-    ensures { λ t. ⌜ t ≡ (touchesAt (now (low .entry)) (now (high .entry)) r v && forcedAt bound (now (weight .entry)) (now (dir .entry)) (now (load .entry)) (now (marked .entry)) r v) ⌝ }
-{
-    if !rocks::touches(low, high, r, v) {
-        return false;
-    }
-    forced_at(bound, weight, dir, load, marked, r, v)
-}
-
-// The first rock that is forced from v.
+// The first rock that is forced from v, and 64 where there is none.
 fn forced_rock<'a>(
-    n: Limits,
-    low: &'a [usize],
-    high: &'a [usize],
+    bound: usize,
     weight: &'a [usize],
+    here: &'a [usize],
     dir: &'a [usize],
     load: &'a [usize],
-    marked: &'a [bool],
     v: usize,
 ) -> usize
-    ensures { λ r. ⌜ r ≡ least (n .rocks) (λ i. touchesAt (now (low .entry)) (now (high .entry)) i v && forcedAt (n .bound) (now (weight .entry)) (now (dir .entry)) (now (load .entry)) (now (marked .entry)) i v) ⌝ }
+    ensures { λ r. ⌜ r ≡ rockOf (now (here .entry)) (forcesAt bound (now (weight .entry)) (now (dir .entry)) (now (load .entry))) v ⌝ }
 {
-    let mut r = 0;
-    while r < n.rocks {
-        if forced_end(n.bound, low, high, weight, dir, load, marked, r, v) {
+    let mut left = arrays::at(here, v);
+    while 0 < left {
+        let r = sets::lowest(left);
+        if forces(bound, weight, dir, load, r, v) {
             return r;
         }
-        r += 1;
+        left = sets::after(left, r);
     }
-    r
+    64
 }
 
+// The lowest candidate from which a rock is forced, and 64 where there is none.
+fn first_forcing<'a>(
+    bound: usize,
+    weight: &'a [usize],
+    here: &'a [usize],
+    dir: &'a [usize],
+    load: &'a [usize],
+    cand: usize,
+) -> Found
+    ensures { λ f. ⌜ (f .bench ≡ benchOf (now (here .entry)) (forcesAt bound (now (weight .entry)) (now (dir .entry)) (now (load .entry))) cand) × (f .bench < 64 → (f .rock < 64) × (f .rock ≡ rockOf (now (here .entry)) (forcesAt bound (now (weight .entry)) (now (dir .entry)) (now (load .entry))) (f .bench))) × Left (now (here .entry)) (forcesAt bound (now (weight .entry)) (now (dir .entry)) (now (load .entry))) cand (f .left) ⌝ }
+{
+    let mut left = cand;
+    while 0 < left {
+        let v = sets::lowest(left);
+        let r = forced_rock(bound, weight, here, dir, load, v);
+        if r < 64 {
+            return Found {
+                bench: v,
+                rock: r,
+                left: left,
+            };
+        }
+        left = sets::after(left, v);
+    }
+    Found {
+        bench: 64,
+        rock: 64,
+        left: left,
+    }
+}
+
+// The rocks that are forced from `first`, and from the benches that these come to.
 fn force_marked<'a>(
     n: Limits,
     low: &'a [usize],
     high: &'a [usize],
     weight: &'a [usize],
+    here: &'a [usize],
+    from: Sources,
     dir: &mut [usize],
     load: &mut [usize],
     first: usize,
-)
-    ensures { λ _. ⌜ ((b : Board) → (dirs : Directions) → Rocks b n (now (low .entry)) (now (high .entry)) (now (weight .entry)) → Seen b dirs (now (dir .entry)) (now (load .entry)) → Seen b (inner (b .jobs) b dirs (set (nobody b) first true)) (now (dir .exit)) (now (load .exit))) ⌝ }
+) -> Sources
+    ensures { λ s. ⌜ ((b : Board) → (dirs : Directions) → Rocks b n (now (low .entry)) (now (high .entry)) (now (weight .entry)) → rocksOf b ≤ 64 → Here n (now (low .entry)) (now (high .entry)) (now (here .entry)) → CoversBut n (now (low .entry)) (now (high .entry)) (forcesAt (n .bound) (now (weight .entry)) (now (dir .entry)) (now (load .entry))) (from .watch) first → first < 64 → Seen b dirs (now (dir .entry)) (now (load .entry)) → Seen b (inner (b .jobs) b dirs (set (nobody b) first true)) (now (dir .exit)) (now (load .exit)) × Covers n (now (low .entry)) (now (high .entry)) (forcesAt (n .bound) (now (weight .entry)) (now (dir .exit)) (now (load .exit))) (s .watch) × ((dir₀ : List ℕ) → Tails n (now (low .entry)) (now (high .entry)) dir₀ (now (dir .entry)) (from .tails) → Tails n (now (low .entry)) (now (high .entry)) dir₀ (now (dir .exit)) (s .tails))) ⌝ }
 {
-    let mut marked = [false; 64];
-    arrays::mark(&mut marked, first, true);
+    let watch = from.watch;
+    let mut tails = from.tails;
+    let mut cand = arrays::with(0, first);
     let mut turns = n.jobs;
     while 0 < turns {
-        let v = first_forcing(n, low, high, weight, dir, load, &marked);
-        if v == n.benches {
-            return;
+        let f = first_forcing(n.bound, weight, here, dir, load, cand);
+        if f.bench == 64 {
+            return Sources {
+                watch: watch,
+                tails: tails,
+            };
         }
-        let r = forced_rock(n, low, high, weight, dir, load, &marked, v);
-        let u = rocks::direct(low, high, weight, dir, load, r, v);
-        arrays::mark(&mut marked, u, true);
+        let u = rocks::direct(low, high, weight, dir, load, f.rock, f.bench);
+        tails = arrays::with(tails, f.bench);
+        cand = arrays::with(f.left, u);
         turns -= 1;
+    }
+    Sources {
+        watch: watch | cand,
+        tails: tails,
     }
 }
 
+// From every bench; says which benches a rock was directed away from.
 pub fn force<'a>(
     n: Limits,
     low: &'a [usize],
     high: &'a [usize],
     weight: &'a [usize],
+    here: &'a [usize],
+    watch: usize,
     dir: &mut [usize],
     load: &mut [usize],
-)
-    ensures { λ _. ⌜ ((b : Board) → (dirs : Directions) → Rocks b n (now (low .entry)) (now (high .entry)) (now (weight .entry)) → Seen b dirs (now (dir .entry)) (now (load .entry)) → Seen b (forcedOrientations b dirs) (now (dir .exit)) (now (load .exit))) ⌝ }
+) -> usize
+    ensures { λ t. ⌜ ((b : Board) → (dirs : Directions) → Rocks b n (now (low .entry)) (now (high .entry)) (now (weight .entry)) → rocksOf b ≤ 64 → Here n (now (low .entry)) (now (high .entry)) (now (here .entry)) → Covers n (now (low .entry)) (now (high .entry)) (forcesAt (n .bound) (now (weight .entry)) (now (dir .entry)) (now (load .entry))) watch → Seen b dirs (now (dir .entry)) (now (load .entry)) → Seen b (forcedOrientations b dirs) (now (dir .exit)) (now (load .exit)) × Tails n (now (low .entry)) (now (high .entry)) (now (dir .entry)) (now (dir .exit)) t × Nowhere n (now (low .entry)) (now (high .entry)) (forcesAt (n .bound) (now (weight .entry)) (now (dir .exit)) (now (load .exit)))) ⌝ }
 {
-    let everywhere = [true; 64];
+    let mut left = watch;
+    let mut tails = 0;
     let mut turns = n.jobs;
     while 0 < turns {
-        let v = first_forcing(n, low, high, weight, dir, load, &everywhere);
-        if v == n.benches {
-            return;
+        let f = first_forcing(n.bound, weight, here, dir, load, left);
+        if f.bench == 64 {
+            return tails;
         }
-        let r = forced_rock(n, low, high, weight, dir, load, &everywhere, v);
-        let u = rocks::direct(low, high, weight, dir, load, r, v);
-        force_marked(n, low, high, weight, dir, load, u);
+        let u = rocks::direct(low, high, weight, dir, load, f.rock, f.bench);
+        tails = arrays::with(tails, f.bench);
+        let s = force_marked(
+            n,
+            low,
+            high,
+            weight,
+            here,
+            Sources {
+                watch: f.left,
+                tails: tails,
+            },
+            dir,
+            load,
+            u,
+        );
+        left = s.watch;
+        tails = s.tails;
         turns -= 1;
     }
+    tails
 }

@@ -22,7 +22,8 @@ pub fn turns<'a>(
 ) -> State
     ensures { λ r. ⌜ ((d : Day) → Ready d n (now (low .entry)) (now (high .entry)) (now (weight .entry)) (now (amount .entry)) (now (pebble .entry)) (now (allowed .entry)) → Held d 0 (start d) (first .left) (first .place) → first .moves ≡ 0 → budget ≡ budgetOf d → Last d r) ⌝ }
 {
-    let mut s = first.orient(n, low, high, weight, amount, pebble, allowed);
+    let weighed = first.weigh(n, amount, pebble, allowed);
+    let mut s = weighed.orient(n, low, high, weight);
     let mut left = budget;
     while 0 < left {
         if !loads::congested(n.benches, &s.level) {
@@ -34,7 +35,7 @@ pub fn turns<'a>(
         if after == before {
             return s;
         }
-        s = s.orient(n, low, high, weight, amount, pebble, allowed);
+        s = s.orient(n, low, high, weight);
         left -= 1;
     }
     s

@@ -1,28 +1,15 @@
-// Loops over the numbers of a set, the lowest first.
+// Loops over the numbers of a set, the lowest first, and the sets of the rocks at each bench.
 use crate::arrays;
+use crate::rocks::Limits;
 use crate::sets;
 ghost use mathlib.Core.Path.{_≡_};
-ghost use Prim.Native.Nat.{ℕ, _+_, _<_};
-ghost use mathlib.Core.Bool.{Bool, cond, _&&_};
-ghost use lib.Dec.{ltb};
-ghost use lib.ListN.{getD, length};
-ghost use Rattle.sums.specs.Search.{any, least};
+ghost use Prim.Native.Nat.{ℕ, _<_};
+ghost use mathlib.Core.Bool.{Bool, cond, _&&_, _||_};
+ghost use lib.Dec.{eqb, ltb};
+ghost use lib.ListN.{getD, length, replicate};
+ghost use Rattle.sums.specs.Search.{any};
 ghost use Rattle.bits.specs.Bits.{isSet};
-
-// The lowest rock of the set that is forced from a bench with this load, and 64 where there is none.
-pub fn forced_rock(bound: usize, weight: &[usize], load: usize, rocks: usize) -> usize
-    ensures { λ r. ⌜ r ≡ least 64 (λ k. isSet 64 rocks k && ltb bound (load + getD (now (weight .entry)) k 0)) ⌝ }
-{
-    let mut left = rocks;
-    while 0 < left {
-        let r = sets::lowest(left);
-        if arrays::exceeds(bound, load, arrays::at(weight, r)) {
-            return r;
-        }
-        left = sets::after(left, r);
-    }
-    64
-}
+ghost use Rattle.run.specs.SetArrays.{Here};
 
 // The benches that some entry of the set has.
 pub fn reach_of(from: &[usize], benches: usize) -> usize
@@ -47,5 +34,24 @@ pub fn put_all(t: &mut [usize], set: usize, i: usize)
         let u = sets::lowest(left);
         arrays::put(t, u, i);
         left = sets::after(left, u);
+    }
+}
+
+// Entry v gets r.
+fn add_rock(here: &mut [usize], v: usize, r: usize)
+    ensures { λ _. ⌜ ((w u : ℕ) → w < length (now (here .entry)) → u < 64 → isSet 64 (getD (now (here .exit)) w 0) u ≡ (isSet 64 (getD (now (here .entry)) w 0) u || (eqb w v && eqb u r))) ⌝ }
+{
+    arrays::put(here, v, arrays::with(arrays::at(here, v), r));
+}
+
+// Entry v becomes the set of the rocks at bench v.
+pub fn fill_here<'a>(n: Limits, low: &'a [usize], high: &'a [usize], here: &mut [usize])
+    ensures { λ _. ⌜ (now (here .entry) ≡ replicate 64 0 → Here n (now (low .entry)) (now (high .entry)) (now (here .exit))) ⌝ }
+{
+    let mut r = 0;
+    while r < n.rocks {
+        add_rock(here, arrays::at(low, r), r);
+        add_rock(here, arrays::at(high, r), r);
+        r += 1;
     }
 }

@@ -2,7 +2,7 @@
 ghost use mathlib.Core.Path.{_≡_};
 ghost use Prim.Native.Nat.{ℕ, _<_};
 ghost use mathlib.Core.Bool.{not, _&&_};
-ghost use lib.Dec.{eqb};
+ghost use lib.Dec.{eqb, ltb};
 ghost use Rattle.bits.specs.Bits.{isSet};
 ghost use Rattle.run.specs.StartArrays.{lowestOf};
 
@@ -33,6 +33,16 @@ pub fn after(set: usize, v: usize) -> usize
 {
     if 63 < v {
         return set;
+    }
+    set % (1 << (63 - v))
+}
+
+// The numbers of the set that are higher than v.
+pub fn above(set: usize, v: usize) -> usize
+    ensures { λ r. ⌜ ((u : ℕ) → u < 64 → isSet 64 r u ≡ (isSet 64 set u && ltb v u)) ⌝ }
+{
+    if 63 < v {
+        return 0;
     }
     set % (1 << (63 - v))
 }

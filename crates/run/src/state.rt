@@ -1,19 +1,22 @@
 // The state of the run: the rocks that are left, where every other job is, the moves made, and the last exploration.
 use crate::arrays;
 use crate::explore;
+use crate::kept;
 use crate::loads;
 use crate::push;
 use crate::rocks::Limits;
 use crate::start;
 ghost use mathlib.Core.Path.{_≡_};
 ghost use Prim.Native.Nat.{ℕ, _<_};
-ghost use mathlib.Core.Bool.{false};
+ghost use mathlib.Core.Bool.{Bool, false};
 ghost use mathlib.Core.List.{List};
-ghost use lib.ListN.{getD};
+ghost use lib.ListN.{length, getD, set};
 ghost use Rattle.algorithm.specs.Day.{Day, rock as isRock};
 ghost use Rattle.algorithm.specs.Start.{State as RunState, start as startOf};
 ghost use Rattle.algorithm.specs.Run.{boardOf, explored};
-ghost use Rattle.run.specs.Arrays.{Owned};
+ghost use Rattle.run.specs.Arrays.{plusOf, Owned};
+ghost use Rattle.run.specs.ExploreArrays.{Reaches};
+ghost use Rattle.run.specs.KeptArrays.{shiftedOf, ReachShifted};
 ghost use Rattle.run.specs.Shown.{Shown};
 ghost use Rattle.run.specs.Held.{Ready, Held, Pushed};
 ghost use Rattle.run.specs.StartArrays.{Fields, DayRocks, JobsOf, Cycles, Placed};
@@ -22,8 +25,10 @@ pub struct State {
     pub left: [bool; 512],
     pub place: [usize; 512],
     pub moves: usize,
-    // Of the last exploration.
+    // The load of each bench besides its rocks, and the benches that the pebbles on it allow.
     pub own: [usize; 64],
+    pub from: [usize; 64],
+    // Of the last exploration.
     pub dir: [usize; 64],
     pub load: [usize; 64],
     pub joined: [usize; 64],
@@ -31,7 +36,7 @@ pub struct State {
 }
 
 impl State {
-    // start d: every job on its lowest bench, and rocks hanging off a cycle peeled. No exploration yet.
+    // start d: every job on its lowest bench, and rocks hanging off a cycle peeled. Not weighed, and no exploration yet.
     pub fn start<'a>(
         n: Limits,
         rock: [bool; 512],
@@ -53,11 +58,31 @@ impl State {
             place,
             moves: 0,
             own: none,
+            from: none,
             dir: none,
             load: none,
             joined: none,
             level: none,
         }
+    }
+
+    // The loads besides the rocks, and the benches in reach.
+    pub fn weigh<'a>(
+        mut self,
+        n: Limits,
+        amount: &'a [usize],
+        pebble: &'a [bool],
+        allowed: &'a [usize],
+    ) -> State
+        ensures { λ r. ⌜ (r .left ≡ self .left) × (r .place ≡ self .place) × (r .moves ≡ self .moves) × ((d : Day) → (m : ℕ) → (s : RunState) → (low : List ℕ) → (high : List ℕ) → (weight : List ℕ) → Ready d n low high weight (now (amount .entry)) (now (pebble .entry)) (now (allowed .entry)) → Held d m s (self .left) (self .place) → Owned (boardOf d s) (r .own) × Reaches (boardOf d s) (r .from)) ⌝ }
+    {
+        let mut own = [0usize; 64];
+        loads::own_loads(n.jobs, amount, &self.left, &self.place, &mut own);
+        let mut from = [0usize; 64];
+        explore::fill_from(n, pebble, allowed, &self.place, &mut from);
+        self.own = own;
+        self.from = from;
+        self
     }
 
     // explored d s.
@@ -67,16 +92,10 @@ impl State {
         low: &'a [usize],
         high: &'a [usize],
         weight: &'a [usize],
-        amount: &'a [usize],
-        pebble: &'a [bool],
-        allowed: &'a [usize],
     ) -> State
-        ensures { λ r. ⌜ (r .left ≡ self .left) × (r .place ≡ self .place) × (r .moves ≡ self .moves) × ((d : Day) → (m : ℕ) → (s : RunState) → Ready d n (now (low .entry)) (now (high .entry)) (now (weight .entry)) (now (amount .entry)) (now (pebble .entry)) (now (allowed .entry)) → Held d m s (self .left) (self .place) → Owned (boardOf d s) (r .own) × Shown (boardOf d s) (explored d s) (r .dir) (r .load) (r .joined) (r .level)) ⌝ }
+        ensures { λ r. ⌜ (r .left ≡ self .left) × (r .place ≡ self .place) × (r .moves ≡ self .moves) × (r .own ≡ self .own) × (r .from ≡ self .from) × ((d : Day) → (m : ℕ) → (s : RunState) → (amount : List ℕ) → (pebble : List Bool) → (allowed : List ℕ) → Ready d n (now (low .entry)) (now (high .entry)) (now (weight .entry)) amount pebble allowed → Held d m s (self .left) (self .place) → Owned (boardOf d s) (self .own) → Reaches (boardOf d s) (self .from) → Shown (boardOf d s) (explored d s) (r .dir) (r .load) (r .joined) (r .level)) ⌝ }
     {
-        let mut own = [0usize; 64];
-        loads::own_loads(n.jobs, amount, &self.left, &self.place, &mut own);
-        let mut from = [0usize; 64];
-        explore::fill_from(n, pebble, allowed, &self.place, &mut from);
+        let own = self.own;
         let never = arrays::plus(n.benches, 1);
         let mut dir = [0usize; 64];
         let mut load = own;
@@ -88,17 +107,52 @@ impl State {
             high,
             weight,
             &own,
-            &from,
+            &self.from,
             &mut dir,
             &mut load,
             &mut joined,
             &mut level,
         );
-        self.own = own;
         self.dir = dir;
         self.load = load;
         self.joined = joined;
         self.level = level;
+        self
+    }
+
+    // Job `job` goes to the bench: its place, the loads and the benches in reach, and one move more.
+    fn moved<'a>(
+        mut self,
+        jobs: usize,
+        amount: &'a [usize],
+        pebble: &'a [bool],
+        allowed: &'a [usize],
+        job: usize,
+        bench: usize,
+    ) -> State
+        ensures { λ r. ⌜ (length (self .own) ≡ 64) × (length (self .from) ≡ 64) × (job < 512 → (r .left ≡ self .left) × (r .place ≡ set (self .place) job bench) × (r .moves ≡ plusOf (self .moves) 1) × (r .own ≡ shiftedOf (self .own) (getD (self .place) job 0) bench (getD (now (amount .entry)) job 0)) × ReachShifted jobs (now (pebble .entry)) (now (allowed .entry)) (r .place) (self .from) (getD (self .place) job 0) bench job (r .from)) ⌝ }
+    {
+        if 511 < job {
+            return self;
+        }
+        let before = self.place[job];
+        let mut own = self.own;
+        kept::shift_load(&mut own, before, bench, arrays::at(amount, job));
+        self.own = own;
+        self.place[job] = bench;
+        let mut from = self.from;
+        kept::shift_reach(
+            jobs,
+            pebble,
+            allowed,
+            &self.place,
+            &mut from,
+            before,
+            bench,
+            job,
+        );
+        self.from = from;
+        self.moves = arrays::plus(self.moves, 1);
         self
     }
 
@@ -113,7 +167,7 @@ impl State {
         pebble: &'a [bool],
         allowed: &'a [usize],
     ) -> State
-        ensures { λ r. ⌜ ((d : Day) → (m : ℕ) → (s : RunState) → Ready d n (now (low .entry)) (now (high .entry)) (now (weight .entry)) (now (amount .entry)) (now (pebble .entry)) (now (allowed .entry)) → Held d m s (self .left) (self .place) → Owned (boardOf d s) (self .own) → Shown (boardOf d s) (explored d s) (self .dir) (self .load) (self .joined) (self .level) → self .moves ≡ m → Pushed d m s self r) ⌝ }
+        ensures { λ r. ⌜ ((d : Day) → (m : ℕ) → (s : RunState) → Ready d n (now (low .entry)) (now (high .entry)) (now (weight .entry)) (now (amount .entry)) (now (pebble .entry)) (now (allowed .entry)) → Held d m s (self .left) (self .place) → Owned (boardOf d s) (self .own) → Reaches (boardOf d s) (self .from) → Shown (boardOf d s) (explored d s) (self .dir) (self .load) (self .joined) (self .level) → self .moves ≡ m → Pushed d m s self r) ⌝ }
     {
         let mut open = [false; 64];
         push::receivers(
@@ -134,10 +188,7 @@ impl State {
         let job = m.job;
         let bench = m.bench;
         if job < n.jobs {
-            if job < 512 {
-                self.place[job] = bench;
-                self.moves = arrays::plus(self.moves, 1);
-            }
+            return self.moved(n.jobs, amount, pebble, allowed, job, bench);
         }
         self
     }

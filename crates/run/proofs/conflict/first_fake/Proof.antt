@@ -1,52 +1,43 @@
--- v is the lowest end of the rocks passed.
-use Prim.Native.Nat.{_≤_, _-_}
-use mathlib.Core.Path.{_≡_}
+-- No candidate passed has a neutral rock.
 use native.Mathlib.Omega.{arith}
-use Rattle.run.specs.Arrays.{lowestEnd}
 use Rattle.run.specs.ExploreArrays.{fakeAt}
-use Rattle.run.proofs.ArrayLaws.{lowest-none, lowest-more}
+use Rattle.run.specs.CandidateArrays.{someRock}
+use Rattle.run.proofs.SetRun.{Searched, searched-starts, searched-goes-on}
+use Rattle.run.proofs.CandidateLaws.{rock-found, rock-none, bench-found, bench-none}
+use Rattle.run.proofs.ConflictLoops.{first-below}
 use borrow.Author.Needs.{needs}
 use Rattle.run.proofs.conflict.first_fake.Statement.{statement}
 use Rattle.run.proofs.conflict.first_fake.Tie as tie
 
 abbrev Inv-loop : tie.InvT-loop
-Inv-loop n low high dir joined v₀ r₀ v r = (r ≤ n .rocks) × (v ≡ lowestEnd (n .benches) r low high (fakeAt (n .benches) dir joined))
+Inv-loop benches here fakes dir joined left₀ left = Searched fakes (someRock here (fakeAt benches dir joined)) left
 
 abbrev μ-loop : tie.MeasureT-loop
-μ-loop n low high dir joined v₀ r₀ v r = n .rocks - r
+μ-loop benches here fakes dir joined left₀ left = left
 
 loop-holds : tie.Need-loop-holds Inv-loop μ-loop
-loop-holds c = (omega arith, lowest-none (c .before .before .before .before .args .n .benches) (c .before .before .before .before .args .low .now) (c .before .before .before .before .args .high .now) (fakeAt (c .before .before .before .before .args .n .benches) (c .before .before .before .before .args .dir .now) (c .before .before .before .before .args .joined .now)))
+loop-holds c = searched-starts (c .before .before .before .args .fakes) (someRock (c .before .before .before .args .here .now) (fakeAt (c .before .before .before .args .benches) (c .before .before .before .args .dir .now) (c .before .before .before .args .joined .now)))
 
-at-requires : tie.Need-at-requires Inv-loop μ-loop
-at-requires c κs = search needs
+lowest-requires : tie.Need-lowest-requires Inv-loop μ-loop
+lowest-requires c κs = search needs
 
-fake-at-requires : tie.Need-fake-at-requires Inv-loop μ-loop
-fake-at-requires c κs = search needs
-
-lower-requires : tie.Need-lower-requires Inv-loop μ-loop
-lower-requires c κs = search needs
-
-at-requires-2 : tie.Need-at-requires-2 Inv-loop μ-loop
-at-requires-2 c κs = search needs
-
-fake-at-requires-2 : tie.Need-fake-at-requires-2 Inv-loop μ-loop
-fake-at-requires-2 c κs = search needs
-
-lower-requires-2 : tie.Need-lower-requires-2 Inv-loop μ-loop
-lower-requires-2 c κs = search needs
-
-add-r : tie.Need-add-r Inv-loop μ-loop
-add-r c = omega arith
-
-loop-less : tie.Need-loop-less Inv-loop μ-loop
-loop-less c = omega arith
-
-loop-again : tie.Need-loop-again Inv-loop μ-loop
-loop-again c = (omega arith, lowest-more (c .before .before .before .before .before .before .before .before .before .before .before .before .before .args .n .benches) (c .before .before .before .before .before .before .before .before .loop .r) (c .before .before .before .before .before .before .before .before .before .before .before .before .before .args .low .now) (c .before .before .before .before .before .before .before .before .before .before .before .before .before .args .high .now) (fakeAt (c .before .before .before .before .before .before .before .before .before .before .before .before .before .args .n .benches) (c .before .before .before .before .before .before .before .before .before .before .before .before .before .args .dir .now) (c .before .before .before .before .before .before .before .before .before .before .before .before .before .args .joined .now)) (c .before .before .before .before .before .before .before .before .loop .inv .1) (c .before .before .before .before .before .at .ensures) (c .before .before .before .before .fake-at .ensures) (c .before .before .before .lower .ensures) (c .before .before .at2 .ensures) (c .before .fake-at2 .ensures) (c .lower2 .ensures))
+fake-rock-requires : tie.Need-fake-rock-requires Inv-loop μ-loop
+fake-rock-requires c κs = search needs
 
 returns : tie.Need-returns Inv-loop μ-loop
-returns c = let e : c .before .before .loop .r ≡ c .before .before .before .before .before .before .before .args .n .rocks = omega arith in rw (← e) (c .before .before .loop .inv .1)
+returns c = bench-found (c .before .before .before .before .before .before .before .before .args .here .now) (fakeAt (c .before .before .before .before .before .before .before .before .args .benches) (c .before .before .before .before .before .before .before .before .args .dir .now) (c .before .before .before .before .before .before .before .before .args .joined .now)) (c .before .before .before .before .before .before .before .before .args .fakes) (c .before .before .before .before .loop .left) (c .before .before .before .before .loop .inv) (c .before .before .lowest .result) (c .before .before .lowest .ensures) (first-below (c .before .before .before .before .before .before .before .before .args .fakes) (c .before .before .before .before .loop .left) (c .before .before .lowest .result) (c .before .before .lowest .ensures) (c .before .before .before .loop-test .taken) (c .before .before .before .before .loop .inv .small) (c .before .before .before .before .before .before .before .before .fits .fakes .fits)) (rock-found (c .before .before .before .before .before .before .before .before .args .here .now) (fakeAt (c .before .before .before .before .before .before .before .before .args .benches) (c .before .before .before .before .before .before .before .before .args .dir .now) (c .before .before .before .before .before .before .before .before .args .joined .now)) (c .before .before .lowest .result) (c .before .fake-rock .result) (c .before .fake-rock .ensures) (c .if1 .taken))
+
+after-requires : tie.Need-after-requires Inv-loop μ-loop
+after-requires c κs = search needs
+
+loop-less : tie.Need-loop-less Inv-loop μ-loop
+loop-less c = c .after .ensures .1 (c .before .before .before .lowest .ensures) (first-below (c .before .before .before .before .before .before .before .before .before .args .fakes) (c .before .before .before .before .before .loop .left) (c .before .before .before .lowest .result) (c .before .before .before .lowest .ensures) (c .before .before .before .before .loop-test .taken) (c .before .before .before .before .before .loop .inv .small) (c .before .before .before .before .before .before .before .before .before .fits .fakes .fits))
+
+loop-again : tie.Need-loop-again Inv-loop μ-loop
+loop-again c = searched-goes-on (c .before .before .before .before .before .before .before .before .before .args .fakes) (someRock (c .before .before .before .before .before .before .before .before .before .args .here .now) (fakeAt (c .before .before .before .before .before .before .before .before .before .args .benches) (c .before .before .before .before .before .before .before .before .before .args .dir .now) (c .before .before .before .before .before .before .before .before .before .args .joined .now))) (c .before .before .before .before .before .loop .left) (c .before .before .before .lowest .result) (c .before .before .before .before .before .loop .inv) (c .before .before .before .lowest .ensures) (first-below (c .before .before .before .before .before .before .before .before .before .args .fakes) (c .before .before .before .before .before .loop .left) (c .before .before .before .lowest .result) (c .before .before .before .lowest .ensures) (c .before .before .before .before .loop-test .taken) (c .before .before .before .before .before .loop .inv .small) (c .before .before .before .before .before .before .before .before .before .fits .fakes .fits)) (c .after .result) (c .after .ensures .0 (c .before .before .before .lowest .ensures)) (c .after .ensures .1 (c .before .before .before .lowest .ensures) (first-below (c .before .before .before .before .before .before .before .before .before .args .fakes) (c .before .before .before .before .before .loop .left) (c .before .before .before .lowest .result) (c .before .before .before .lowest .ensures) (c .before .before .before .before .loop-test .taken) (c .before .before .before .before .before .loop .inv .small) (c .before .before .before .before .before .before .before .before .before .fits .fakes .fits))) (rock-none (c .before .before .before .before .before .before .before .before .before .args .here .now) (fakeAt (c .before .before .before .before .before .before .before .before .before .args .benches) (c .before .before .before .before .before .before .before .before .before .args .dir .now) (c .before .before .before .before .before .before .before .before .before .args .joined .now)) (c .before .before .before .lowest .result) (c .before .before .fake-rock .result) (c .before .before .fake-rock .ensures) (omega arith))
+
+returns-2 : tie.Need-returns-2 Inv-loop μ-loop
+returns-2 c = bench-none (c .before .before .before .before .before .args .here .now) (fakeAt (c .before .before .before .before .before .args .benches) (c .before .before .before .before .before .args .dir .now) (c .before .before .before .before .before .args .joined .now)) (c .before .before .before .before .before .args .fakes) (c .before .loop .left) (c .before .loop .inv) (omega arith)
 
 pub first-fake-spec : {M : Type 1} → statement M
 first-fake-spec =
@@ -55,13 +46,10 @@ first-fake-spec =
     Inv-loop
     μ-loop
     loop-holds
-    at-requires
-    fake-at-requires
-    lower-requires
-    at-requires-2
-    fake-at-requires-2
-    lower-requires-2
-    add-r
+    lowest-requires
+    fake-rock-requires
+    returns
+    after-requires
     loop-less
     loop-again
-    returns)
+    returns-2)

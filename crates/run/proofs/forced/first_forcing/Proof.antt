@@ -1,51 +1,42 @@
--- v is the lowest end of the rocks passed.
-use Prim.Native.Nat.{_≤_, _-_}
-use mathlib.Core.Path.{_≡_}
+-- No rock is forced from a bench passed (SetRun, CandidateLaws).
 use native.Mathlib.Omega.{arith}
-use Rattle.run.specs.Arrays.{lowestEnd, forcedAt}
-use Rattle.run.proofs.ArrayLaws.{lowest-none, lowest-more}
+use Rattle.run.specs.SetArrays.{forcesAt}
+use Rattle.run.specs.CandidateArrays.{someRock}
+use Rattle.run.proofs.SetRun.{lowest-below, Searched, searched-starts, searched-goes-on}
+use Rattle.run.proofs.CandidateLaws.{rock-found, rock-none, bench-found, bench-none, bench-left}
 use borrow.Author.Needs.{needs}
 use Rattle.run.proofs.forced.first_forcing.Statement.{statement}
 use Rattle.run.proofs.forced.first_forcing.Tie as tie
 
 abbrev Inv-loop : tie.InvT-loop
-Inv-loop n low high weight dir load marked v₀ r₀ v r = (r ≤ n .rocks) × (v ≡ lowestEnd (n .benches) r low high (forcedAt (n .bound) weight dir load marked))
+Inv-loop bound weight here dir load cand left₀ left = Searched cand (someRock here (forcesAt bound weight dir load)) left
 
 abbrev μ-loop : tie.MeasureT-loop
-μ-loop n low high weight dir load marked v₀ r₀ v r = n .rocks - r
+μ-loop bound weight here dir load cand left₀ left = left
 
 loop-holds : tie.Need-loop-holds Inv-loop μ-loop
-loop-holds c = (omega arith, lowest-none (c .before .before .before .before .before .before .args .n .benches) (c .before .before .before .before .before .before .args .low .now) (c .before .before .before .before .before .before .args .high .now) (forcedAt (c .before .before .before .before .before .before .args .n .bound) (c .before .before .before .before .before .before .args .weight .now) (c .before .before .before .before .before .before .args .dir .now) (c .before .before .before .before .before .before .args .load .now) (c .before .before .before .before .before .before .args .marked .now)))
+loop-holds c = let at-args = c .before .before .before .before .args in searched-starts (at-args .cand) (someRock (at-args .here .now) (forcesAt (at-args .bound) (at-args .weight .now) (at-args .dir .now) (at-args .load .now)))
 
-at-requires : tie.Need-at-requires Inv-loop μ-loop
-at-requires c κs = search needs
+lowest-requires : tie.Need-lowest-requires Inv-loop μ-loop
+lowest-requires c κs = search needs
 
-forced-at-requires : tie.Need-forced-at-requires Inv-loop μ-loop
-forced-at-requires c κs = search needs
-
-lower-requires : tie.Need-lower-requires Inv-loop μ-loop
-lower-requires c κs = search needs
-
-at-requires-2 : tie.Need-at-requires-2 Inv-loop μ-loop
-at-requires-2 c κs = search needs
-
-forced-at-requires-2 : tie.Need-forced-at-requires-2 Inv-loop μ-loop
-forced-at-requires-2 c κs = search needs
-
-lower-requires-2 : tie.Need-lower-requires-2 Inv-loop μ-loop
-lower-requires-2 c κs = search needs
-
-add-r : tie.Need-add-r Inv-loop μ-loop
-add-r c = omega arith
-
-loop-less : tie.Need-loop-less Inv-loop μ-loop
-loop-less c = omega arith
-
-loop-again : tie.Need-loop-again Inv-loop μ-loop
-loop-again c = (omega arith, lowest-more (c .before .before .before .before .before .before .before .before .before .before .before .before .before .before .before .args .n .benches) (c .before .before .before .before .before .before .before .before .loop .r) (c .before .before .before .before .before .before .before .before .before .before .before .before .before .before .before .args .low .now) (c .before .before .before .before .before .before .before .before .before .before .before .before .before .before .before .args .high .now) (forcedAt (c .before .before .before .before .before .before .before .before .before .before .before .before .before .before .before .args .n .bound) (c .before .before .before .before .before .before .before .before .before .before .before .before .before .before .before .args .weight .now) (c .before .before .before .before .before .before .before .before .before .before .before .before .before .before .before .args .dir .now) (c .before .before .before .before .before .before .before .before .before .before .before .before .before .before .before .args .load .now) (c .before .before .before .before .before .before .before .before .before .before .before .before .before .before .before .args .marked .now)) (c .before .before .before .before .before .before .before .before .loop .inv .1) (c .before .before .before .before .before .at .ensures) (c .before .before .before .before .forced-at .ensures) (c .before .before .before .lower .ensures) (c .before .before .at2 .ensures) (c .before .forced-at2 .ensures) (c .lower2 .ensures))
+forced-rock-requires : tie.Need-forced-rock-requires Inv-loop μ-loop
+forced-rock-requires c κs = search needs
 
 returns : tie.Need-returns Inv-loop μ-loop
-returns c = let e : c .before .before .loop .r ≡ c .before .before .before .before .before .before .before .before .before .args .n .rocks = omega arith in rw (← e) (c .before .before .loop .inv .1)
+returns c = let at-args = c .before .before .before .before .before .before .before .before .before .args in let at-loop = c .before .before .before .before .loop in let at-lowest = c .before .before .lowest in let at-forced-rock = c .before .forced-rock in (bench-found (at-args .here .now) (forcesAt (at-args .bound) (at-args .weight .now) (at-args .dir .now) (at-args .load .now)) (at-args .cand) (at-loop .left) (at-loop .inv) (at-lowest .result) (at-lowest .ensures) (lowest-below (at-loop .left) (at-lowest .result) (at-lowest .ensures) (omega arith) (omega (arith, at-loop .inv .small, c .before .before .before .before .before .before .before .before .before .fits .cand .fits))) (rock-found (at-args .here .now) (forcesAt (at-args .bound) (at-args .weight .now) (at-args .dir .now) (at-args .load .now)) (at-lowest .result) (at-forced-rock .result) (at-forced-rock .ensures) (omega arith)), (λ h. (omega arith, at-forced-rock .ensures)), bench-left (at-args .here .now) (forcesAt (at-args .bound) (at-args .weight .now) (at-args .dir .now) (at-args .load .now)) (at-args .cand) (at-loop .left) (at-loop .inv))
+
+after-requires : tie.Need-after-requires Inv-loop μ-loop
+after-requires c κs = search needs
+
+loop-less : tie.Need-loop-less Inv-loop μ-loop
+loop-less c = let at-lowest = c .before .before .before .lowest in let at-loop = c .before .before .before .before .before .loop in c .after .ensures .1 (at-lowest .ensures) (lowest-below (at-loop .left) (at-lowest .result) (at-lowest .ensures) (omega arith) (omega (arith, at-loop .inv .small, c .before .before .before .before .before .before .before .before .before .before .fits .cand .fits)))
+
+loop-again : tie.Need-loop-again Inv-loop μ-loop
+loop-again c = let at-args = c .before .before .before .before .before .before .before .before .before .before .args in let at-loop = c .before .before .before .before .before .loop in let at-lowest = c .before .before .before .lowest in let at-fits = c .before .before .before .before .before .before .before .before .before .before .fits in let at-after = c .after in let at-forced-rock = c .before .before .forced-rock in searched-goes-on (at-args .cand) (someRock (at-args .here .now) (forcesAt (at-args .bound) (at-args .weight .now) (at-args .dir .now) (at-args .load .now))) (at-loop .left) (at-lowest .result) (at-loop .inv) (at-lowest .ensures) (lowest-below (at-loop .left) (at-lowest .result) (at-lowest .ensures) (omega arith) (omega (arith, at-loop .inv .small, at-fits .cand .fits))) (at-after .result) (at-after .ensures .0 (at-lowest .ensures)) (at-after .ensures .1 (at-lowest .ensures) (lowest-below (at-loop .left) (at-lowest .result) (at-lowest .ensures) (omega arith) (omega (arith, at-loop .inv .small, at-fits .cand .fits)))) (rock-none (at-args .here .now) (forcesAt (at-args .bound) (at-args .weight .now) (at-args .dir .now) (at-args .load .now)) (at-lowest .result) (at-forced-rock .result) (at-forced-rock .ensures) (omega arith))
+
+returns-2 : tie.Need-returns-2 Inv-loop μ-loop
+returns-2 c = let at-args = c .before .before .before .before .before .before .args in let at-loop = c .before .loop in (bench-none (at-args .here .now) (forcesAt (at-args .bound) (at-args .weight .now) (at-args .dir .now) (at-args .load .now)) (at-args .cand) (at-loop .left) (at-loop .inv) (omega arith), (λ h. absurd (omega arith)), bench-left (at-args .here .now) (forcesAt (at-args .bound) (at-args .weight .now) (at-args .dir .now) (at-args .load .now)) (at-args .cand) (at-loop .left) (at-loop .inv))
 
 pub first-forcing-spec : {M : Type 1} → statement M
 first-forcing-spec =
@@ -54,13 +45,10 @@ first-forcing-spec =
     Inv-loop
     μ-loop
     loop-holds
-    at-requires
-    forced-at-requires
-    lower-requires
-    at-requires-2
-    forced-at-requires-2
-    lower-requires-2
-    add-r
+    lowest-requires
+    forced-rock-requires
+    returns
+    after-requires
     loop-less
     loop-again
-    returns)
+    returns-2)

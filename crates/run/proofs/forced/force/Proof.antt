@@ -1,48 +1,42 @@
--- The arrays show a state from which the rest of the outer loop gives what it gives from the start (ForcedRun).
-use Prim.Native.Nat.{ℕ, _<_}
-use mathlib.Core.Path.{_≡_, refl, sym, ap, _∙_}
-use mathlib.Core.Bool.{true, false}
+-- The arrays and the candidates follow the outer loop (ForcedLoops).
+use Prim.Native.Nat.{_≤_}
+use mathlib.Core.Path.{_≡_, refl, ap, _∙_}
 use native.Mathlib.Omega.{arith}
-use lib.ListN.{length, replicate, length-set, getD-replicate}
+use lib.ListN.{length, length-set}
 use Rattle.algorithm.specs.Board.{Board, Directions}
-use Rattle.run.specs.Arrays.{Rocks, Seen}
-use Rattle.run.proofs.ForcedRun.{Outer, outer-starts, outer-goes-on, outer-ends, outer-spent}
+use Rattle.run.specs.Arrays.{rocksOf, Rocks, Seen}
+use Rattle.run.specs.SetArrays.{forcesAt, Here, Covers}
+use Rattle.run.proofs.ForcedLoops.{OuterSets, outer-sets-start, outer-sets-next, outer-sets-ends, outer-sets-spent}
 use borrow.Author.Needs.{needs}
 use Rattle.run.proofs.forced.force.Statement.{statement}
 use Rattle.run.proofs.forced.force.Tie as tie
 
 abbrev Inv-loop : tie.InvT-loop
-Inv-loop n low high weight dir₀ load₀ everywhere turns₀ dir load turns = (length dir ≡ length dir₀) × (length load ≡ length load₀) × ((b : Board) (dirs : Directions) (R : Rocks b n low high weight) → Seen b dirs dir₀ load₀ → Outer b n low high weight R dirs turns dir load)
+Inv-loop n low high weight here watch dir₀ load₀ left₀ tails₀ turns₀ dir load left tails turns = (length dir ≡ length dir₀) × (length load ≡ length load₀) × ((b : Board) (dirs : Directions) (R : Rocks b n low high weight) (few : rocksOf b ≤ 64) (H : Here n low high here) → Covers n low high (forcesAt (n .bound) weight dir₀ load₀) watch → Seen b dirs dir₀ load₀ → OuterSets b n low high weight R here few H dirs dir₀ turns dir load left tails)
 
 abbrev μ-loop : tie.MeasureT-loop
-μ-loop n low high weight dir₀ load₀ everywhere turns₀ dir load turns = turns
+μ-loop n low high weight here watch dir₀ load₀ left₀ tails₀ turns₀ dir load left tails turns = turns
 
 loop-holds : tie.Need-loop-holds Inv-loop μ-loop
-loop-holds c = (refl, refl, λ b dirs R S. outer-starts b (c .before .before .before .before .before .args .n) (c .before .before .before .before .before .args .low .now) (c .before .before .before .before .before .args .high .now) (c .before .before .before .before .before .args .weight .now) R dirs (c .before .before .before .before .before .args .n .jobs) S refl)
-
-slice-aggregate-first-forcing : tie.Need-slice-aggregate-first-forcing Inv-loop μ-loop
-slice-aggregate-first-forcing c = refl
+loop-holds c = let at-args = c .before .before .before .before .before .before .args in (refl, refl, λ b dirs R few H C S. outer-sets-start b (at-args .n) (at-args .low .now) (at-args .high .now) (at-args .weight .now) R (at-args .here .now) few H dirs (at-args .dir .now) (at-args .n .jobs) (at-args .watch) S refl C)
 
 first-forcing-requires : tie.Need-first-forcing-requires Inv-loop μ-loop
 first-forcing-requires c κs = search needs
 
 same-length : tie.Need-same-length Inv-loop μ-loop
-same-length c = c .before .before .before .before .before .before .before .loop .inv .0
+same-length c = c .before .before .before .before .before .before .loop .inv .0
 
 same-length-2 : tie.Need-same-length-2 Inv-loop μ-loop
-same-length-2 c = c .before .before .before .before .before .before .before .loop .inv .1
+same-length-2 c = c .before .before .before .before .before .before .loop .inv .1
 
 returns : tie.Need-returns Inv-loop μ-loop
-returns c = λ b dirs R S. outer-ends b (c .before .before .before .before .before .before .before .before .before .before .before .before .before .args .n) (c .before .before .before .before .before .before .before .before .before .before .before .before .before .args .low .now) (c .before .before .before .before .before .before .before .before .before .before .before .before .before .args .high .now) (c .before .before .before .before .before .before .before .before .before .before .before .before .before .args .weight .now) R (c .before .before .before .before .before .before .before .loop .inv .2 b dirs R S) (c .before .before .first-forcing .result) (replicate 64 true) (λ u h. getD-replicate 64 u true false (omega (arith, R .few-benches))) (c .before .before .first-forcing .ensures) (c .if1 .taken)
-
-slice-aggregate-forced-rock : tie.Need-slice-aggregate-forced-rock Inv-loop μ-loop
-slice-aggregate-forced-rock c = refl
-
-forced-rock-requires : tie.Need-forced-rock-requires Inv-loop μ-loop
-forced-rock-requires c κs = search needs
+returns c = λ b dirs R few H C S. let at-args = c .before .before .before .before .before .before .before .before .before .before .before .before .before .args in let at-first-forcing = c .before .before .first-forcing in outer-sets-ends b (at-args .n) (at-args .low .now) (at-args .high .now) (at-args .weight .now) R (at-args .here .now) few H dirs (at-args .dir .now) (c .before .before .before .before .before .before .loop .inv .2 b dirs R few H C S) (at-first-forcing .result .bench) (at-first-forcing .ensures .0) (c .if1 .taken)
 
 direct-requires : tie.Need-direct-requires Inv-loop μ-loop
 direct-requires c κs = search needs
+
+with-requires : tie.Need-with-requires Inv-loop μ-loop
+with-requires c κs = search needs
 
 force-marked-requires : tie.Need-force-marked-requires Inv-loop μ-loop
 force-marked-requires c κs = search needs
@@ -54,7 +48,7 @@ loop-less : tie.Need-loop-less Inv-loop μ-loop
 loop-less c = omega arith
 
 loop-again : tie.Need-loop-again Inv-loop μ-loop
-loop-again c = (c .before .before .before .before .force-marked .kept .1 .1 .1 .1 .0 ∙ ap length (c .before .before .before .before .before .before .before .before .before .before .before .direct .ensures .1) ∙ simp length-set (c .before .before .before .before .before .before .before .before .before .before .before .before .before .before .before .before .before .before .before .before .before .before .before .before .before .loop .inv .0), c .before .before .before .before .force-marked .kept .1 .1 .1 .1 .1 .0 ∙ ap length (c .before .before .before .before .before .before .before .before .before .before .before .direct .ensures .2) ∙ simp length-set (c .before .before .before .before .before .before .before .before .before .before .before .before .before .before .before .before .before .before .before .before .before .before .before .before .before .loop .inv .1), λ b dirs R S. outer-goes-on b (c .before .before .before .before .before .before .before .before .before .before .before .before .before .before .before .before .before .before .before .before .before .before .before .before .before .before .before .before .before .before .before .args .n) (c .before .before .before .before .before .before .before .before .before .before .before .before .before .before .before .before .before .before .before .before .before .before .before .before .before .before .before .before .before .before .before .args .low .now) (c .before .before .before .before .before .before .before .before .before .before .before .before .before .before .before .before .before .before .before .before .before .before .before .before .before .before .before .before .before .before .before .args .high .now) (c .before .before .before .before .before .before .before .before .before .before .before .before .before .before .before .before .before .before .before .before .before .before .before .before .before .before .before .before .before .before .before .args .weight .now) R (c .before .before .before .before .before .before .before .before .before .before .before .before .before .before .before .before .before .before .before .before .before .before .before .before .before .loop .inv .2 b dirs R S) (c .before .before .before .before .before .before .before .before .before .before .before .before .before .before .before .before .before .before .before .before .first-forcing .result) (replicate 64 true) (λ u h. getD-replicate 64 u true false (omega (arith, R .few-benches))) (c .before .before .before .before .before .before .before .before .before .before .before .before .before .before .before .before .before .before .before .before .first-forcing .ensures) (c .before .before .before .before .before .before .before .before .before .before .before .direct .result) (c .before .before .before .before .before .before .before .before .before .before .before .before .before .before .forced-rock .result) _ _ (c .before .before .before .before .before .before .before .before .before .before .before .before .before .before .before .before .before .before .if1 .left) (omega arith) (c .before .before .before .before .before .before .before .before .before .before .before .before .before .before .forced-rock .ensures) (c .before .before .before .before .before .before .before .before .before .before .before .direct .ensures .0) (λ x T. c .before .before .before .before .force-marked .ensures b x R (rw (c .before .before .before .before .before .before .before .before .before .before .before .direct .ensures .1, c .before .before .before .before .before .before .before .before .before .before .before .direct .ensures .2) T)))
+loop-again c = let at-force-marked = c .before .before .before .before .force-marked in let at-direct = c .before .before .before .before .before .before .before .before .before .before .before .before .direct in let at-loop = c .before .before .before .before .before .before .before .before .before .before .before .before .before .before .before .before .before .before .before .before .before .loop in let at-args = c .before .before .before .before .before .before .before .before .before .before .before .before .before .before .before .before .before .before .before .before .before .before .before .before .before .before .before .before .args in let at-first-forcing = c .before .before .before .before .before .before .before .before .before .before .before .before .before .before .before .before .before .first-forcing in let at-with = c .before .before .before .before .before .before .before .with in (at-force-marked .kept .1 .1 .1 .1 .1 .1 .0 ∙ ap length (at-direct .ensures .1) ∙ simp length-set (at-loop .inv .0), at-force-marked .kept .1 .1 .1 .1 .1 .1 .1 .0 ∙ ap length (at-direct .ensures .2) ∙ simp length-set (at-loop .inv .1), λ b dirs R few H C S. outer-sets-next b (at-args .n) (at-args .low .now) (at-args .high .now) (at-args .weight .now) R (at-args .here .now) few H dirs (at-args .dir .now) (at-loop .inv .2 b dirs R few H C S) (at-first-forcing .result .bench) (at-first-forcing .ensures .0) (at-first-forcing .result .rock) (at-direct .result) (at-first-forcing .result .left) (at-with .result) (at-force-marked .result .watch) (at-force-marked .result .tails) (at-direct .last .1 .1 .1 .0) (at-direct .last .1 .1 .1 .1 .0) (at-first-forcing .ensures .1) (at-first-forcing .ensures .2) (c .before .before .before .before .before .before .before .before .before .before .before .before .before .before .before .if1 .left) (c .before .before .before .before .before .before .before .before .before .before .before .before .before .before .before .before .before .before .before .before .loop-test .taken) (at-direct .ensures .0) (at-direct .ensures .1) (at-direct .ensures .2) (at-with .ensures) (λ x but far shown. at-force-marked .ensures b x R few H but far shown))
 
 same-length-3 : tie.Need-same-length-3 Inv-loop μ-loop
 same-length-3 c = c .before .loop .inv .0
@@ -63,7 +57,7 @@ same-length-4 : tie.Need-same-length-4 Inv-loop μ-loop
 same-length-4 c = c .before .loop .inv .1
 
 returns-2 : tie.Need-returns-2 Inv-loop μ-loop
-returns-2 c = λ b dirs R S. outer-spent b (c .before .before .before .before .before .before .before .args .n) (c .before .before .before .before .before .before .before .args .low .now) (c .before .before .before .before .before .before .before .args .high .now) (c .before .before .before .before .before .before .before .args .weight .now) R (c .before .loop .inv .2 b dirs R S) (omega arith)
+returns-2 c = λ b dirs R few H C S. let at-args = c .before .before .before .before .before .before .before .before .args in outer-sets-spent b (at-args .n) (at-args .low .now) (at-args .high .now) (at-args .weight .now) R (at-args .here .now) few H dirs (at-args .dir .now) (c .before .loop .inv .2 b dirs R few H C S) (omega arith)
 
 pub force-spec : {M : Type 1} → statement M
 force-spec =
@@ -72,14 +66,12 @@ force-spec =
     Inv-loop
     μ-loop
     loop-holds
-    slice-aggregate-first-forcing
     first-forcing-requires
     same-length
     same-length-2
     returns
-    slice-aggregate-forced-rock
-    forced-rock-requires
     direct-requires
+    with-requires
     force-marked-requires
     sub-turns
     loop-less

@@ -1,40 +1,46 @@
--- No rock passed is forced from v.
-use Prim.Native.Nat.{ℕ, _≤_, _<_, _-_}
-use mathlib.Core.Path.{_≡_}
-use mathlib.Core.Bool.{false, _&&_}
+-- No rock passed is forced (SetRun, CandidateLaws).
+use mathlib.Core.Path.{sym, _∙_}
 use native.Mathlib.Omega.{arith}
-use Rattle.run.specs.Arrays.{touchesAt, forcedAt}
-use Rattle.run.proofs.ArrayLaws.{first-found, first-more, first-none}
+use lib.ListN.{getD}
+use Rattle.run.specs.SetArrays.{forcesAt}
+use Rattle.run.proofs.SetRun.{lowest-below, Searched, searched-starts, searched-goes-on}
+use Rattle.run.proofs.CandidateLaws.{listed-found, listed-none}
 use borrow.Author.Needs.{needs}
 use Rattle.run.proofs.forced.forced_rock.Statement.{statement}
 use Rattle.run.proofs.forced.forced_rock.Tie as tie
 
 abbrev Inv-loop : tie.InvT-loop
-Inv-loop n low high weight dir load marked v r₀ r = (r ≤ n .rocks) × ((i : ℕ) → i < r → (touchesAt low high i v && forcedAt (n .bound) weight dir load marked i v) ≡ false)
+Inv-loop bound weight here dir load v left₀ left = Searched (getD here v 0) (λ k. forcesAt bound weight dir load k v) left
 
 abbrev μ-loop : tie.MeasureT-loop
-μ-loop n low high weight dir load marked v r₀ r = n .rocks - r
+μ-loop bound weight here dir load v left₀ left = left
+
+at-requires : tie.Need-at-requires Inv-loop μ-loop
+at-requires c κs = search needs
 
 loop-holds : tie.Need-loop-holds Inv-loop μ-loop
-loop-holds c = (omega arith, λ i l. absurd (omega arith))
+loop-holds c = let at-args = c .before .before .before .before .before .args in rw (c .at .ensures) (searched-starts (getD (at-args .here .now) (at-args .v) 0) (λ k. forcesAt (at-args .bound) (at-args .weight .now) (at-args .dir .now) (at-args .load .now) k (at-args .v)))
 
-forced-end-requires : tie.Need-forced-end-requires Inv-loop μ-loop
-forced-end-requires c κs = search needs
+lowest-requires : tie.Need-lowest-requires Inv-loop μ-loop
+lowest-requires c κs = search needs
+
+forces-requires : tie.Need-forces-requires Inv-loop μ-loop
+forces-requires c κs = search needs
 
 returns : tie.Need-returns Inv-loop μ-loop
-returns c = first-found (c .before .before .before .before .before .before .before .before .before .before .before .args .n .rocks) (λ i. touchesAt (c .before .before .before .before .before .before .before .before .before .before .before .args .low .now) (c .before .before .before .before .before .before .before .before .before .before .before .args .high .now) i (c .before .before .before .before .before .before .before .before .before .before .before .args .v) && forcedAt (c .before .before .before .before .before .before .before .before .before .before .before .args .n .bound) (c .before .before .before .before .before .before .before .before .before .before .before .args .weight .now) (c .before .before .before .before .before .before .before .before .before .before .before .args .dir .now) (c .before .before .before .before .before .before .before .before .before .before .before .args .load .now) (c .before .before .before .before .before .before .before .before .before .before .before .args .marked .now) i (c .before .before .before .before .before .before .before .before .before .before .before .args .v)) (c .before .before .before .before .loop .r) (omega arith) (c .before .before .before .before .loop .inv .1) (c .before .forced-end .ensures) (c .if2 .taken)
+returns c = let at-args = c .before .before .before .before .before .before .before .before .before .before .args in let at-loop = c .before .before .before .before .loop in let at-lowest = c .before .before .lowest in let at-at = c .before .before .before .before .before .at in listed-found (at-args .here .now) (forcesAt (at-args .bound) (at-args .weight .now) (at-args .dir .now) (at-args .load .now)) (at-args .v) (at-loop .left) (at-loop .inv) (at-lowest .result) (at-lowest .ensures) (lowest-below (at-loop .left) (at-lowest .result) (at-lowest .ensures) (omega arith) (omega (arith, at-loop .inv .small, at-at .ensures, at-at .ok))) (sym (c .before .forces .ensures) ∙ c .if1 .taken)
 
-add-r : tie.Need-add-r Inv-loop μ-loop
-add-r c = omega arith
+after-requires : tie.Need-after-requires Inv-loop μ-loop
+after-requires c κs = search needs
 
 loop-less : tie.Need-loop-less Inv-loop μ-loop
-loop-less c = omega arith
+loop-less c = let at-lowest = c .before .before .before .lowest in let at-loop = c .before .before .before .before .before .loop in let at-at = c .before .before .before .before .before .before .at in c .after .ensures .1 (at-lowest .ensures) (lowest-below (at-loop .left) (at-lowest .result) (at-lowest .ensures) (omega arith) (omega (arith, at-loop .inv .small, at-at .ensures, at-at .ok)))
 
 loop-again : tie.Need-loop-again Inv-loop μ-loop
-loop-again c = (omega arith, first-more (λ i. touchesAt (c .before .before .before .before .before .before .before .before .before .before .before .args .low .now) (c .before .before .before .before .before .before .before .before .before .before .before .args .high .now) i (c .before .before .before .before .before .before .before .before .before .before .before .args .v) && forcedAt (c .before .before .before .before .before .before .before .before .before .before .before .args .n .bound) (c .before .before .before .before .before .before .before .before .before .before .before .args .weight .now) (c .before .before .before .before .before .before .before .before .before .before .before .args .dir .now) (c .before .before .before .before .before .before .before .before .before .before .before .args .load .now) (c .before .before .before .before .before .before .before .before .before .before .before .args .marked .now) i (c .before .before .before .before .before .before .before .before .before .before .before .args .v)) (c .before .before .before .before .loop .r) (c .before .before .before .before .loop .inv .1) (c .before .forced-end .ensures) (c .if2 .left))
+loop-again c = let at-args = c .before .before .before .before .before .before .before .before .before .before .before .args in let at-loop = c .before .before .before .before .before .loop in let at-lowest = c .before .before .before .lowest in let at-at = c .before .before .before .before .before .before .at in let at-after = c .after in searched-goes-on (getD (at-args .here .now) (at-args .v) 0) (λ k. forcesAt (at-args .bound) (at-args .weight .now) (at-args .dir .now) (at-args .load .now) k (at-args .v)) (at-loop .left) (at-lowest .result) (at-loop .inv) (at-lowest .ensures) (lowest-below (at-loop .left) (at-lowest .result) (at-lowest .ensures) (omega arith) (omega (arith, at-loop .inv .small, at-at .ensures, at-at .ok))) (at-after .result) (at-after .ensures .0 (at-lowest .ensures)) (at-after .ensures .1 (at-lowest .ensures) (lowest-below (at-loop .left) (at-lowest .result) (at-lowest .ensures) (omega arith) (omega (arith, at-loop .inv .small, at-at .ensures, at-at .ok)))) (sym (c .before .before .forces .ensures) ∙ c .before .if1 .left)
 
 returns-2 : tie.Need-returns-2 Inv-loop μ-loop
-returns-2 c = first-none (c .before .before .before .before .before .before .before .before .before .args .n .rocks) (λ i. touchesAt (c .before .before .before .before .before .before .before .before .before .args .low .now) (c .before .before .before .before .before .before .before .before .before .args .high .now) i (c .before .before .before .before .before .before .before .before .before .args .v) && forcedAt (c .before .before .before .before .before .before .before .before .before .args .n .bound) (c .before .before .before .before .before .before .before .before .before .args .weight .now) (c .before .before .before .before .before .before .before .before .before .args .dir .now) (c .before .before .before .before .before .before .before .before .before .args .load .now) (c .before .before .before .before .before .before .before .before .before .args .marked .now) i (c .before .before .before .before .before .before .before .before .before .args .v)) (c .before .before .loop .r) (omega arith) (omega arith) (c .before .before .loop .inv .1)
+returns-2 c = let at-args = c .before .before .before .before .before .before .before .args in let at-loop = c .before .loop in listed-none (at-args .here .now) (forcesAt (at-args .bound) (at-args .weight .now) (at-args .dir .now) (at-args .load .now)) (at-args .v) (at-loop .left) (at-loop .inv) (omega arith)
 
 pub forced-rock-spec : {M : Type 1} → statement M
 forced-rock-spec =
@@ -42,10 +48,12 @@ forced-rock-spec =
     (tie.spec
     Inv-loop
     μ-loop
+    at-requires
     loop-holds
-    forced-end-requires
+    lowest-requires
+    forces-requires
     returns
-    add-r
+    after-requires
     loop-less
     loop-again
     returns-2)

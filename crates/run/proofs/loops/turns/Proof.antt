@@ -1,12 +1,8 @@
--- The state is one from which the turns left give what they give from the start (StateRun).
-use Prim.Native.Nat.{ℕ}
-use mathlib.Core.Path.{_≡_, refl, sym, _∙_}
+-- Turn by turn (StateRun).
 use native.Mathlib.Omega.{arith}
 use Rattle.bools.proofs.BoolLaws.{not-true}
 use Rattle.algorithm.specs.Day.{Day}
-use Rattle.algorithm.specs.Start.{start}
-use Rattle.algorithm.specs.Run.{budget as budgetOf}
-use Rattle.run.specs.Held.{Ready, Held}
+use Rattle.run.specs.Held.{Ready}
 use Rattle.run.proofs.StateRun.{Turning, starts, turning-calm, turning-stuck, turning-next, turning-spent}
 use borrow.Author.Needs.{needs}
 use Rattle.run.proofs.loops.turns.Statement.{statement}
@@ -18,6 +14,9 @@ Inv-loop budget n low high weight amount pebble allowed s₀ left₀ s left = (d
 abbrev μ-loop : tie.MeasureT-loop
 μ-loop budget n low high weight amount pebble allowed s₀ left₀ s left = left
 
+weigh-requires : tie.Need-weigh-requires Inv-loop μ-loop
+weigh-requires c κs = search needs
+
 orient-requires : tie.Need-orient-requires Inv-loop μ-loop
 orient-requires c κs = search needs
 
@@ -28,13 +27,13 @@ congested-requires : tie.Need-congested-requires Inv-loop μ-loop
 congested-requires c κs = search needs
 
 returns : tie.Need-returns Inv-loop μ-loop
-returns c = λ d R H made fuel. turning-calm d (c .before .before .before .before .before .before .before .before .before .before .before .before .before .before .args .n) (c .before .before .before .before .before .before .before .before .before .before .before .before .before .before .args .low .now) (c .before .before .before .before .before .before .before .before .before .before .before .before .before .before .args .high .now) (c .before .before .before .before .before .before .before .before .before .before .before .before .before .before .args .weight .now) (c .before .before .before .before .before .before .before .before .before .before .before .before .before .before .args .amount .now) (c .before .before .before .before .before .before .before .before .before .before .before .before .before .before .args .pebble .now) (c .before .before .before .before .before .before .before .before .before .before .before .before .before .before .args .allowed .now) R (c .before .before .before .before .before .before .loop .inv d R (starts d (c .before .before .before .before .before .before .before .before .before .before .before .before .before .before .args .n) (c .before .before .before .before .before .before .before .before .before .before .before .before .before .before .args .low .now) (c .before .before .before .before .before .before .before .before .before .before .before .before .before .before .args .high .now) (c .before .before .before .before .before .before .before .before .before .before .before .before .before .before .args .weight .now) (c .before .before .before .before .before .before .before .before .before .before .before .before .before .before .args .amount .now) (c .before .before .before .before .before .before .before .before .before .before .before .before .before .before .args .pebble .now) (c .before .before .before .before .before .before .before .before .before .before .before .before .before .before .args .allowed .now) R (c .before .before .before .before .before .before .before .before .before .before .before .before .before .before .args .first) _ fuel H made (c .before .before .before .before .before .before .before .orient .ensures .0) (c .before .before .before .before .before .before .before .orient .ensures .1) (c .before .before .before .before .before .before .before .orient .ensures .2) (λ m s. c .before .before .before .before .before .before .before .orient .ensures .3 d m s R))) (c .before .congested .ensures) (not-true (c .before .congested .result) (c .if1 .taken))
+returns c = let at-congested = c .before .congested in let at-args = c .before .before .before .before .before .before .before .before .before .before .before .before .before .before .before .args in let at-weigh = c .before .before .before .before .before .before .before .before .weigh in let at-orient = c .before .before .before .before .before .before .before .orient in λ d R H made fuel. turning-calm d (at-args .n) (at-args .low .now) (at-args .high .now) (at-args .weight .now) (at-args .amount .now) (at-args .pebble .now) (at-args .allowed .now) R (c .before .before .before .before .before .before .loop .inv d R (starts d (at-args .n) (at-args .low .now) (at-args .high .now) (at-args .weight .now) (at-args .amount .now) (at-args .pebble .now) (at-args .allowed .now) R (at-args .first) (at-weigh .result) _ fuel H made (at-weigh .ensures .0, at-weigh .ensures .1, at-weigh .ensures .2) (λ m s K. at-weigh .ensures .3 d m s (at-args .low .now) (at-args .high .now) (at-args .weight .now) R K) (at-orient .ensures .0, at-orient .ensures .1, at-orient .ensures .2, at-orient .ensures .3, at-orient .ensures .4, λ m s K own reach. at-orient .ensures .5 d m s (at-args .amount .now) (at-args .pebble .now) (at-args .allowed .now) R K own reach))) (at-congested .ensures) (not-true (at-congested .result) (c .if1 .taken))
 
 push-requires : tie.Need-push-requires Inv-loop μ-loop
 push-requires c κs = search needs
 
 returns-2 : tie.Need-returns-2 Inv-loop μ-loop
-returns-2 c = λ d R H made fuel. let T = c .before .before .before .before .before .before .before .before .loop .inv d R (starts d (c .before .before .before .before .before .before .before .before .before .before .before .before .before .before .before .before .args .n) (c .before .before .before .before .before .before .before .before .before .before .before .before .before .before .before .before .args .low .now) (c .before .before .before .before .before .before .before .before .before .before .before .before .before .before .before .before .args .high .now) (c .before .before .before .before .before .before .before .before .before .before .before .before .before .before .before .before .args .weight .now) (c .before .before .before .before .before .before .before .before .before .before .before .before .before .before .before .before .args .amount .now) (c .before .before .before .before .before .before .before .before .before .before .before .before .before .before .before .before .args .pebble .now) (c .before .before .before .before .before .before .before .before .before .before .before .before .before .before .before .before .args .allowed .now) R (c .before .before .before .before .before .before .before .before .before .before .before .before .before .before .before .before .args .first) _ fuel H made (c .before .before .before .before .before .before .before .before .before .orient .ensures .0) (c .before .before .before .before .before .before .before .before .before .orient .ensures .1) (c .before .before .before .before .before .before .before .before .before .orient .ensures .2) (λ m s. c .before .before .before .before .before .before .before .before .before .orient .ensures .3 d m s R)) in turning-stuck d (c .before .before .before .before .before .before .before .before .before .before .before .before .before .before .before .before .args .n) (c .before .before .before .before .before .before .before .before .before .before .before .before .before .before .before .before .args .low .now) (c .before .before .before .before .before .before .before .before .before .before .before .before .before .before .before .before .args .high .now) (c .before .before .before .before .before .before .before .before .before .before .before .before .before .before .before .before .args .weight .now) (c .before .before .before .before .before .before .before .before .before .before .before .before .before .before .before .before .args .amount .now) (c .before .before .before .before .before .before .before .before .before .before .before .before .before .before .before .before .args .pebble .now) (c .before .before .before .before .before .before .before .before .before .before .before .before .before .before .before .before .args .allowed .now) R T (c .before .push .ensures d (T .moves) (T .state) R (T .held) (T .owned) (T .shown) (T .made)) (c .if2 .taken)
+returns-2 c = let at-args = c .before .before .before .before .before .before .before .before .before .before .before .before .before .before .before .before .before .args in let at-weigh = c .before .before .before .before .before .before .before .before .before .before .weigh in let at-orient = c .before .before .before .before .before .before .before .before .before .orient in λ d R H made fuel. let T = c .before .before .before .before .before .before .before .before .loop .inv d R (starts d (at-args .n) (at-args .low .now) (at-args .high .now) (at-args .weight .now) (at-args .amount .now) (at-args .pebble .now) (at-args .allowed .now) R (at-args .first) (at-weigh .result) _ fuel H made (at-weigh .ensures .0, at-weigh .ensures .1, at-weigh .ensures .2) (λ m s K. at-weigh .ensures .3 d m s (at-args .low .now) (at-args .high .now) (at-args .weight .now) R K) (at-orient .ensures .0, at-orient .ensures .1, at-orient .ensures .2, at-orient .ensures .3, at-orient .ensures .4, λ m s K own reach. at-orient .ensures .5 d m s (at-args .amount .now) (at-args .pebble .now) (at-args .allowed .now) R K own reach)) in turning-stuck d (at-args .n) (at-args .low .now) (at-args .high .now) (at-args .weight .now) (at-args .amount .now) (at-args .pebble .now) (at-args .allowed .now) R T (c .before .push .ensures d (T .moves) (T .state) R (T .held) (T .owned) (T .reaches) (T .shown) (T .made)) (c .if2 .taken)
 
 orient-requires-2 : tie.Need-orient-requires-2 Inv-loop μ-loop
 orient-requires-2 c κs = search needs
@@ -46,10 +45,10 @@ loop-less : tie.Need-loop-less Inv-loop μ-loop
 loop-less c = omega arith
 
 loop-again : tie.Need-loop-again Inv-loop μ-loop
-loop-again c = λ d R T₀. let T = c .before .before .before .before .before .before .before .before .before .loop .inv d R T₀ in turning-next d (c .before .before .before .before .before .before .before .before .before .before .before .before .before .before .before .before .before .args .n) (c .before .before .before .before .before .before .before .before .before .before .before .before .before .before .before .before .before .args .low .now) (c .before .before .before .before .before .before .before .before .before .before .before .before .before .before .before .before .before .args .high .now) (c .before .before .before .before .before .before .before .before .before .before .before .before .before .before .before .before .before .args .weight .now) (c .before .before .before .before .before .before .before .before .before .before .before .before .before .before .before .before .before .args .amount .now) (c .before .before .before .before .before .before .before .before .before .before .before .before .before .before .before .before .before .args .pebble .now) (c .before .before .before .before .before .before .before .before .before .before .before .before .before .before .before .before .before .args .allowed .now) R T (c .before .before .push .ensures d (T .moves) (T .state) R (T .held) (T .owned) (T .shown) (T .made)) _ (c .before .if2 .left) (omega arith) (c .orient2 .ensures .0, c .orient2 .ensures .1, c .orient2 .ensures .2, λ m s. c .orient2 .ensures .3 d m s R)
+loop-again c = let at-args = c .before .before .before .before .before .before .before .before .before .before .before .before .before .before .before .before .before .before .args in let at-next = c .orient2 in λ d R T₀. let T = c .before .before .before .before .before .before .before .before .before .loop .inv d R T₀ in turning-next d (at-args .n) (at-args .low .now) (at-args .high .now) (at-args .weight .now) (at-args .amount .now) (at-args .pebble .now) (at-args .allowed .now) R T (c .before .before .push .ensures d (T .moves) (T .state) R (T .held) (T .owned) (T .reaches) (T .shown) (T .made)) _ (c .before .if2 .left) (omega (arith, c .before .before .before .before .before .before .before .before .loop-test .taken)) (at-next .ensures .0, at-next .ensures .1, at-next .ensures .2, at-next .ensures .3, at-next .ensures .4, λ m s K own reach. at-next .ensures .5 d m s (at-args .amount .now) (at-args .pebble .now) (at-args .allowed .now) R K own reach)
 
 returns-3 : tie.Need-returns-3 Inv-loop μ-loop
-returns-3 c = λ d R H made fuel. turning-spent d (c .before .before .before .before .before .before .before .before .before .args .n) (c .before .before .before .before .before .before .before .before .before .args .low .now) (c .before .before .before .before .before .before .before .before .before .args .high .now) (c .before .before .before .before .before .before .before .before .before .args .weight .now) (c .before .before .before .before .before .before .before .before .before .args .amount .now) (c .before .before .before .before .before .before .before .before .before .args .pebble .now) (c .before .before .before .before .before .before .before .before .before .args .allowed .now) R (c .before .loop .inv d R (starts d (c .before .before .before .before .before .before .before .before .before .args .n) (c .before .before .before .before .before .before .before .before .before .args .low .now) (c .before .before .before .before .before .before .before .before .before .args .high .now) (c .before .before .before .before .before .before .before .before .before .args .weight .now) (c .before .before .before .before .before .before .before .before .before .args .amount .now) (c .before .before .before .before .before .before .before .before .before .args .pebble .now) (c .before .before .before .before .before .before .before .before .before .args .allowed .now) R (c .before .before .before .before .before .before .before .before .before .args .first) _ fuel H made (c .before .before .orient .ensures .0) (c .before .before .orient .ensures .1) (c .before .before .orient .ensures .2) (λ m s. c .before .before .orient .ensures .3 d m s R))) (omega arith)
+returns-3 c = let at-args = c .before .before .before .before .before .before .before .before .before .before .args in let at-weigh = c .before .before .before .weigh in let at-orient = c .before .before .orient in λ d R H made fuel. turning-spent d (at-args .n) (at-args .low .now) (at-args .high .now) (at-args .weight .now) (at-args .amount .now) (at-args .pebble .now) (at-args .allowed .now) R (c .before .loop .inv d R (starts d (at-args .n) (at-args .low .now) (at-args .high .now) (at-args .weight .now) (at-args .amount .now) (at-args .pebble .now) (at-args .allowed .now) R (at-args .first) (at-weigh .result) _ fuel H made (at-weigh .ensures .0, at-weigh .ensures .1, at-weigh .ensures .2) (λ m s K. at-weigh .ensures .3 d m s (at-args .low .now) (at-args .high .now) (at-args .weight .now) R K) (at-orient .ensures .0, at-orient .ensures .1, at-orient .ensures .2, at-orient .ensures .3, at-orient .ensures .4, λ m s K own reach. at-orient .ensures .5 d m s (at-args .amount .now) (at-args .pebble .now) (at-args .allowed .now) R K own reach))) (omega arith)
 
 pub turns-spec : {M : Type 1} → statement M
 turns-spec =
@@ -57,6 +56,7 @@ turns-spec =
     (tie.spec
     Inv-loop
     μ-loop
+    weigh-requires
     orient-requires
     loop-holds
     congested-requires

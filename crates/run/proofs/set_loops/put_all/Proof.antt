@@ -1,7 +1,5 @@
 -- The entries passed are written (SetRun).
 use Rattle.run.proofs.SetRun.{lowest-below, Put, put-starts, put-goes-on, put-ends}
-use Prim.Native.Nat.{ℕ}
-use mathlib.Core.Path.{sym, ap, _∙_}
 use native.Mathlib.Omega.{arith}
 use borrow.Author.Needs.{needs}
 use Rattle.run.proofs.set_loops.put_all.Statement.{statement}

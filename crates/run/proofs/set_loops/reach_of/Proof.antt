@@ -1,7 +1,5 @@
 -- The entries passed are joined (SetRun).
 use Rattle.run.proofs.SetRun.{lowest-below, Joined, joined-starts, joined-goes-on, joined-ends}
-use Prim.Native.Nat.{ℕ}
-use mathlib.Core.Path.{sym, ap, _∙_}
 use native.Mathlib.Omega.{arith}
 use borrow.Author.Needs.{needs}
 use Rattle.run.proofs.set_loops.reach_of.Statement.{statement}

@@ -1,5 +1,5 @@
--- The benches that may receive, the first pair, and the move (StateRun).
-use mathlib.Core.Path.{_≡_, refl}
+-- By whether the search finds a job (StateRun).
+use mathlib.Core.Path.{refl}
 use native.Mathlib.Omega.{arith}
 use Rattle.algorithm.specs.Run.{boardOf, explored}
 use Rattle.run.proofs.StateRun.{push-found-at, push-moves, push-stays}
@@ -31,23 +31,14 @@ slice-aggregate-first-push-2 c = search needs
 first-push-requires : tie.Need-first-push-requires
 first-push-requires c κs = search needs
 
-mul-self : tie.Need-mul-self
-mul-self c = search needs
-
-element-write-self : tie.Need-element-write-self
-element-write-self c = search needs
-
-plus-requires : tie.Need-plus-requires
-plus-requires c κs = search needs
+moved-requires : tie.Need-moved-requires
+moved-requires c κs = search needs
 
 returns : tie.Need-returns
-returns c = λ d m s R H O X made. let found = push-found-at d (c .before .before .before .before .before .before .before .before .before .before .before .before .before .before .before .before .before .before .before .before .before .before .before .before .before .before .before .before .before .before .before .before .before .before .before .before .before .before .before .args .n) (c .before .before .before .before .before .before .before .before .before .before .before .before .before .before .before .before .before .before .before .before .before .before .before .before .before .before .before .before .before .before .before .before .before .before .before .before .before .before .before .args .low .now) (c .before .before .before .before .before .before .before .before .before .before .before .before .before .before .before .before .before .before .before .before .before .before .before .before .before .before .before .before .before .before .before .before .before .before .before .before .before .before .before .args .high .now) (c .before .before .before .before .before .before .before .before .before .before .before .before .before .before .before .before .before .before .before .before .before .before .before .before .before .before .before .before .before .before .before .before .before .before .before .before .before .before .before .args .weight .now) (c .before .before .before .before .before .before .before .before .before .before .before .before .before .before .before .before .before .before .before .before .before .before .before .before .before .before .before .before .before .before .before .before .before .before .before .before .before .before .before .args .amount .now) (c .before .before .before .before .before .before .before .before .before .before .before .before .before .before .before .before .before .before .before .before .before .before .before .before .before .before .before .before .before .before .before .before .before .before .before .before .before .before .before .args .pebble .now) (c .before .before .before .before .before .before .before .before .before .before .before .before .before .before .before .before .before .before .before .before .before .before .before .before .before .before .before .before .before .before .before .before .before .before .before .before .before .before .before .args .allowed .now) R m s (c .before .before .before .before .before .before .before .before .before .before .before .before .before .before .before .before .before .before .before .before .before .before .before .before .before .before .before .before .before .before .before .before .before .before .before .before .before .before .before .args .t1 .left) (c .before .before .before .before .before .before .before .before .before .before .before .before .before .before .before .before .before .before .before .before .before .before .before .before .before .before .before .before .before .before .before .before .before .before .before .before .before .before .before .args .t1 .place) H O X _ _ (c .before .before .before .before .before .before .before .before .before .before .before .before .before .before .before .before .before .before .before .before .receivers .ensures (boardOf d s) (explored d s)) (c .before .before .before .before .before .before .before .before .before .before .before .before .before .mark-levels .ensures (boardOf d s) (explored d s)) (c .before .before .before .before .first-push .ensures (boardOf d s) (explored d s)) in push-moves d (c .before .before .before .before .before .before .before .before .before .before .before .before .before .before .before .before .before .before .before .before .before .before .before .before .before .before .before .before .before .before .before .before .before .before .before .before .before .before .before .args .n) (c .before .before .before .before .before .before .before .before .before .before .before .before .before .before .before .before .before .before .before .before .before .before .before .before .before .before .before .before .before .before .before .before .before .before .before .before .before .before .before .args .low .now) (c .before .before .before .before .before .before .before .before .before .before .before .before .before .before .before .before .before .before .before .before .before .before .before .before .before .before .before .before .before .before .before .before .before .before .before .before .before .before .before .args .high .now) (c .before .before .before .before .before .before .before .before .before .before .before .before .before .before .before .before .before .before .before .before .before .before .before .before .before .before .before .before .before .before .before .before .before .before .before .before .before .before .before .args .weight .now) (c .before .before .before .before .before .before .before .before .before .before .before .before .before .before .before .before .before .before .before .before .before .before .before .before .before .before .before .before .before .before .before .before .before .before .before .before .before .before .before .args .amount .now) (c .before .before .before .before .before .before .before .before .before .before .before .before .before .before .before .before .before .before .before .before .before .before .before .before .before .before .before .before .before .before .before .before .before .before .before .before .before .before .before .args .pebble .now) (c .before .before .before .before .before .before .before .before .before .before .before .before .before .before .before .before .before .before .before .before .before .before .before .before .before .before .before .before .before .before .before .before .before .before .before .before .before .before .before .args .allowed .now) R m s _ _ H made _ _ (found .0) (found .1) (c .before .before .if1 .taken) refl refl (c .plus .ensures)
+returns c = λ d m s R H O F X made. let at-if1 = c .before .if1 in let at-args = c .before .before .before .before .before .before .before .before .before .before .before .before .before .before .before .before .before .before .before .before .before .before .before .before .before .before .before .before .before .before .before .before .before .before .before .before .before .before .args in let found = push-found-at d (at-args .n) (at-args .low .now) (at-args .high .now) (at-args .weight .now) (at-args .amount .now) (at-args .pebble .now) (at-args .allowed .now) R m s (at-args .t1 .left) (at-args .t1 .place) H O X _ _ (c .before .before .before .before .before .before .before .before .before .before .before .before .before .before .before .before .before .before .before .receivers .ensures (boardOf d s) (explored d s)) (c .before .before .before .before .before .before .before .before .before .before .before .before .mark-levels .ensures (boardOf d s) (explored d s)) (c .before .before .before .first-push .ensures (boardOf d s) (explored d s)) in let at-moved = c .moved in let near = at-moved .ensures .2 (omega (arith, at-if1 .taken, R .few-jobs, R .jobs)) in push-moves d (at-args .n) (at-args .low .now) (at-args .high .now) (at-args .weight .now) (at-args .amount .now) (at-args .pebble .now) (at-args .allowed .now) R m s _ _ H made O F (at-moved .ensures .0) (at-moved .ensures .1) _ _ (found .0) (found .1) (at-if1 .taken) (near .0) (near .1) (near .2) (near .3) (near .4)
 
 returns-2 : tie.Need-returns-2
-returns-2 c = λ d m s R H O X made. absurd (omega (arith, R .few-jobs, R .jobs))
-
-returns-3 : tie.Need-returns-3
-returns-3 c = λ d m s R H O X made. let found = push-found-at d (c .before .before .before .before .before .before .before .before .before .before .before .before .before .before .before .before .before .before .before .before .before .before .before .before .before .before .before .before .before .before .before .before .before .before .before .before .before .args .n) (c .before .before .before .before .before .before .before .before .before .before .before .before .before .before .before .before .before .before .before .before .before .before .before .before .before .before .before .before .before .before .before .before .before .before .before .before .before .args .low .now) (c .before .before .before .before .before .before .before .before .before .before .before .before .before .before .before .before .before .before .before .before .before .before .before .before .before .before .before .before .before .before .before .before .before .before .before .before .before .args .high .now) (c .before .before .before .before .before .before .before .before .before .before .before .before .before .before .before .before .before .before .before .before .before .before .before .before .before .before .before .before .before .before .before .before .before .before .before .before .before .args .weight .now) (c .before .before .before .before .before .before .before .before .before .before .before .before .before .before .before .before .before .before .before .before .before .before .before .before .before .before .before .before .before .before .before .before .before .before .before .before .before .args .amount .now) (c .before .before .before .before .before .before .before .before .before .before .before .before .before .before .before .before .before .before .before .before .before .before .before .before .before .before .before .before .before .before .before .before .before .before .before .before .before .args .pebble .now) (c .before .before .before .before .before .before .before .before .before .before .before .before .before .before .before .before .before .before .before .before .before .before .before .before .before .before .before .before .before .before .before .before .before .before .before .before .before .args .allowed .now) R m s (c .before .before .before .before .before .before .before .before .before .before .before .before .before .before .before .before .before .before .before .before .before .before .before .before .before .before .before .before .before .before .before .before .before .before .before .before .before .args .t1 .left) (c .before .before .before .before .before .before .before .before .before .before .before .before .before .before .before .before .before .before .before .before .before .before .before .before .before .before .before .before .before .before .before .before .before .before .before .before .before .args .t1 .place) H O X _ _ (c .before .before .before .before .before .before .before .before .before .before .before .before .before .before .before .before .before .before .receivers .ensures (boardOf d s) (explored d s)) (c .before .before .before .before .before .before .before .before .before .before .before .mark-levels .ensures (boardOf d s) (explored d s)) (c .before .before .first-push .ensures (boardOf d s) (explored d s)) in push-stays d (c .before .before .before .before .before .before .before .before .before .before .before .before .before .before .before .before .before .before .before .before .before .before .before .before .before .before .before .before .before .before .before .before .before .before .before .before .before .args .n) (c .before .before .before .before .before .before .before .before .before .before .before .before .before .before .before .before .before .before .before .before .before .before .before .before .before .before .before .before .before .before .before .before .before .before .before .before .before .args .low .now) (c .before .before .before .before .before .before .before .before .before .before .before .before .before .before .before .before .before .before .before .before .before .before .before .before .before .before .before .before .before .before .before .before .before .before .before .before .before .args .high .now) (c .before .before .before .before .before .before .before .before .before .before .before .before .before .before .before .before .before .before .before .before .before .before .before .before .before .before .before .before .before .before .before .before .before .before .before .before .before .args .weight .now) (c .before .before .before .before .before .before .before .before .before .before .before .before .before .before .before .before .before .before .before .before .before .before .before .before .before .before .before .before .before .before .before .before .before .before .before .before .before .args .amount .now) (c .before .before .before .before .before .before .before .before .before .before .before .before .before .before .before .before .before .before .before .before .before .before .before .before .before .before .before .before .before .before .before .before .before .before .before .before .before .args .pebble .now) (c .before .before .before .before .before .before .before .before .before .before .before .before .before .before .before .before .before .before .before .before .before .before .before .before .before .before .before .before .before .before .before .before .before .before .before .before .before .args .allowed .now) R m s _ _ _ (found .0) (c .if1 .left) refl
+returns-2 c = λ d m s R H O F X made. let at-args = c .before .before .before .before .before .before .before .before .before .before .before .before .before .before .before .before .before .before .before .before .before .before .before .before .before .before .before .before .before .before .before .before .before .before .before .before .before .args in let found = push-found-at d (at-args .n) (at-args .low .now) (at-args .high .now) (at-args .weight .now) (at-args .amount .now) (at-args .pebble .now) (at-args .allowed .now) R m s (at-args .t1 .left) (at-args .t1 .place) H O X _ _ (c .before .before .before .before .before .before .before .before .before .before .before .before .before .before .before .before .before .before .receivers .ensures (boardOf d s) (explored d s)) (c .before .before .before .before .before .before .before .before .before .before .before .mark-levels .ensures (boardOf d s) (explored d s)) (c .before .before .first-push .ensures (boardOf d s) (explored d s)) in push-stays d (at-args .n) (at-args .low .now) (at-args .high .now) (at-args .weight .now) (at-args .amount .now) (at-args .pebble .now) (at-args .allowed .now) R m s _ _ _ (found .0) (c .if1 .left) refl
 
 pub push-spec : {M : Type 1} → statement M
 push-spec =
@@ -61,9 +52,6 @@ push-spec =
     slice-aggregate-first-push
     slice-aggregate-first-push-2
     first-push-requires
-    mul-self
-    element-write-self
-    plus-requires
+    moved-requires
     returns
-    returns-2
-    returns-3)
+    returns-2)
