@@ -5,13 +5,19 @@ ghost use Prim.Native.Nat.{ℕ, _<_};
 ghost use mathlib.Core.Bool.{false, cond, _&&_};
 ghost use lib.Bits.{bitOr};
 ghost use lib.Dec.{eqb};
-ghost use lib.ListN.{getD};
+ghost use lib.ListN.{length, getD};
 ghost use Rattle.sums.specs.Search.{any};
 ghost use Rattle.bits.specs.Bits.{isSet};
 ghost use Rattle.run.specs.KeptArrays.{shiftedOf, liesAt, ReachShifted};
 
+// The loads besides the rocks, and the benches in reach of each bench.
+pub struct Kept {
+    pub own: [usize; 64],
+    pub from: [usize; 64],
+}
+
 // Weight w leaves bench u and comes to bench v.
-pub fn shift_load(own: &mut [usize], u: usize, v: usize, w: usize)
+fn shift_load(own: &mut [usize], u: usize, v: usize, w: usize)
     ensures { λ _. ⌜ now (own .exit) ≡ shiftedOf (now (own .entry)) u v w ⌝ }
 {
     let less = arrays::minus(arrays::at(own, u), w);
@@ -67,7 +73,7 @@ fn reach_from<'a>(
 }
 
 // Job j, which is now on v, was on u.
-pub fn shift_reach<'a>(
+fn shift_reach<'a>(
     jobs: usize,
     pebble: &'a [bool],
     allowed: &'a [usize],
@@ -83,4 +89,29 @@ pub fn shift_reach<'a>(
     arrays::put(from, v, more);
     let there = reach_from(jobs, pebble, allowed, place, u);
     arrays::put(from, u, there);
+}
+
+// Both, after job j left bench u and came to bench v, where it is now.
+pub fn shifted<'a>(
+    own: [usize; 64],
+    from: [usize; 64],
+    jobs: usize,
+    amount: &'a [usize],
+    pebble: &'a [bool],
+    allowed: &'a [usize],
+    place: &'a [usize],
+    u: usize,
+    v: usize,
+    j: usize,
+) -> Kept
+    ensures { λ r. ⌜ (length own ≡ 64) × (length from ≡ 64) × (r .own ≡ shiftedOf own u v (getD (now (amount .entry)) j 0)) × ReachShifted jobs (now (pebble .entry)) (now (allowed .entry)) (now (place .entry)) from u v j (r .from) ⌝ }
+{
+    let mut loads = own;
+    shift_load(&mut loads, u, v, arrays::at(amount, j));
+    let mut reach = from;
+    shift_reach(jobs, pebble, allowed, place, &mut reach, u, v, j);
+    Kept {
+        own: loads,
+        from: reach,
+    }
 }

@@ -10,13 +10,12 @@ ghost use mathlib.Core.Path.{_≡_};
 ghost use Prim.Native.Nat.{ℕ, _<_};
 ghost use mathlib.Core.Bool.{Bool, false};
 ghost use mathlib.Core.List.{List};
-ghost use lib.ListN.{length, getD, set};
+ghost use lib.ListN.{getD};
 ghost use Rattle.algorithm.specs.Day.{Day, rock as isRock};
 ghost use Rattle.algorithm.specs.Start.{State as RunState, start as startOf};
 ghost use Rattle.algorithm.specs.Run.{boardOf, explored};
-ghost use Rattle.run.specs.Arrays.{plusOf, Owned};
+ghost use Rattle.run.specs.Arrays.{Owned};
 ghost use Rattle.run.specs.ExploreArrays.{Reaches};
-ghost use Rattle.run.specs.KeptArrays.{shiftedOf, ReachShifted};
 ghost use Rattle.run.specs.Shown.{Shown};
 ghost use Rattle.run.specs.Held.{Ready, Held, Pushed};
 ghost use Rattle.run.specs.StartArrays.{Fields, DayRocks, JobsOf, Cycles, Placed};
@@ -120,42 +119,6 @@ impl State {
         self
     }
 
-    // Job `job` goes to the bench: its place, the loads and the benches in reach, and one move more.
-    fn moved<'a>(
-        mut self,
-        jobs: usize,
-        amount: &'a [usize],
-        pebble: &'a [bool],
-        allowed: &'a [usize],
-        job: usize,
-        bench: usize,
-    ) -> State
-        ensures { λ r. ⌜ (length (self .own) ≡ 64) × (length (self .from) ≡ 64) × (job < 512 → (r .left ≡ self .left) × (r .place ≡ set (self .place) job bench) × (r .moves ≡ plusOf (self .moves) 1) × (r .own ≡ shiftedOf (self .own) (getD (self .place) job 0) bench (getD (now (amount .entry)) job 0)) × ReachShifted jobs (now (pebble .entry)) (now (allowed .entry)) (r .place) (self .from) (getD (self .place) job 0) bench job (r .from)) ⌝ }
-    {
-        if 511 < job {
-            return self;
-        }
-        let before = self.place[job];
-        let mut own = self.own;
-        kept::shift_load(&mut own, before, bench, arrays::at(amount, job));
-        self.own = own;
-        self.place[job] = bench;
-        let mut from = self.from;
-        kept::shift_reach(
-            jobs,
-            pebble,
-            allowed,
-            &self.place,
-            &mut from,
-            before,
-            bench,
-            job,
-        );
-        self.from = from;
-        self.moves = arrays::plus(self.moves, 1);
-        self
-    }
-
     // nextState d s and one move more where pushJob finds a job; else as it was.
     pub fn push<'a>(
         mut self,
@@ -188,7 +151,29 @@ impl State {
         let job = m.job;
         let bench = m.bench;
         if job < n.jobs {
-            return self.moved(n.jobs, amount, pebble, allowed, job, bench);
+            if job < 512 {
+                let before = self.place[job];
+                self.place[job] = bench;
+                let own = self.own;
+                let from = self.from;
+                let k = kept::shifted(
+                    own,
+                    from,
+                    n.jobs,
+                    amount,
+                    pebble,
+                    allowed,
+                    &self.place,
+                    before,
+                    bench,
+                    job,
+                );
+                let next_own = k.own;
+                let next_from = k.from;
+                self.own = next_own;
+                self.from = next_from;
+                self.moves = arrays::plus(self.moves, 1);
+            }
         }
         self
     }
