@@ -3,6 +3,7 @@
 //!
 //! Arguments: the seed (default 1) and the least number of sheets (default 400,000).
 
+mod arguments;
 mod check;
 mod door;
 mod empty;
@@ -15,27 +16,16 @@ mod tally;
 mod writing;
 
 use check::Check;
-use std::{env, process::ExitCode, time::Instant};
+use std::{process::ExitCode, time::Instant};
 
-const SEED: u64 = 1;
 const SHEETS: u64 = 400_000;
 /// Rounds of random sheets that a run has at least, so that it meets each fault often enough.
 const ROUNDS: u64 = 40;
 
-fn argument(position: usize, default: u64) -> Result<u64, String> {
-    match env::args().nth(position) {
-        None => Ok(default),
-        Some(text) => text.parse().map_err(|_| format!("codec: not a number: {text}")),
-    }
-}
-
 fn main() -> ExitCode {
-    let (seed, sheets) = match (argument(1, SEED), argument(2, SHEETS)) {
-        (Ok(seed), Ok(sheets)) => (seed, sheets),
-        (Err(text), _) | (_, Err(text)) => {
-            eprintln!("{text}");
-            return ExitCode::from(2);
-        }
+    let (seed, sheets) = match arguments::seed_and_sheets("codec", SHEETS) {
+        Ok(arguments) => arguments,
+        Err(code) => return code,
     };
     let start = Instant::now();
     println!("codec: seed {seed}");

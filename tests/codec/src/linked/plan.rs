@@ -3,6 +3,7 @@
 //!
 //! Arguments: the seed (default 1) and the least number of sheets (default 100,000).
 
+mod arguments;
 #[cfg_attr(not(feature = "library"), allow(dead_code))]
 mod empty;
 mod guarded;
@@ -14,27 +15,16 @@ mod plan_fixed;
 mod plan_tally;
 
 use plan_check::Check;
-use std::{env, process::ExitCode, time::Instant};
+use std::{process::ExitCode, time::Instant};
 
-const SEED: u64 = 1;
 const SHEETS: u64 = 100_000;
 /// Rounds that a run has at least, so that it meets each class often enough; 50,000 sheets.
 const ROUNDS: u64 = 18;
 
-fn argument(position: usize, default: u64) -> Result<u64, String> {
-    match env::args().nth(position) {
-        None => Ok(default),
-        Some(text) => text.parse().map_err(|_| format!("plan: not a number: {text}")),
-    }
-}
-
 fn main() -> ExitCode {
-    let (seed, sheets) = match (argument(1, SEED), argument(2, SHEETS)) {
-        (Ok(seed), Ok(sheets)) => (seed, sheets),
-        (Err(text), _) | (_, Err(text)) => {
-            eprintln!("{text}");
-            return ExitCode::from(2);
-        }
+    let (seed, sheets) = match arguments::seed_and_sheets("plan", SHEETS) {
+        Ok(arguments) => arguments,
+        Err(code) => return code,
     };
     let start = Instant::now();
     println!("plan: seed {seed}");
