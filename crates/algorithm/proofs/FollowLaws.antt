@@ -7,7 +7,7 @@
 --     Quiet b dir marked         no marked bench has a neutral rock
 --     follow-ends                what every step keeps holds at the end, and then no marked bench has a neutral rock
 use Prim.Native.Nat.{ℕ, zero, suc, _≤_, _<_}
-use mathlib.Core.Path.{_≡_, refl, sym, _∙_, ap, subst}
+use mathlib.Core.Path.{_≡_, sym, _∙_, ap, subst}
 use mathlib.Core.Logic.{inl, inr}
 use mathlib.Core.Bool.{Bool, true, false, _&&_, _||_}
 use mathlib.Core.List.{List}
@@ -16,7 +16,7 @@ use lib.ListN.{length, getD, set, replicate, length-replicate, getD-replicate}
 use lib.Seq.{getD-set-same, getD-set-other}
 use lib.Dec.{eqb, ltb}
 use borrow.Author.Tests.{eq-eqb, ne-eqb, ltb-true, ltb-false}
-use Rattle.bools.proofs.BoolLaws.{split, clash, and-intro, and-left, and-right, and-false-right, or-right}
+use Rattle.bools.proofs.BoolLaws.{split, clash, and-intro, and-left, and-right, and-false-right, or-right, or-nothing}
 use Rattle.bools.proofs.OrderLaws.{eq-or-ne}
 use Rattle.sums.specs.Sum.{count}
 use Rattle.sums.specs.Search.{any, least}
@@ -70,10 +70,6 @@ module _ (marked : List Bool) (w : ℕ) (h : w < length marked) where
     | inl e ↦ subst (λ (k : ℕ). getD (set marked w true) k false ≡ true) (sym e) mark-here ∙ sym (or-right (getD marked x false) (eq-eqb x w e))
     | inr ne ↦ getD-set-other marked w x true false ne ∙ sym (ap (λ (k : Bool). getD marked x false || k) (ne-eqb x w ne) ∙ or-nothing (getD marked x false))
   ]
-    where
-      or-nothing : (a : Bool) → (a || false) ≡ a
-      or-nothing true = refl
-      or-nothing false = refl
 
 pub getD-alone : (n w : ℕ) → w < n → (x : ℕ) → x < n → getD (set (replicate n false) w true) x false ≡ eqb x w
 getD-alone n w h x hx =

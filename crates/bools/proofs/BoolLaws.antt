@@ -6,10 +6,12 @@
 --     and-false-elim                          a && b is false: one of the two is
 --     or-left, or-right, or-elim              a || b is true: from one of the two, and back to one
 --     or-false, or-false-left, or-false-right a || b is false: from both, and back to each
+--     or-nothing                              a || false is a
 --     not-intro-true, not-intro-false         not b from b
 --     not-true, not-false                     b from not b
 --     implies-false           where a gives b, and b is false, a is false
 --     bool-ext                Booleans are equal if each gives the other
+--     eqb-sym                 eqb a b is eqb b a
 --     not-ltb-true, not-leb-true, not-eqb-true        the fact about the numbers from a negated test that is true
 --     not-ltb-false, not-leb-false, not-eqb-false     and from one that is false
 --     tests                   with `omega tests`, omega reads the tests ltb, leb, eqb and their negations in scope, and proves such tests
@@ -75,6 +77,10 @@ or-false-left false b e = refl
 pub or-false-right : (a b : Bool) → (a || b) ≡ false → b ≡ false
 or-false-right true b e = clash refl e
 or-false-right false b e = e
+
+pub or-nothing : (a : Bool) → (a || false) ≡ a
+or-nothing true = refl
+or-nothing false = refl
 
 -- ── not ──
 
@@ -144,3 +150,6 @@ pub ruleset tests = (
   eq-eqb,
   ne-eqb,
 )
+
+pub eqb-sym : (a b : ℕ) → eqb a b ≡ eqb b a
+eqb-sym a b = bool-ext (eqb a b) (eqb b a) (λ p. omega tests) (λ p. omega tests)
