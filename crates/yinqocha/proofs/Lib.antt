@@ -1,3 +1,4 @@
+pub mod FrontSteps
 pub mod NumberSteps
 pub mod CompareSteps
 pub mod PlanLaws

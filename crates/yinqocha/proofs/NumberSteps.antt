@@ -2,17 +2,12 @@
 --     length-putNumbers     a table with room for the numbers keeps its length
 --     put-nothing           no number changes nothing
 --     put-more              a number put behind those that stand there
---     front-more            a turn of the loop that puts the first numbers of a list
 --     pair-put              two numbers
---     table-front           the first numbers of a list that begins with ns are ns
-use Prim.Native.Nat.{ℕ, _+_, _*_, _≤_, _<_}
-use native.Mathlib.Numerals.{add-one}
+use Prim.Native.Nat.{ℕ, _+_, _*_, _≤_}
 use native.Mathlib.Omega.{arith}
 use mathlib.Core.Path.{_≡_, refl, sym, ap, _∙_}
 use mathlib.Core.List.{List, [], _∷_, _++_}
-use lib.ListN.{length, getD, drop, length-append, length-drop}
-use Rattle.sums.specs.Table.{table}
-use Rattle.sums.proofs.TableLaws.{length-table, table-snoc, table-cong, table-getD}
+use lib.ListN.{length, drop, length-append, length-drop}
 use Rattle.bits.specs.Little.{littleOf, littleAll}
 use Rattle.bits.proofs.LittleLaws.{length-littleAll, littleAll-append, littleAll-one}
 use Rattle.frame.proofs.WriterSteps.{written-after}
@@ -38,28 +33,8 @@ put-more ns t v h =
     ∙ written-after t 0 (littleAll 8 ns) (littleOf 8 v) (8 * length ns) (8 * length ns + 8) (omega arith) (omega (arith, length-littleAll 8 ns)) (omega arith)
     ∙ rw (end, littleAll-append 8 ns (v ∷ []), littleAll-one 8 v)
 
-pub front-more : (from t : List ℕ) (n i : ℕ) {one two : List ℕ} {v : ℕ} → i < n
-    → (8 * n ≤ length t → one ≡ putNumbers (table i (λ k. getD from k 0)) t) → v ≡ getD from i 0 → two ≡ putEntry one i v
-    → 8 * n ≤ length t → two ≡ putNumbers (table (i + 1) (λ k. getD from k 0)) t
-front-more from t n i {v = v} l before e put room =
-    let f : ℕ → ℕ = λ k. getD from k 0 in
-    let ns : List ℕ = table i f in
-    let here : length ns ≡ i = length-table i f in
-    let longer : ns ++ v ∷ [] ≡ table (i + 1) f = rw (e, add-one i) (sym (table-snoc i f)) in
-    put
-    ∙ ap (λ (xs : List ℕ). putEntry xs i v) (before room)
-    ∙ ap (λ (k : ℕ). putEntry (putNumbers ns t) k v) (sym here)
-    ∙ put-more ns t v (omega (arith, here))
-    ∙ ap (λ (xs : List ℕ). putNumbers xs t) longer
-
 pub pair-put : (t : List ℕ) (a b : ℕ) {one two : List ℕ} → one ≡ putEntry t 0 a → two ≡ putEntry one 1 b
     → 16 ≤ length t → two ≡ putNumbers (a ∷ b ∷ []) t
 pair-put t a b first second room =
     let begun = first ∙ ap (λ (xs : List ℕ). putEntry xs 0 a) (sym (put-nothing t)) ∙ put-more [] t a (omega arith) in
     second ∙ ap (λ (xs : List ℕ). putEntry xs 1 b) begun ∙ put-more (a ∷ []) t b (omega arith)
-
-pub table-front : (ns xs : List ℕ) (n : ℕ) → length ns ≡ n → ((i : ℕ) → i < n → getD xs i 0 ≡ getD ns i 0) → table n (λ i. getD xs i 0) ≡ ns
-table-front ns xs n e same =
-    ap (λ (k : ℕ). table k (λ i. getD xs i 0)) (sym e)
-    ∙ table-cong (length ns) (λ i. getD xs i 0) (λ i. getD ns i 0) (λ i l. same i (omega arith))
-    ∙ table-getD ns 0

@@ -14,11 +14,9 @@ use mathlib.Core.Bool.{true, false, _&&_, _||_}
 use mathlib.Core.List.{List, [], _∷_, _++_, append-assoc}
 use lib.ListN.{length, getD, drop}
 use lib.Seq.{drop-drop, drop-at}
-use lib.Dec.{eqb, ltb, leb}
-use borrow.Author.Tests.{ltb-true}
-use Rattle.bools.proofs.BoolLaws.{split, clash, and-left}
-use Rattle.sums.specs.Sum.{on, count}
-use Rattle.sums.proofs.SumLaws.{on-le, sum-bound}
+use lib.Dec.{ltb, leb}
+use Rattle.bools.proofs.BoolLaws.{split, clash}
+use Rattle.sums.specs.Sum.{count}
 use Rattle.sums.proofs.CountLaws.{count-le}
 use Rattle.bits.specs.Little.{little, littleOf, littleAll}
 use Rattle.bits.proofs.LittleLaws.{length-littleOf, little-append-left, little-littleOf-exact}
@@ -26,8 +24,6 @@ use Rattle.fields.specs.declared.fault.Fault.{Fault}
 use Rattle.fields.specs.declared.fault.Fault.the-variants.{Table}
 use Rattle.fields.specs.declared.sheet.Head.{Head}
 use Rattle.fields.specs.declared.sheet.Job.{Job}
-use Rattle.fields.specs.Format.{allows}
-use Rattle.fields.specs.Tests.{jobAt}
 use Rattle.fields.specs.Numbers.{numberOf, placeOf}
 use Rattle.frame.specs.Reading.{readSheet}
 use Rattle.frame.specs.Sound.{SoundSheet}
@@ -35,14 +31,14 @@ use Rattle.frame.proofs.AcceptedLaws.{accepted-sound}
 use Rattle.frame.proofs.Places.{read-place}
 use Rattle.algorithm.specs.Answer.{Answer, plan, tooLong, none, fault}
 use Rattle.planning.specs.Planner.{shortTables}
-use Rattle.blocking.specs.Demand.{loadOf, lightJob, allowed, moveBound, minutesOf}
-use Rattle.blocking.specs.Answers.{placeIn, SoundPlan, SoundAnswer, plan-sound, long-sound, none-sound}
+use Rattle.blocking.specs.Demand.{lightJob, allowed, moveBound}
+use Rattle.blocking.specs.Answers.{SoundPlan, SoundAnswer, plan-sound, long-sound, none-sound}
 use Rattle.blocking.proofs.SetLaws.{setOf-lt}
 use Rattle.blocking.proofs.Theorems.{whole-claim}
 use Rattle.yinqocha.specs.Door.{entryOf}
 use Rattle.yinqocha.specs.PlanDoor.{doorAnswer, planWord, answerNumbers, placesIn, loadsIn, putNumbers, Called}
 use Rattle.yinqocha.proofs.CompareSteps.{read-cases}
-use Rattle.yinqocha.proofs.PlanSteps.{door-refused, door-read, verdictOn, isFault, roomy}
+use Rattle.yinqocha.proofs.PlanSteps.{door-refused, door-read, verdictOn, isFault, roomy, places-used, loads-used}
 use Rattle.yinqocha.proofs.WordLaws.{fault-word-number, fault-word-place}
 
 -- ── an entry that was put ──
@@ -86,14 +82,6 @@ pub record AnswerFits (a : Answer) : Type 0 where
   pub numbers-fit : Fit (answerNumbers a)
 
 module _ (h : Head) (js : List Job) (sound : SoundSheet h js) where
-  -- Each job has fewer than 2 ^ 20 minutes, and there are at most 512.
-  load-fits : (a : ℕ → ℕ) (v : ℕ) → loadOf js a v < 2 ^ 64
-  load-fits a v =
-      let all-jobs : loadOf js a v ≤ length js * 1048576 =
-      sum-bound (length js) 1048576 (λ j. on (eqb (a j) v) (minutesOf js j))
-      (λ j l. omega (arith, on-le (eqb (a j) v) (minutesOf js j), sound .jobs j l .minutes-fit)) in
-      omega (arith, sound .at-most-512-jobs)
-
   moves-fit : (moves : ℕ) → moves ≤ moveBound h js → moves < 2 ^ 64
   moves-fit moves few =
       let light = count (length js) (λ j. lightJob h js j && leb 2 (count (h .benches) (allowed h js j))) in
@@ -103,15 +91,11 @@ module _ (h : Head) (js : List Job) (sound : SoundSheet h js) where
 
   plan-fits : (largest moves : ℕ) (ps ls : List ℕ) → SoundPlan h js largest moves ps ls → AnswerFits (plan largest moves ps ls)
   plan-fits largest moves ps ls p =
-      let load : (v : ℕ) → v < h .benches → getD ls v 0 < 2 ^ 64 = λ v l. subst (λ (n : ℕ). n < 2 ^ 64) (sym (p .its-loads v l)) (load-fits (placeIn ps) v) in
       let (v, l, e) = p .one-of-them in
       record {
-        places-fit = λ j l.
-            let here = p .assignment .on-allowed j (omega (arith, p .one-to-a-job)) in
-            let below : getD ps j 0 < h .benches = ltb-true (getD ps j 0) (h .benches) (and-left (ltb (getD ps j 0) (h .benches)) (allows (jobAt js j) (getD ps j 0)) here) in
-            omega (arith, sound .head .at-most-64-benches);
-        loads-fit = λ v l. load v (omega (arith, p .one-to-a-bench));
-        numbers-fit = two-fit (subst (λ (n : ℕ). n < 2 ^ 64) e (load v l)) (moves-fit moves (p .few-moves));
+        places-fit = λ j l. omega (arith, places-used h js sound p j l);
+        loads-fit = λ b l. omega (arith, loads-used h js sound p b l);
+        numbers-fit = two-fit (omega (arith, e, loads-used h js sound p v (omega (arith, p .one-to-a-bench)))) (moves-fit moves (p .few-moves));
       }
 
   sound-fits : {a : Answer} → SoundAnswer h js a → AnswerFits a

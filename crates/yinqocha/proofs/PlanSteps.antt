@@ -7,9 +7,9 @@
 --     answer-capped         with room for at most 512 places and 64 loads it is the same, and fault 13 without room for loads
 --     isFault               the answer is a fault
 --     Roomy, roomy          an answer that is no fault: the sheet is read and every table has room
---     plan-sizes            a plan has a place for each job and a load for each bench
+--     sound-plan            a plan is right for the sheet
+--     places-used, loads-used     no place and no load of a plan is the number that says unused
 -- What is returned, and the tables after it:
---     tables-put            both tables of a plan, from what was read
 --     fault-called, long-called, none-called, plan-called     by the planner's answer
 use Prim.Native.Nat.{ℕ, _*_, _/_, _≤_, _<_, min}
 use native.Mathlib.Omega.{arith}
@@ -17,31 +17,37 @@ use mathlib.Core.Path.{_≡_, refl, sym, ap, ap₂, subst, _∙_}
 use mathlib.Core.Logic.{_⊎_, inl, inr}
 use mathlib.Core.Bool.{Bool, true, false, cond, _||_}
 use mathlib.Core.List.{List, [], _∷_, _++_}
-use lib.ListN.{length, getD, take, drop, length-append, length-drop, List·getD-append}
+use lib.ListN.{length, getD, take, drop, replicate, length-append, length-drop}
 use lib.Seq.{length-take-le}
-use lib.Dec.{ltb}
-use borrow.Author.Tests.{lt-ltb, le-ltb, ltb-false}
-use Rattle.bools.proofs.BoolLaws.{split, clash, or-right, or-false-left, or-false-right}
+use lib.Dec.{eqb, ltb}
+use borrow.Author.Tests.{lt-ltb, le-ltb, ltb-true, ltb-false}
+use Rattle.bools.proofs.BoolLaws.{split, clash, and-left, or-right, or-false-left, or-false-right, or-nothing}
 use Rattle.bools.proofs.OrderLaws.{lt-or-le}
-use Rattle.sums.specs.Table.{table}
+use Rattle.sums.specs.Sum.{on}
+use Rattle.sums.proofs.SumLaws.{on-le, sum-bound}
 use Rattle.fields.specs.declared.fault.Fault.{Fault}
 use Rattle.fields.specs.declared.fault.Fault.the-variants.{Table}
 use Rattle.fields.specs.declared.sheet.Head.{Head}
 use Rattle.fields.specs.declared.sheet.Job.{Job}
-use Rattle.fields.specs.declared.sheet.Reading.{Reading}
-use Rattle.frame.specs.Reading.{accepted, refused, readSheet, stored}
+use Rattle.fields.specs.Format.{allows}
+use Rattle.fields.specs.Tests.{jobAt}
+use Rattle.frame.specs.Reading.{accepted, refused, readSheet}
+use Rattle.frame.specs.Sound.{SoundSheet}
 use Rattle.frame.proofs.AcceptedLaws.{accepted-sound}
 use Rattle.algorithm.specs.Day.{dayOf}
 use Rattle.algorithm.specs.Answer.{Answer, plan, tooLong, none, fault, answerTo}
 use Rattle.planning.specs.declared.answer.Answer.{Answer as Given}
 use Rattle.planning.specs.declared.answer.Answer.the-variants.{Plan, Long, None, Fault as GivenFault}
 use Rattle.planning.specs.Planner.{setOf, given, shortTables, answerFor, placesAfter, loadsAfter, Answered}
-use Rattle.blocking.specs.Answers.{SoundAnswer, plan-sound, long-sound, none-sound}
+use Rattle.blocking.specs.Demand.{loadOf, minutesOf}
+use Rattle.blocking.specs.Answers.{placeIn, SoundPlan, SoundAnswer, plan-sound, long-sound, none-sound}
 use Rattle.blocking.proofs.Theorems.{whole-claim}
 use Rattle.yinqocha.specs.Door.{faultWord}
+use Rattle.yinqocha.specs.Filled.{unused, Used, Filled}
 use Rattle.yinqocha.specs.PlanDoor.{roomOf, doorAnswer, putNumbers, Called}
 use Rattle.yinqocha.proofs.CompareSteps.{read-cases}
-use Rattle.yinqocha.proofs.NumberSteps.{put-nothing, table-front}
+use Rattle.yinqocha.proofs.FrontSteps.{front-filled}
+use Rattle.yinqocha.proofs.NumberSteps.{put-nothing}
 
 -- ── the arrays ──
 
@@ -65,10 +71,6 @@ ltb-min m k n h = elim (lt-or-le m n) [
   | inl l ↦ lt-ltb (min m k) n (omega arith) ∙ sym (lt-ltb m n l)
   | inr l ↦ le-ltb (min m k) n (omega arith) ∙ sym (le-ltb m n l)
 ]
-
-or-no : (a : Bool) → (a || false) ≡ a
-or-no true = refl
-or-no false = refl
 
 abbrev pub verdictOn : Head → List Job → Bool → Answer
 verdictOn h js short = cond short (fault (Table 0)) (answerTo (dayOf h js))
@@ -106,7 +108,7 @@ short-capped s h js e np nl na =
           let benches-short : ltb (min nl 64) (h .benches) ≡ ltb nl (h .benches) = ltb-min nl 64 (h .benches) (sound .head .at-most-64-benches) in
           ap (λ (b : Bool). ltb (min np 512) (length js) || ltb (cond b 0 (min nl 64)) (h .benches)) a
           ∙ ap₂ _||_ jobs-short benches-short
-          ∙ sym (ap (λ (b : Bool). shortTables h js np nl || b) a ∙ or-no (shortTables h js np nl))
+          ∙ sym (ap (λ (b : Bool). shortTables h js np nl || b) a ∙ or-nothing (shortTables h js np nl))
     ]
 
 pub answer-capped : (s : List ℕ) (np nl na : ℕ) → answerFor s (min np 512) (cond (ltb na 2) 0 (min nl 64)) ≡ doorAnswer s np nl na
@@ -153,14 +155,37 @@ roomy s np nl na found = elim (read-cases (readSheet s)) [
       ]
 ]
 
-pub plan-sizes : (h : Head) (js : List Job) {a : Answer} → SoundAnswer h js a → (largest moves : ℕ) (ps ls : List ℕ) → a ≡ plan largest moves ps ls
-    → (length ps ≡ length js) × (length ls ≡ h .benches)
-plan-sizes h js (plan-sound {places = qs} {loads = ks} p) largest moves ps ls e =
-    let places-same : qs ≡ ps = cc in
-    let loads-same : ks ≡ ls = cc in
-    (ap length (sym places-same) ∙ p .one-to-a-job, ap length (sym loads-same) ∙ p .one-to-a-bench)
-plan-sizes h js (long-sound l) largest moves ps ls e = clash {b = true} refl cc
-plan-sizes h js (none-sound n) largest moves ps ls e = clash {b = true} refl cc
+-- An answer, if it is a plan, is right for the sheet.
+abbrev RightPlan : Head → List Job → Answer → Type 0
+RightPlan h js (plan largest moves places loads) = SoundPlan h js largest moves places loads
+RightPlan h js (tooLong j) = Unit {0}
+RightPlan h js (none benches moves) = Unit {0}
+RightPlan h js (fault f) = Unit {0}
+
+right-plan : (h : Head) (js : List Job) {a : Answer} → SoundAnswer h js a → RightPlan h js a
+right-plan h js (plan-sound p) = p
+right-plan h js (long-sound l) = tt
+right-plan h js (none-sound n) = tt
+
+pub sound-plan : (h : Head) (js : List Job) {a : Answer} → SoundAnswer h js a → (largest moves : ℕ) (ps ls : List ℕ) → a ≡ plan largest moves ps ls
+    → SoundPlan h js largest moves ps ls
+sound-plan h js sound largest moves ps ls e = subst (RightPlan h js) e (right-plan h js sound)
+
+module _ (h : Head) (js : List Job) (sound : SoundSheet h js) {largest moves : ℕ} {ps ls : List ℕ} (p : SoundPlan h js largest moves ps ls) where
+  -- A bench of the head, and there are at most 64.
+  pub places-used : Used ps
+  places-used j l =
+      let here = p .assignment .on-allowed j (omega (arith, p .one-to-a-job)) in
+      let below : getD ps j 0 < h .benches = ltb-true (getD ps j 0) (h .benches) (and-left (ltb (getD ps j 0) (h .benches)) (allows (jobAt js j) (getD ps j 0)) here) in
+      omega (arith, sound .head .at-most-64-benches)
+
+  -- Each job has fewer than 2 ^ 20 minutes, and there are at most 512.
+  pub loads-used : Used ls
+  loads-used v l =
+      let all-jobs : loadOf js (placeIn ps) v ≤ length js * 1048576 =
+      sum-bound (length js) 1048576 (λ j. on (eqb (placeIn ps j) v) (minutesOf js j))
+      (λ j h. omega (arith, on-le (eqb (placeIn ps j) v) (minutesOf js j), sound .jobs j h .minutes-fit)) in
+      omega (arith, p .its-loads v (omega (arith, p .one-to-a-bench)), sound .at-most-512-jobs)
 
 -- ── the program's answer, by cases ──
 
@@ -195,30 +220,6 @@ plan-is (none benches y) largest moves e = clash {b = true} refl cc
 plan-is (fault f) largest moves e = clash {b = true} refl cc
 
 -- ── what is returned, and the tables after it ──
-
-pub tables-put : (s : List ℕ) {x : Reading} (p l places loads : List ℕ) {places′ loads′ : List ℕ} → x ≡ stored (readSheet s)
-    → (8 * x .sheet .count ≤ length places → places′ ≡ putNumbers (table (x .sheet .count) (λ j. getD p j 0)) places)
-    → (8 * x .sheet .head .benches ≤ length loads → loads′ ≡ putNumbers (table (x .sheet .head .benches) (λ b. getD l b 0)) loads)
-    → (h : Head) → (js : List Job) → readSheet s ≡ accepted h js → 8 * length js ≤ length places → 8 * h .benches ≤ length loads
-    → (places′ ≡ putNumbers (table (length js) (λ j. getD p j 0)) places) × (loads′ ≡ putNumbers (table (h .benches) (λ b. getD l b 0)) loads)
-unfolding stored
-tables-put s {x} p l places loads e one two h js read jobs-fit benches-fit =
-    let same : x ≡ stored (accepted h js) = e ∙ ap stored read in
-    let count-is : x .sheet .count ≡ length js = ap (λ (y : Reading). y .sheet .count) same in
-    let benches-are : x .sheet .head .benches ≡ h .benches = ap (λ (y : Reading). y .sheet .head .benches) same in (
-      one (omega (arith, count-is)) ∙ ap (λ (n : ℕ). putNumbers (table n (λ j. getD p j 0)) places) count-is,
-      two (omega (arith, benches-are)) ∙ ap (λ (n : ℕ). putNumbers (table n (λ b. getD l b 0)) loads) benches-are,
-    )
-
--- The first numbers of an array whose front was handed on.
-put-front : (ns before rest : List ℕ) {front : List ℕ} (n : ℕ) → front ≡ ns ++ drop (length ns) before → length ns ≡ n
-    → table n (λ i. getD (front ++ rest) i 0) ≡ ns
-put-front ns before rest {front} n e size =
-    table-front ns (front ++ rest) n size
-    (λ i l.
-    ap (λ (xs : List ℕ). getD (xs ++ rest) i 0) e
-    ∙ List·getD-append (ns ++ drop (length ns) before) rest 0 i (omega (arith, length-append ns (drop (length ns) before)))
-    ∙ List·getD-append ns (drop (length ns) before) 0 i (omega arith))
 
 module _ (s places loads numbers : List ℕ) {np nl : ℕ}
     (ep : np ≡ min (roomOf places) 512) (el : nl ≡ cond (ltb (roomOf numbers) 2) 0 (min (roomOf loads) 64))
@@ -258,28 +259,31 @@ module _ (s places loads numbers : List ℕ) {np nl : ℕ}
         new-numbers = put (numbers-room (ap isFault is)) ∙ ap (λ (k : ℕ). putNumbers (k ∷ moves ∷ []) numbers) (sym set-is);
       })
 
-  pub plan-called : {largest moves : ℕ} (more-p more-l : List ℕ) {places′ loads′ numbers′ : List ℕ} → r ≡ Plan largest moves
-      → ((h : Head) → (js : List Job) → readSheet s ≡ accepted h js → 8 * length js ≤ length places → 8 * h .benches ≤ length loads
-      → (places′ ≡ putNumbers (table (length js) (λ j. getD (p ++ more-p) j 0)) places)
-      × (loads′ ≡ putNumbers (table (h .benches) (λ b. getD (l ++ more-l) b 0)) loads))
+  -- The planner's arrays are parts of two arrays of unused entries.
+  pub plan-called : {largest moves : ℕ} (kp kl m n : ℕ) {places′ loads′ numbers′ : List ℕ}
+      → p₀ ≡ take kp (replicate m unused) → l₀ ≡ take kl (replicate n unused) → r ≡ Plan largest moves
+      → ((ns : List ℕ) → Filled ns (p ++ drop kp (replicate m unused)) → 8 * length ns ≤ length places → places′ ≡ putNumbers ns places)
+      → ((ns : List ℕ) → Filled ns (l ++ drop kl (replicate n unused)) → 8 * length ns ≤ length loads → loads′ ≡ putNumbers ns loads)
       → (16 ≤ length numbers → numbers′ ≡ putNumbers (largest ∷ moves ∷ []) numbers)
       → Called door 1 places loads numbers places′ loads′ numbers′
-  plan-called {largest} {moves} more-p more-l {places′} {loads′} {numbers′} e tables put =
+  plan-called {largest} {moves} kp kl m n {places′} {loads′} {numbers′} from-p from-l e put-p put-l put =
       let (ps, ls, planned) = plan-is (answerFor s np nl) largest moves (sym (answered .answer) ∙ e) in
       let is : door ≡ plan largest moves ps ls = sym answer-is ∙ planned in
       let R = roomy s (roomOf places) (roomOf loads) (roomOf numbers) (ap isFault is) in
       let h : Head = R .head in
       let js : List Job = R .jobs in
-      let sizes = plan-sizes h js (whole-claim s h js (R .sheet-read) .sound) largest moves ps ls (sym (R .answers) ∙ is) in
+      let sheet = accepted-sound s h js (R .sheet-read) in
+      let right = sound-plan h js (whole-claim s h js (R .sheet-read) .sound) largest moves ps ls (sym (R .answers) ∙ is) in
       let jobs-fit = R .jobs-fit in
       let benches-fit = R .benches-fit in
-      let both = tables h js (R .sheet-read) (omega arith) (omega arith) in
-      let new-p : p ≡ ps ++ drop (length ps) p₀ = answered .new-places ∙ ap (λ (a : Answer). placesAfter a p₀) planned in
-      let new-l : l ≡ ls ++ drop (length ls) l₀ = answered .new-loads ∙ ap (λ (a : Answer). loadsAfter a l₀) planned in
+      let new-p : p ≡ ps ++ drop (length ps) (take kp (replicate m unused)) =
+      answered .new-places ∙ ap (λ (a : Answer). placesAfter a p₀) planned ∙ ap (λ (xs : List ℕ). ps ++ drop (length ps) xs) from-p in
+      let new-l : l ≡ ls ++ drop (length ls) (take kl (replicate n unused)) =
+      answered .new-loads ∙ ap (λ (a : Answer). loadsAfter a l₀) planned ∙ ap (λ (xs : List ℕ). ls ++ drop (length ls) xs) from-l in
       subst (λ (a : Answer). Called a 1 places loads numbers places′ loads′ numbers′) (sym is)
       (record {
         word = refl;
-        new-places = both .0 ∙ ap (λ (ns : List ℕ). putNumbers ns places) (put-front ps p₀ more-p (length js) new-p (sizes .0));
-        new-loads = both .1 ∙ ap (λ (ns : List ℕ). putNumbers ns loads) (put-front ls l₀ more-l (h .benches) new-l (sizes .1));
+        new-places = put-p ps (front-filled ps kp m (places-used h js sheet right) new-p) (omega (arith, right .one-to-a-job));
+        new-loads = put-l ls (front-filled ls kl n (loads-used h js sheet right) new-l) (omega (arith, right .one-to-a-bench));
         new-numbers = put (numbers-room (ap isFault is));
       })

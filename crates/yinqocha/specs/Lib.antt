@@ -1,2 +1,3 @@
 pub mod Door
+pub mod Filled
 pub mod PlanDoor

@@ -3,13 +3,10 @@ use crate::table;
 use crate::words;
 use planning::Answer;
 ghost use mathlib.Core.Path.{_≡_};
-ghost use Prim.Native.Nat.{_*_, _/_, _≤_, min};
+ghost use Prim.Native.Nat.{ℕ, _*_, _/_, _≤_, min};
 ghost use mathlib.Core.List.{List, [], _∷_};
-ghost use lib.ListN.{length, getD};
-ghost use Rattle.sums.specs.Table.{table};
-ghost use Rattle.fields.specs.declared.sheet.Head.{Head};
-ghost use Rattle.fields.specs.declared.sheet.Job.{Job};
-ghost use Rattle.frame.specs.Reading.{accepted, readSheet};
+ghost use lib.ListN.{length};
+ghost use Rattle.yinqocha.specs.Filled.{Filled};
 ghost use Rattle.yinqocha.specs.PlanDoor.{roomOf, putNumbers, doorAnswer, Called};
 
 // The words of the three answers.
@@ -18,6 +15,9 @@ const PLAN: u64 = 1;
 const LONG: u64 = 2;
 
 const NONE: u64 = 3;
+
+// What an entry of a table is before the planner: no bench and no load.
+const UNUSED: u64 = 18446744073709551615;
 
 // Plans a sheet: the answer's word, its two numbers, and for a plan each job's bench and each bench's load.
 #[no_mangle]
@@ -29,8 +29,8 @@ pub extern "C" fn yinqocha_plan(
 ) -> u64
     ensures { λ r. ⌜ Called (doorAnswer (now (sheet .entry)) (roomOf (now (places .entry))) (roomOf (now (loads .entry))) (roomOf (now (answer .entry)))) r (now (places .entry)) (now (loads .entry)) (now (answer .entry)) (now (places .exit)) (now (loads .exit)) (now (answer .exit)) ⌝ }
 {
-    let mut p = [0u64; 512];
-    let mut l = [0u64; 64];
+    let mut p = [UNUSED; 512];
+    let mut l = [UNUSED; 64];
     let np = room(places.len(), 512);
     // Without room for the loads every sheet that is read is fault 13.
     let nl = if answer.len() < 16 {
@@ -40,7 +40,8 @@ pub extern "C" fn yinqocha_plan(
     };
     match blocking::plan(sheet, &mut p[..np], &mut l[..nl]) {
         Answer::Plan(largest, moves) => {
-            put_plan(sheet, &p, &l, places, loads);
+            put_front(&p, places);
+            put_front(&l, loads);
             put_pair(answer, largest, moves);
             PLAN
         }
@@ -64,25 +65,17 @@ fn room(bytes: usize, k: usize) -> usize
     if n < k { n } else { k }
 }
 
-// Both tables of a plan: a bench for each job of the sheet, and a load for each of its benches. The planner's answer does not
-// say how many there are, so the sheet is read once more.
-fn put_plan<'a>(sheet: &'a [u8], p: &'a [u64], l: &'a [u64], places: &mut [u8], loads: &mut [u8])
-    ensures { λ _. ⌜ ((h : Head) → (js : List Job) → readSheet (now (sheet .entry)) ≡ accepted h js → 8 * length js ≤ length (now (places .entry)) → 8 * h .benches ≤ length (now (loads .entry)) → (now (places .exit) ≡ putNumbers (table (length js) (λ j. getD (now (p .entry)) j 0)) (now (places .entry))) × (now (loads .exit) ≡ putNumbers (table (h .benches) (λ b. getD (now (l .entry)) b 0)) (now (loads .entry)))) ⌝ }
-{
-    let reading = frame::read(sheet);
-    let s = reading.sheet;
-    let h = s.head;
-    put_front(s.count, p, places);
-    put_front(h.benches as usize, l, loads);
-}
-
-// The first n numbers, to the front of a table that has room for them.
-fn put_front(n: usize, from: &[u64], t: &mut [u8])
-    ensures { λ _. ⌜ (8 * n ≤ length (now (t .entry)) → now (t .exit) ≡ putNumbers (table n (λ i. getD (now (from .entry)) i 0)) (now (t .entry))) ⌝ }
+// The entries before the first unused one, to the front of a table.
+fn put_front(from: &[u64], t: &mut [u8])
+    ensures { λ _. ⌜ ((ns : List ℕ) → Filled ns (now (from .entry)) → 8 * length ns ≤ length (now (t .entry)) → now (t .exit) ≡ putNumbers ns (now (t .entry))) ⌝ }
 {
     let mut i = 0;
-    while i < n {
-        table::put(t, i, run::entry(from, i));
+    while i < from.len() {
+        let x = run::entry(from, i);
+        if x == UNUSED {
+            return;
+        }
+        table::put(t, i, x);
         i += 1;
     }
 }

@@ -1,28 +1,36 @@
--- The loop's invariant: the first i numbers stand at the front of the table, where it has room for them all.
-use Prim.Native.Nat.{_*_, _-_, _≤_}
+-- The loop keeps that the numbers before entry i stand at the front of the table (FrontSteps).
+use Prim.Native.Nat.{_-_, _≤_}
 use native.Mathlib.Omega.{arith}
-use mathlib.Core.Path.{_≡_, refl, sym, ap, _∙_}
-use lib.ListN.{length, getD}
+use mathlib.Core.Path.{_≡_, refl, _∙_}
+use lib.ListN.{length}
 use denote.Ref.{now}
 use borrow.Author.Needs.{needs}
-use Rattle.sums.specs.Table.{table}
-use Rattle.yinqocha.specs.PlanDoor.{putNumbers}
-use Rattle.yinqocha.proofs.NumberSteps.{put-nothing, front-more}
+use Rattle.yinqocha.proofs.FrontSteps.{FrontPut, front-starts, front-more, front-unused, front-over}
 use Rattle.yinqocha.proofs.plan.put_front.Statement.{statement}
 use Rattle.yinqocha.proofs.plan.put_front.Tie as tie
 
 abbrev Inv-loop : tie.InvT-loop
-Inv-loop n from t₀ i₀ t i =
-    (i ≤ n) × (length t ≡ length t₀) × (8 * n ≤ length t₀ → t ≡ putNumbers (table i (λ k. getD from k 0)) t₀)
+Inv-loop from t₀ i₀ t i = (i ≤ length from) × (length t ≡ length t₀) × FrontPut from t₀ t i
 
 abbrev μ-loop : tie.MeasureT-loop
-μ-loop n from t₀ i₀ t i = n - i
+μ-loop from t₀ i₀ t i = length from - i
 
 loop-holds : tie.Need-loop-holds Inv-loop μ-loop
-loop-holds c = (omega arith, refl, λ room. sym (put-nothing (now (c .before .before .args .t))))
+loop-holds c =
+    let at-args = c .before .before .args in
+    (omega arith, refl, front-starts (now (at-args .from)) (now (at-args .t)))
 
 entry-requires : tie.Need-entry-requires Inv-loop μ-loop
 entry-requires c κs = search needs
+
+same-length : tie.Need-same-length Inv-loop μ-loop
+same-length c = c .before .before .before .loop .inv .1
+
+returns : tie.Need-returns Inv-loop μ-loop
+returns c =
+    let at-loop = c .before .before .before .loop in
+    let at-args = c .before .before .before .before .before .before .args in
+    front-unused (now (at-args .from)) (now (at-args .t)) (at-loop .t) (at-loop .i) (at-loop .inv .2) (c .before .entry .ensures) (c .if1 .taken)
 
 put-requires : tie.Need-put-requires Inv-loop μ-loop
 put-requires c κs = search needs
@@ -35,21 +43,23 @@ loop-less c = omega arith
 
 loop-again : tie.Need-loop-again Inv-loop μ-loop
 loop-again c =
-    let put = c .before .before in
-    let l = put .before .before .before .before in
-    let a = l .before .before .before .args in
-    let more = front-more (now (a .from)) (now (a .t)) (a .n) (l .loop .i) (omega arith) (l .loop .inv .2) (put .before .entry .ensures) (put .put .ensures) in
-    (omega arith, put .put .kept .0 ∙ l .loop .inv .1, more)
+    let at-put = c .before .before in
+    let at-if = at-put .before .before in
+    let at-test = at-if .before .before in
+    let at-loop = at-test .before .loop in
+    let at-args = at-test .before .before .before .before .args in
+    let more = front-more (now (at-args .from)) (now (at-args .t)) (at-loop .t) (at-loop .i) (at-loop .inv .2) (at-test .loop-test .taken)
+    (at-if .before .entry .ensures) (at-if .if1 .left) (at-put .put .ensures) in
+    (omega arith, at-put .put .kept .0 ∙ at-loop .inv .1, more)
 
-same-length : tie.Need-same-length Inv-loop μ-loop
-same-length c = c .before .loop .inv .1
+same-length-2 : tie.Need-same-length-2 Inv-loop μ-loop
+same-length-2 c = c .before .loop .inv .1
 
-returns : tie.Need-returns Inv-loop μ-loop
-returns c =
-    let l = c .before .loop in
-    let a = c .before .before .before .before .args in
-    let e : l .i ≡ a .n = omega arith in
-    λ room. l .inv .2 room ∙ ap (λ k. putNumbers (table k (λ i. getD (now (a .from)) i 0)) (now (a .t))) e
+returns-2 : tie.Need-returns-2 Inv-loop μ-loop
+returns-2 c =
+    let at-loop = c .before .loop in
+    let at-args = c .before .before .before .before .args in
+    front-over (now (at-args .from)) (now (at-args .t)) (at-loop .t) (at-loop .i) (at-loop .inv .2) (c .loop-test .left)
 
 pub put-front-spec : {M : Type 1} → statement M
 put-front-spec =
@@ -59,9 +69,11 @@ put-front-spec =
     μ-loop
     loop-holds
     entry-requires
+    same-length
+    returns
     put-requires
     add-i
     loop-less
     loop-again
-    same-length
-    returns)
+    same-length-2
+    returns-2)

@@ -3,12 +3,13 @@ use denote.Ref.{now}
 use borrow.Author.Needs.{needs}
 use Prim.Native.Nat.{ℕ, _≤_, min}
 use native.Mathlib.Omega.{arith}
-use mathlib.Core.Path.{_≡_, sym, _∙_}
+use mathlib.Core.Path.{_≡_, refl, sym, _∙_}
 use mathlib.Core.Logic.{⊎-elim, inl, inr}
 use mathlib.Core.Bool.{cond}
 use lib.Dec.{ltb}
+use Rattle.yinqocha.specs.Filled.{unused}
 use Rattle.yinqocha.specs.PlanDoor.{roomOf}
-use lib.ListN.{length, take, drop, replicate}
+use lib.ListN.{length, take, replicate}
 use Rattle.yinqocha.proofs.PlanSteps.{front-length, whole-length, loads-room, fault-called, long-called, none-called, plan-called}
 use Rattle.yinqocha.proofs.plan.yinqocha_plan.Statement.{statement}
 use Rattle.yinqocha.proofs.plan.yinqocha_plan.Tie as tie
@@ -21,15 +22,15 @@ loads-fit : (c : tie.Joined1) → c .if1 .nl ≤ 64
 loads-fit c = ⊎-elim (λ w. omega (arith, w .1)) (λ w. omega (arith, w .2, w .1 .ensures)) (c .if1 .came)
 
 places-handed : (c : tie.Joined1)
-    → length (take (c .before .room .result) (replicate {A = ℕ} 512 0)) ≡ min (roomOf (now (c .before .before .before .before .before .before .args .places))) 512
-places-handed c = sym (front-length (c .before .room .result) (replicate 512 0) (places-fit c)) ∙ c .before .room .ensures
+    → length (take (c .before .room .result) (replicate {A = ℕ} 512 unused)) ≡ min (roomOf (now (c .before .before .before .before .before .before .args .places))) 512
+places-handed c = sym (front-length (c .before .room .result) (replicate 512 unused) (places-fit c)) ∙ c .before .room .ensures
 
 loads-handed : (c : tie.Joined1)
-    → length (take (c .if1 .nl) (replicate {A = ℕ} 64 0))
+    → length (take (c .if1 .nl) (replicate {A = ℕ} 64 unused))
     ≡ cond (ltb (roomOf (now (c .before .before .before .before .before .before .args .answer))) 2) 0 (min (roomOf (now (c .before .before .before .before .before .before .args .loads))) 64)
 loads-handed c =
     let a = c .before .before .before .before .before .before .args in
-    sym (front-length (c .if1 .nl) (replicate 64 0) (loads-fit c))
+    sym (front-length (c .if1 .nl) (replicate 64 unused) (loads-fit c))
     ∙ loads-room (now (a .loads)) (now (a .answer))
     (⊎-elim (λ w. inl (w .0 .taken, w .1)) (λ w. inr (w .0 .left, w .2 ∙ w .1 .ensures)) (c .if1 .came))
 
@@ -43,13 +44,13 @@ array-borrow-prefix-p : tie.Need-array-borrow-prefix-p
 array-borrow-prefix-p c = search needs
 
 slice-aggregate-plan : tie.Need-slice-aggregate-plan
-slice-aggregate-plan c = front-length _ (replicate 512 0) (places-fit (c .before))
+slice-aggregate-plan c = front-length _ (replicate 512 unused) (places-fit (c .before))
 
 array-borrow-prefix-l : tie.Need-array-borrow-prefix-l
 array-borrow-prefix-l c = loads-fit (c .before)
 
 slice-aggregate-plan-2 : tie.Need-slice-aggregate-plan-2
-slice-aggregate-plan-2 c = front-length _ (replicate 64 0) (loads-fit (c .before .before))
+slice-aggregate-plan-2 c = front-length _ (replicate 64 unused) (loads-fit (c .before .before))
 
 plan-requires : tie.Need-plan-requires
 plan-requires c κs = search needs
@@ -57,18 +58,21 @@ plan-requires c κs = search needs
 enum-known-largest : tie.Need-enum-known-largest
 enum-known-largest c = search needs
 
-slice-aggregate-put-plan : tie.Need-slice-aggregate-put-plan
-slice-aggregate-put-plan c =
-    let x = c .before .before .before .before .before .before in
-    whole-length _ (replicate 512 0) (x .plan .last .1 .0) (places-fit (x .before .before .before)) (x .plan .kept .1 .0)
+slice-aggregate-put-front : tie.Need-slice-aggregate-put-front
+slice-aggregate-put-front c =
+    let at-plan = c .before .before .before .before .before .before in
+    whole-length _ (replicate 512 unused) (at-plan .plan .last .1 .0) (places-fit (at-plan .before .before .before)) (at-plan .plan .kept .1 .0)
 
-slice-aggregate-put-plan-2 : tie.Need-slice-aggregate-put-plan-2
-slice-aggregate-put-plan-2 c =
-    let x = c .before .before .before .before .before .before .before in
-    whole-length _ (replicate 64 0) (x .plan .last .1 .1 .0) (loads-fit (x .before .before .before)) (x .plan .kept .1 .1 .0)
+put-front-requires : tie.Need-put-front-requires
+put-front-requires c κs = search needs
 
-put-plan-requires : tie.Need-put-plan-requires
-put-plan-requires c κs = search needs
+slice-aggregate-put-front-2 : tie.Need-slice-aggregate-put-front-2
+slice-aggregate-put-front-2 c =
+    let at-plan = c .before .before .before .before .before .before .before .before .before .before .before in
+    whole-length _ (replicate 64 unused) (at-plan .plan .last .1 .1 .0) (loads-fit (at-plan .before .before .before)) (at-plan .plan .kept .1 .1 .0)
+
+put-front-requires-2 : tie.Need-put-front-requires-2
+put-front-requires-2 c κs = search needs
 
 put-pair-requires : tie.Need-put-pair-requires
 put-pair-requires c κs = search needs
@@ -102,13 +106,16 @@ same-length-3 c = search needs
 
 returns : tie.Need-returns
 returns c =
-    let put = c .before .before .before .before .before .before .before .before in
-    let m = put .before .before .before .before .before .before .before .before in
-    let j = m .before .before .before .before .before in
+    let at-pair = c .before .before in
+    let at-loads = at-pair .before .before .before .before in
+    let at-places = at-loads .before .before .before .before .before in
+    let at-largest = at-places .before .before .before .before in
+    let at-plan = at-largest .before .before .before .before in
+    let j = at-plan .before .before .before in
     let a = j .before .before .before .before .before .before .args in
     plan-called (now (a .sheet)) (now (a .places)) (now (a .loads)) (now (a .answer)) (places-handed j) (loads-handed j)
-    (m .before .before .plan .ensures .0) (drop (j .before .room .result) (replicate 512 0)) (drop (j .if1 .nl) (replicate 64 0))
-    (put .before .before .before .before .before .before .largest .given .1) (put .put-plan .ensures) (c .before .before .put-pair .ensures)
+    (at-plan .plan .ensures .0) (j .before .room .result) (j .if1 .nl) 512 64 refl refl
+    (at-largest .largest .given .1) (at-places .put-front .ensures) (at-loads .put-front2 .ensures) (at-pair .put-pair .ensures)
 
 same-length-4 : tie.Need-same-length-4
 same-length-4 c = search needs
@@ -152,9 +159,10 @@ yinqocha-plan-spec =
     slice-aggregate-plan-2
     plan-requires
     enum-known-largest
-    slice-aggregate-put-plan
-    slice-aggregate-put-plan-2
-    put-plan-requires
+    slice-aggregate-put-front
+    put-front-requires
+    slice-aggregate-put-front-2
+    put-front-requires-2
     put-pair-requires
     enum-known-job
     put-pair-requires-2
