@@ -43,7 +43,7 @@ use Rattle.run.specs.PushArrays.{hasAt}
 use Rattle.run.specs.Held.{amountOn}
 use Rattle.run.specs.StartArrays.{filled}
 use Rattle.planning.specs.CompareArrays.{minutesOn, comparedOf, Tables}
-use Rattle.run.proofs.StartLaws.{getD-filled}
+use Rattle.run.proofs.FilledLaws.{getD-filled}
 
 -- ── a search for an index that fails ──
 

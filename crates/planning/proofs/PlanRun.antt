@@ -64,7 +64,7 @@ use Rattle.run.specs.Held.{Ready, Last, isLeft, leftJob}
 use Rattle.run.proofs.ForcedRun.{rock-differs}
 use Rattle.run.proofs.HeldLaws.{held-rocks, rock-job}
 use Rattle.run.proofs.StateRun.{congested-shown, within-shown}
-use Rattle.run.proofs.StartLaws.{length-filled, getD-filled, filled-rest}
+use Rattle.run.proofs.FilledLaws.{length-filled, getD-filled, filled-rest}
 
 -- ── a table whose front is filled ──
 
@@ -247,17 +247,17 @@ module _ (d : Day) (n : Limits) (low high weights amount : List ℕ) (pebbles : 
       (record { answer = ap₂ None set-is (L .made); new-places = refl; new-loads = refl })
 
   -- The places with the rocks settled are those of the plan.
-  pub settled-places : (job dir place : List ℕ) → ((r : ℕ) → r < count (d .jobs) (isLeft d) → getD job r 0 ≡ leftJob d r)
-      → Directed b (settle b (x .dir)) dir → place ≡ placedOf (n .rocks) job dir (kept .place)
+  pub settled-places : (job dir before place : List ℕ) → ((r : ℕ) → r < count (d .jobs) (isLeft d) → getD job r 0 ≡ leftJob d r)
+      → Directed b (settle b (x .dir)) dir → Held d (L .moves) (L .state) (kept .left) before → place ≡ placedOf (n .rocks) job dir before
       → (j : ℕ) → j < d .jobs → getD place j 0 ≡ getD (placesOf d (L .state) (settle b (x .dir))) j 0
-  settled-places job dir place jobs-are D e j h =
+  settled-places job dir before place jobs-are D H e j h =
       let k = n .rocks in
       let rocks-are : k ≡ rocksOf b = last-rocks .rocks in
       let job-is : (r : ℕ) → r < k → getD job r 0 ≡ rockAt b r =
-      λ r l. jobs-are r (omega (arith, R .rocks)) ∙ sym (rock-job d n low high weights amount pebbles allowed R (L .moves) (L .state) (kept .left) (kept .place) (L .held) r) in
+      λ r l. jobs-are r (omega (arith, R .rocks)) ∙ sym (rock-job d n low high weights amount pebbles allowed R (L .moves) (L .state) (kept .left) before H r) in
       let apart : (r s : ℕ) → r < k → s < k → r ≢ s → rockAt b r ≢ rockAt b s = λ r s hr hs ne. rock-differs b r s (omega arith) (omega arith) ne in
-      let room : (r : ℕ) → r < k → rockAt b r < length (kept .place) =
-      λ r l. omega (arith, member-below (d .jobs) (b .rock) r 0 (omega arith), L .held .room) in
+      let room : (r : ℕ) → r < k → rockAt b r < length before =
+      λ r l. omega (arith, member-below (d .jobs) (b .rock) r 0 (omega arith), H .room) in
       let shown-place : getD (placesOf d (L .state) (settle b (x .dir))) j 0
       ≡ cond (b .rock j) (getD (settle b (x .dir)) j 0 - 1) (getD (L .state .place) j 0) =
       getD-table (d .jobs) (λ i. cond (b .rock i) (getD (settle b (x .dir)) i 0 - 1) (getD (L .state .place) i 0)) j 0 h in
@@ -265,14 +265,14 @@ module _ (d : Day) (n : Limits) (low high weights amount : List ℕ) (pebbles : 
         | inl is ↦
             let (r, l, q) = member-index (d .jobs) (b .rock) 0 j h is in
             let below : r < k = omega (arith, rocks-are) in
-            ap (λ (i : ℕ). getD (placedOf k job dir (kept .place)) i 0) (sym q)
-            ∙ placed-rock k (rockAt b) job dir (kept .place) apart job-is room k (omega arith) r below
+            ap (λ (i : ℕ). getD (placedOf k job dir before) i 0) (sym q)
+            ∙ placed-rock k (rockAt b) job dir before apart job-is room k (omega arith) r below
             ∙ ap (λ (i : ℕ). i - 1) (D .entries r l ∙ ap (λ (i : ℕ). getD (settle b (x .dir)) i 0) q)
             ∙ sym (shown-place ∙ ap (λ (t : Bool). cond t (getD (settle b (x .dir)) j 0 - 1) (getD (L .state .place) j 0)) is)
         | inr not-left ↦
-            placed-else k (rockAt b) job dir (kept .place) apart job-is room k (omega arith) j
+            placed-else k (rockAt b) job dir before apart job-is room k (omega arith) j
             (λ r l q. clash (member-holds (d .jobs) (b .rock) r 0 (omega (arith, rocks-are))) (ap (b .rock) (sym q) ∙ not-left))
-            ∙ L .held .places j h
+            ∙ H .places j h
             ∙ sym (shown-place ∙ ap (λ (t : Bool). cond t (getD (settle b (x .dir)) j 0 - 1) (getD (L .state .place) j 0)) not-left)
       ]
 

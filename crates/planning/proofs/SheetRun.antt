@@ -29,7 +29,7 @@ use Rattle.algorithm.specs.Day.{dayOf, longJob}
 use Rattle.algorithm.specs.SoundDay.{SoundDay}
 use Rattle.algorithm.specs.Answer.{Answer, fault, answerTo}
 use Rattle.run.specs.StartArrays.{filled, Fields}
-use Rattle.run.proofs.StartLaws.{getD-filled}
+use Rattle.run.proofs.FilledLaws.{getD-filled}
 use Rattle.planning.specs.declared.answer.Answer.{Answer as Given}
 use Rattle.planning.specs.declared.answer.Answer.the-variants.{Fault as GivenFault}
 use Rattle.planning.specs.CompareArrays.{Tables}

@@ -75,7 +75,8 @@ fn finish<'a>(
     }
     let mut dir = last.dir;
     run::settle(n, low, high, &mut dir);
-    let mut place = last.place;
+    let mut place = [0usize; 512];
+    run::from_bytes(n.jobs, &last.place, &mut place);
     run::place_rocks(n.rocks, job, &dir, &mut place);
     write_plan(
         n.jobs,
@@ -171,7 +172,7 @@ fn plan_day<'a>(
     let rocks = run::gather(jobs, &rock, allowed, &mut job, &mut low, &mut high);
     let mut n = run::limits(h.benches as usize, jobs, p, q, target);
     n.rocks = rocks;
-    let mut balance = [0usize; 64];
+    let mut balance = [3usize; 64];
     run::balances(n, &low, &high, &mut balance);
     let v = run::crowded_bench(n.benches, &balance);
     if v < n.benches {

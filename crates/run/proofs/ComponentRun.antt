@@ -2,10 +2,11 @@
 --     linked-joined          neutral rocks link the benches that the day's rocks join
 --     alone-shows            a set of one bench
 --     component-shows        what spreads from a bench is its component
---     component-balance      and its balance is the day's
+--     component-rocks, component-balance     and its rocks and its balance are the day's
+--     component-found        so it is in a set of 64 entries that was empty
 --     balance-cycle, balance-crowded     1 is one cycle, 2 is crowded
 --     cycles-are, crowded-bench-is, long-job-is     what the array of balances, and the searches, say of the day
-use Prim.Native.Nat.{ℕ, suc, _≤_, _<_}
+use Prim.Native.Nat.{ℕ, _≤_, _<_}
 use mathlib.Core.Path.{_≡_, refl, sym, ap, ap₂, subst, _∙_}
 use mathlib.Core.Bool.{Bool, true, false, not, _&&_}
 use mathlib.Core.Logic.{inl, inr, ⊎-elim}
@@ -116,18 +117,21 @@ module _ (d : Day) (n : Limits) (low high : List ℕ) (R : DayRocks d n low high
         ∙ ap (λ (m : ℕ). closure m (linkedAt (n .rocks) low high dir) (λ w. eqb w v) u) (R .benches)
         ∙ closure-cong (d .benches) (linkedAt (n .rocks) low high dir) (joined d) (λ w. eqb w v) (λ w. eqb w v) linked-joined (λ w h. refl) u hu
 
-    pub component-balance : (v : ℕ) (xs : List Bool) → ((u : ℕ) → u < d .benches → getD xs u false ≡ component d v u)
-        → balanceOf (count (n .rocks) (insideAt low dir xs)) (count (n .benches) (λ u. getD xs u false)) ≡ balanceIn d v
-    component-balance v xs is =
-        let rocks : count (n .rocks) (insideAt low dir xs) ≡ rocksIn d v =
-        ap (λ (k : ℕ). count k (insideAt low dir xs)) (R .rocks)
-        ∙ count-cong (dayRocks d) (insideAt low dir xs) (λ r. component d v (lowest d (dayRock d r)))
-        (λ r h. ap₂ (λ (x y : Bool). x && y) (eq-eqb (getD dir r 0) 0 (neutral r))
-        (ap (λ (i : ℕ). getD xs i false) (R .lows r h) ∙ is (lowest d (dayRock d r)) (low-below r h)))
-        ∙ sym (count-members (d .jobs) (rock d) (λ j. component d v (lowest d j)) 0) in
-        let size : count (n .benches) (λ u. getD xs u false) ≡ count (d .benches) (component d v) =
-        ap (λ (k : ℕ). count k (λ u. getD xs u false)) (R .benches) ∙ count-cong (d .benches) (λ u. getD xs u false) (component d v) is in
-        ap₂ balanceOf rocks size
+    module _ (v : ℕ) (xs : List Bool) (is : (u : ℕ) → u < d .benches → getD xs u false ≡ component d v u) where
+      pub component-rocks : {k : ℕ} → k ≡ count (n .rocks) (insideAt low dir xs) → k ≡ rocksIn d v
+      component-rocks e =
+          e
+          ∙ ap (λ (k : ℕ). count k (insideAt low dir xs)) (R .rocks)
+          ∙ count-cong (dayRocks d) (insideAt low dir xs) (λ r. component d v (lowest d (dayRock d r)))
+          (λ r h. ap₂ (λ (x y : Bool). x && y) (eq-eqb (getD dir r 0) 0 (neutral r))
+          (ap (λ (i : ℕ). getD xs i false) (R .lows r h) ∙ is (lowest d (dayRock d r)) (low-below r h)))
+          ∙ sym (count-members (d .jobs) (rock d) (λ j. component d v (lowest d j)) 0)
+
+      pub component-balance : {k : ℕ} → k ≡ balanceOf (count (n .rocks) (insideAt low dir xs)) (count (n .benches) (λ u. getD xs u false)) → k ≡ balanceIn d v
+      component-balance e =
+          let size : count (n .benches) (λ u. getD xs u false) ≡ count (d .benches) (component d v) =
+          ap (λ (k : ℕ). count k (λ u. getD xs u false)) (R .benches) ∙ count-cong (d .benches) (λ u. getD xs u false) (component d v) is in
+          e ∙ ap₂ balanceOf (component-rocks refl) size
 
 -- ── one bench alone ──
 
@@ -151,9 +155,18 @@ alone-shows m v xs hv room none e =
       ];
     })
 
-pub alone-in-none : (m k v : ℕ) {ys : List Bool} → v < m → m ≤ k → ys ≡ set (replicate k false) v true → Shows m (λ u. eqb u v) ys
+alone-in-none : (m k v : ℕ) {ys : List Bool} → v < m → m ≤ k → ys ≡ set (replicate k false) v true → Shows m (λ u. eqb u v) ys
 alone-in-none m k v hv room e =
     alone-shows m v (replicate k false) hv (omega (arith, length-replicate k false)) (λ u h. getD-replicate k u false false (omega arith)) e
+
+-- What spreads from one bench, marked in a set that was empty, is its component.
+pub component-found : (d : Day) (n : Limits) (low high : List ℕ) → DayRocks d n low high → (dir : List ℕ) → ((i : ℕ) → getD dir i 0 ≡ 0)
+    → (v : ℕ) → v < d .benches → {xs ys : List Bool} → xs ≡ set (replicate 64 false) v true
+    → ((S : ℕ → Bool) → Within (n .benches) (n .rocks) low high → Shows (n .benches) S xs → Shows (n .benches) (closure (n .benches) (linkedAt (n .rocks) low high dir) S) ys)
+    → (u : ℕ) → u < d .benches → getD ys u false ≡ component d v u
+component-found d n low high R dir neutral v hv {xs} {ys} e spreads =
+    component-shows d n low high R dir neutral v ys
+    (spreads (λ u. eqb u v) (within d n low high R) (alone-in-none (n .benches) 64 v (omega (arith, R .benches)) (omega (arith, R .benches, R .few-benches)) e))
 
 -- ── balances ──
 
@@ -195,14 +208,3 @@ unfolding longJob
 long-job-is d jobs minutes allowed F =
     ap (λ (k : ℕ). least k (λ j. ltb (d .target) (getD minutes j 0))) (F .jobs-are)
     ∙ least-cong (d .jobs) (λ j. ltb (d .target) (getD minutes j 0)) (λ j. ltb (d .target) (d .minutes j)) (λ j h. ap (ltb (d .target)) (F .minutes-are j h))
-
--- One more entry of the array of balances.
-pub balances-more : (f : ℕ → ℕ) (v : ℕ) (xs : List ℕ) {ys : List ℕ} {a : ℕ} → ((u : ℕ) → u < v → getD xs u 0 ≡ f u) → v < length xs → a ≡ f v → ys ≡ set xs v a
-    → (u : ℕ) → u < suc v → getD ys u 0 ≡ f u
-balances-more f v xs {ys} {a} before room e s u h = elim (eq-or-ne u v) [
-  | inl q ↦ ap (λ (k : List ℕ). getD k u 0) s ∙ ap (λ (k : ℕ). getD (set xs v a) k 0) q ∙ getD-set-same xs v a 0 room ∙ e ∙ ap f (sym q)
-  | inr ne ↦ ap (λ (k : List ℕ). getD k u 0) s ∙ getD-set-other xs v u a 0 ne ∙ before u (below ne)
-]
-  where
-    below : (u ≡ v → ⊥) → u < v
-    below ne = elim (split (ltb u v)) [ inl p ↦ omega tests | inr p ↦ absurd (ne (omega tests)) ]

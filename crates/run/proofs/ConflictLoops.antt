@@ -2,7 +2,7 @@
 --     Visited                   what a loop through a set keeps of the numbers that it passed
 --     rock-out, rock-starts     a search through the rocks of a bench
 --     Closes, Closed            what the loop that closes the conflict set keeps, and what it leaves behind
---     Builds, Ends              the same of the loop with the fake orientations
+--     Builds, Ends              the same of the loop with the fake orientations, which keeps the neutral rocks too
 use Prim.Native.Nat.{ℕ, _-_, _^_, _≤_, _<_}
 use mathlib.Core.Path.{_≡_, refl, sym, ap, subst, _∙_}
 use mathlib.Core.Bool.{Bool, true, false, not, _&&_, _||_}
@@ -26,11 +26,12 @@ use Rattle.algorithm.specs.Explore.{conflictSet, construct}
 use Rattle.run.specs.StartArrays.{lowestOf}
 use Rattle.run.specs.Arrays.{plusOf, lowestEnd, touchesAt, otherAt, withinAt, rocksOf, Rocks, Directed, Seen, Rounds}
 use Rattle.run.specs.ExploreArrays.{joinsAt, fakeAt, Built}
-use Rattle.run.specs.SetArrays.{Here, Covers, Nowhere, forcesAt, Tails, Grew}
-use Rattle.run.specs.CandidateArrays.{benchOf, rockOf}
+use Rattle.run.specs.SetArrays.{Here, Near, Covers, Nowhere, forcesAt, Tails, Grew}
+use Rattle.run.specs.CandidateArrays.{Neutral, benchOf, rockOf}
 use Rattle.run.proofs.SetRun.{lowest-below, Searched, searched-starts}
 use Rattle.run.proofs.CandidateLaws.{Met, rock-none, rock-met, first-rock, candidate-some, candidate-below, candidate-lowest, candidate-none, rock-ends, few-rocks, few-benches}
 use Rattle.run.proofs.CandidateLaws.{nowhere as found-nowhere}
+use Rattle.run.proofs.NeutralLaws.{WithOne, LessOne, neutral-next}
 use Rattle.run.proofs.ConflictRun.{Closing, closing-starts, closing-goes-on, closing-ends, closing-spent, Building, building-starts, building-goes-on, building-ends, building-spent, faked, fake-seen}
 use Rattle.run.proofs.ConflictSets.{grew-none, grew-join, closed-nowhere, neutral-nowhere, Growing, growing-starts, growing-goes-on, fakes-more, forces-far, joins-tails, fakes-rest}
 
@@ -114,53 +115,61 @@ module _ (b : Board) (n : Limits) (low high weight : List ℕ) (R : Rocks b n lo
           let none = candidate-none n low high here H rocks-fit ends narrow P cand (C .growing .covers) v e past in
           ended C (closing-ends b n low high weight R D (C .closing) (n .benches) none refl)
 
-      pub closes-goes-on : v < 64 → 0 < k → {joined′ : List ℕ} → joined′ ≡ set joined v i → (rest near grown′ : ℕ)
+      pub closes-goes-on : (near : List ℕ) → Near n low high near → v < 64 → 0 < k → {joined′ : List ℕ} → joined′ ≡ set joined v i → (rest more grown′ : ℕ)
           → ((u : ℕ) → u < 64 → isSet 64 grown′ u ≡ (isSet 64 grown u || eqb u v))
           → ((u : ℕ) → u < 64 → isSet 64 rest u ≡ (isSet 64 cand u && ltb v u))
-          → ((r : ℕ) → r < 64 → isSet 64 (getD here v 0) r ≡ true → otherAt low high r v < 64 → isSet 64 near (otherAt low high r v) ≡ true)
-          → Closes i dirs xs dir first (k - 1) (bitOr rest near) grown′ joined′
-      closes-goes-on h more q rest near grown′ with-v above others =
+          → more ≡ getD near v 0 → Closes i dirs xs dir first (k - 1) (bitOr rest more) grown′ joined′
+      closes-goes-on near N h some q rest more grown′ with-v above at-v =
           let P = joinsAt (n .benches) low high dir joined in
           let found = candidate-lowest n low high here H rocks-fit ends narrow P cand (C .growing .covers) v e h in
           let below = candidate-below n low high here H rocks-fit ends narrow P cand (C .growing .covers) v e h in
           record {
-            closing = closing-goes-on b n low high weight R D (C .closing) v found (λ s. omega arith) more q;
+            closing = closing-goes-on b n low high weight R D (C .closing) v found (λ s. omega arith) some q;
             growing =
-                growing-goes-on b n low high weight R few here H i v (C .growing) (C .closing .rounds .room) hi found (omega (arith, R .benches)) q
-                rest near grown′ with-v above others;
+                growing-goes-on b n low high weight R few near N i v (C .growing) (C .closing .rounds .room) hi found (omega (arith, R .benches)) q
+                rest more grown′ with-v above at-v;
           }
 
   -- ── fake orientations ──
 
-  pub record Builds (i : ℕ) (dirs : Directions) (xs first : List ℕ) (k : ℕ) (dir loads joined : List ℕ) (cand fakes grown : ℕ) : Type 0 where
+  pub record Builds (i : ℕ) (dirs : Directions) (xs first : List ℕ) (k : ℕ) (dir loads joined : List ℕ) (cand fakes grown neutral : ℕ) : Type 0 where
     pub building : Building b n low high weight R i dirs xs k dir loads joined
     pub joining : Covers n low high (joinsAt (n .benches) low high dir joined) cand
     pub faking : Covers n low high (fakeAt (n .benches) dir joined) fakes
     pub quiet : Nowhere n low high (forcesAt (n .bound) weight dir loads)
     pub grew : Grew n first joined grown
+    pub free : Neutral n dir neutral
 
-  abbrev pub Ends : ℕ → Directions → List ℕ → List ℕ → List ℕ → List ℕ → List ℕ → ℕ → Type 0
-  Ends i dirs xs first dir loads joined grown =
+  abbrev pub Ends : ℕ → Directions → List ℕ → List ℕ → List ℕ → List ℕ → List ℕ → ℕ → ℕ → Type 0
+  Ends i dirs xs first dir loads joined grown neutral =
       Built b (construct (b .jobs) b i dirs xs) dir loads joined × Grew n first joined grown × Nowhere n low high (joinsAt (n .benches) low high dir joined)
-      × Nowhere n low high (fakeAt (n .benches) dir joined) × Nowhere n low high (forcesAt (n .bound) weight dir loads)
+      × Nowhere n low high (fakeAt (n .benches) dir joined) × Nowhere n low high (forcesAt (n .bound) weight dir loads) × Neutral n dir neutral
 
-  pub builds-starts : (i : ℕ) (dirs : Directions) (xs first : List ℕ) (k : ℕ) {dir loads : List ℕ} (cand fakes none : ℕ) → k ≡ n .jobs
-      → Covers n low high (joinsAt (n .benches) low high dir first) cand → Covers n low high (fakeAt (n .benches) dir first) fakes
+  pub builds-starts : (i : ℕ) (dirs : Directions) (xs first : List ℕ) (k : ℕ) {dir loads : List ℕ} (cand fakes none neutral : ℕ) → k ≡ n .jobs
+      → Neutral n dir neutral → Covers n low high (joinsAt (n .benches) low high dir first) cand → Covers n low high (fakeAt (n .benches) dir first) fakes
       → Nowhere n low high (forcesAt (n .bound) weight dir loads) → Seen b dirs dir loads → Rounds b xs first
-      → Builds i dirs xs first k dir loads first cand fakes none
-  builds-starts i dirs xs first k cand fakes none e J F Q S X =
-      record { building = building-starts b n low high weight R i dirs xs k S X e; joining = J; faking = F; quiet = Q; grew = grew-none n first none }
+      → Builds i dirs xs first k dir loads first cand fakes none neutral
+  builds-starts i dirs xs first k cand fakes none neutral e N J F Q S X =
+      record {
+        building = building-starts b n low high weight R i dirs xs k S X e;
+        joining = J;
+        faking = F;
+        quiet = Q;
+        grew = grew-none n first none;
+        free = N;
+      }
 
-  module _ {i : ℕ} {dirs : Directions} {xs first : List ℕ} {k : ℕ} {dir loads joined : List ℕ} {cand fakes grown : ℕ}
-      (B : Builds i dirs xs first k dir loads joined cand fakes grown) (joined′ : List ℕ) (more : ℕ)
+  module _ {i : ℕ} {dirs : Directions} {xs first : List ℕ} {k : ℕ} {dir loads joined : List ℕ} {cand fakes grown neutral : ℕ}
+      (B : Builds i dirs xs first k dir loads joined cand fakes grown neutral) (joined′ : List ℕ) (more : ℕ)
       (C : Closed i (B .building .now-dirs) (B .building .now-xs) dir joined joined′ more) where
-    pub builds-spent : k ≤ 0 → Ends i dirs xs first dir loads joined′ (bitOr grown more)
+    pub builds-spent : k ≤ 0 → Ends i dirs xs first dir loads joined′ (bitOr grown more) neutral
     builds-spent none = (
       building-spent b n low high weight R (B .building) (C .0) none,
       grew-join n first joined joined′ grown more (B .grew) (C .1),
       C .2,
       neutral-nowhere b n low high weight R (B .building .now-dirs) dir joined′ (B .building .seen .directed) (omega (arith, B .building .few)),
       B .quiet,
+      B .free,
     )
 
     module _ (v : ℕ) (e : v ≡ benchOf here (fakeAt (n .benches) dir joined′) (bitOr fakes more)) where
@@ -170,7 +179,7 @@ module _ (b : Board) (n : Limits) (low high weight : List ℕ) (R : Rocks b n lo
       covers : Covers n low high P (bitOr fakes more)
       covers = fakes-more b n low high weight R dir joined joined′ fakes more (B .faking) (C .1)
 
-      pub builds-ends : 64 ≤ v → Ends i dirs xs first dir loads joined′ (bitOr grown more)
+      pub builds-ends : 64 ≤ v → Ends i dirs xs first dir loads joined′ (bitOr grown more) neutral
       builds-ends past = (
         building-ends b n low high weight R (B .building) (C .0) (n .benches)
             (candidate-none n low high here H rocks-fit ends narrow P (bitOr fakes more) covers v e past) refl,
@@ -178,6 +187,7 @@ module _ (b : Board) (n : Limits) (low high weight : List ℕ) (R : Rocks b n lo
         C .2,
         found-nowhere n low high here H rocks-fit ends narrow P (bitOr fakes more) covers v e past,
         B .quiet,
+        B .free,
       )
 
       module _ (h : v < 64) (r u : ℕ) (er : r ≡ rockOf here P v) (at : u ≡ otherAt low high r v) where
@@ -226,11 +236,11 @@ module _ (b : Board) (n : Limits) (low high weight : List ℕ) (R : Rocks b n lo
             (forces-far b n low high weight R dir loads joined′ r v (met .below) (met .touched) room (B .quiet) (plusOf (getD loads u 0) (getD weight r 0)) watch
             (λ w l. is w l ∙ ap (λ (m : ℕ). isSet 64 m w || eqb w u) z ∙ ap (λ (x : ℕ). isSet 64 0 w || eqb w x) at))
 
-        after-call : {dir′ loads′ : List ℕ} (rest fakes′ tails : ℕ) → 0 < k
-            → Seen b (forcedOrientations b next-dirs) dir′ loads′ → Tails n low high turned dir′ tails → Nowhere n low high (forcesAt (n .bound) weight dir′ loads′)
+        after-call : {dir′ loads′ : List ℕ} (rest fakes′ tails neutral′ : ℕ) → 0 < k
+            → Seen b (forcedOrientations b next-dirs) dir′ loads′ → Tails n low high turned dir′ tails → Nowhere n low high (forcesAt (n .bound) weight dir′ loads′) → Neutral n dir′ neutral′
             → ((w : ℕ) → w < 64 → isSet 64 rest w ≡ (isSet 64 (bitOr fakes more) w && ltb v w)) → ((w : ℕ) → w < 64 → isSet 64 fakes′ w ≡ (isSet 64 rest w || eqb w v))
-            → Builds i dirs xs first (k - 1) dir′ loads′ joined′ tails fakes′ (bitOr grown more)
-        after-call {dir′} {loads′} rest fakes′ tails some S T Q above with-v =
+            → Builds i dirs xs first (k - 1) dir′ loads′ joined′ tails fakes′ (bitOr grown more) neutral′
+        after-call {dir′} {loads′} rest fakes′ tails neutral′ some S T Q N above with-v =
             let in-v : withinAt (n .benches) joined′ v ≡ true = and-right (eqb (getD dir r 0) 0) (withinAt (n .benches) joined′ v) (met .met) in
             let D : Directed b next-dirs (set dir r (plusOf (otherAt low high r v) 1)) = subst (λ (x : ℕ). Directed b next-dirs (set dir r (plusOf x 1))) at (next-seen .directed) in
             record {
@@ -243,17 +253,21 @@ module _ (b : Board) (n : Limits) (low high weight : List ℕ) (R : Rocks b n lo
                   (bitOr fakes more) rest fakes′ covers above with-v;
               quiet = Q;
               grew = grew-join n first joined joined′ grown more (B .grew) (C .1);
+              free = N;
             }
 
-        pub builds-goes-on : {dir₁ loads₁ dir′ loads′ : List ℕ} (none watch rest fakes′ tails : ℕ) → 0 < k → none ≡ 0
+        pub builds-goes-on : {dir₁ loads₁ dir′ loads′ : List ℕ} (none watch rest fakes′ tails one neutral₁ neutral′ : ℕ) → 0 < k → none ≡ 0
             → ((w : ℕ) → w < 64 → isSet 64 watch w ≡ (isSet 64 none w || eqb w u)) → dir₁ ≡ set dir r (plusOf u 1)
             → loads₁ ≡ set loads u (plusOf (getD loads u 0) (getD weight r 0))
-            → ((x : Directions) → Covers n low high (forcesAt (n .bound) weight dir₁ loads₁) watch → Seen b x dir₁ loads₁
-            → Seen b (forcedOrientations b x) dir′ loads′ × Tails n low high dir₁ dir′ tails × Nowhere n low high (forcesAt (n .bound) weight dir′ loads′))
+            → WithOne 0 one r → LessOne neutral neutral₁ one
+            → ((x : Directions) → Neutral n dir₁ neutral₁ → Covers n low high (forcesAt (n .bound) weight dir₁ loads₁) watch → Seen b x dir₁ loads₁
+            → Seen b (forcedOrientations b x) dir′ loads′ × Tails n low high dir₁ dir′ tails × Nowhere n low high (forcesAt (n .bound) weight dir′ loads′)
+            × Neutral n dir′ neutral′)
             → ((w : ℕ) → w < 64 → isSet 64 rest w ≡ (isSet 64 (bitOr fakes more) w && ltb v w)) → ((w : ℕ) → w < 64 → isSet 64 fakes′ w ≡ (isSet 64 rest w || eqb w v))
-            → Builds i dirs xs first (k - 1) dir′ loads′ joined′ tails fakes′ (bitOr grown more)
-        builds-goes-on {dir₁} {loads₁} {dir′} {loads′} none watch rest fakes′ tails some z is ed el call above with-v =
+            → Builds i dirs xs first (k - 1) dir′ loads′ joined′ tails fakes′ (bitOr grown more) neutral′
+        builds-goes-on {dir₁} {loads₁} {dir′} {loads′} none watch rest fakes′ tails one neutral₁ neutral′ some z is ed el single less call above with-v =
             let W : Covers n low high (forcesAt (n .bound) weight dir₁ loads₁) watch = rw (ed, el) (next-watch none watch z is) in
             let S : Seen b next-dirs dir₁ loads₁ = rw (ed, el) next-seen in
-            let called = call next-dirs W S in
-            after-call rest fakes′ tails some (called .0) (subst (λ (x : List ℕ). Tails n low high x dir′ tails) ed (called .1)) (called .2) above with-v
+            let N : Neutral n dir₁ neutral₁ = neutral-next n dir r u (omega (arith, met .below, room)) ed one neutral neutral₁ single less (B .free) in
+            let called = call next-dirs N W S in
+            after-call rest fakes′ tails neutral′ some (called .0) (subst (λ (x : List ℕ). Tails n low high x dir′ tails) ed (called .1)) (called .2) (called .3) above with-v

@@ -30,7 +30,7 @@ use Rattle.algorithm.specs.Forced.{forcedOrientations}
 use Rattle.algorithm.specs.Explore.{within, joins, conflictSet}
 use Rattle.run.specs.Arrays.{plusOf, lowestEnd, touchesAt, otherAt, withinAt, rocksOf, rockAt, Rocks, Directed, Rounds}
 use Rattle.run.specs.ExploreArrays.{joinsAt, fakeAt}
-use Rattle.run.specs.SetArrays.{Here, Covers, Nowhere, forcesAt, Tails, Grew}
+use Rattle.run.specs.SetArrays.{Near, Covers, Nowhere, forcesAt, Tails, Grew}
 use Rattle.algorithm.proofs.BoardLaws.{touches-below, other-below, other-touches, other-other}
 use Rattle.algorithm.proofs.GrowthLaws.{directed-towards}
 use Rattle.algorithm.proofs.StepLaws.{steps-towards}
@@ -144,18 +144,18 @@ module _ (b : Board) (n : Limits) (low high weight : List ℕ) (R : Rocks b n lo
   pub growing-starts : (dir joined : List ℕ) (cand none : ℕ) → Covers n low high (joinsAt (n .benches) low high dir joined) cand → Growing dir joined cand none joined
   growing-starts dir joined cand none C = record { covers = C; grew = grew-none n joined none }
 
-  module _ (few : rocksOf b ≤ 64) (here : List ℕ) (H : Here n low high here) where
+  module _ (few : rocksOf b ≤ 64) (near : List ℕ) (N : Near n low high near) where
     -- v joins: its neighbours are new candidates.
     pub growing-goes-on : {dir first : List ℕ} {cand grown : ℕ} {joined : List ℕ} (i v : ℕ) → Growing dir first cand grown joined
         → b .benches ≤ length joined → i ≤ b .benches
         → v ≡ lowestEnd (n .benches) (n .rocks) low high (joinsAt (n .benches) low high dir joined) → v < b .benches
         → {joined′ : List ℕ} → joined′ ≡ set joined v i
-        → (rest near grown′ : ℕ)
+        → (rest more grown′ : ℕ)
         → ((u : ℕ) → u < 64 → isSet 64 grown′ u ≡ (isSet 64 grown u || eqb u v))
         → ((u : ℕ) → u < 64 → isSet 64 rest u ≡ (isSet 64 cand u && ltb v u))
-        → ((r : ℕ) → r < 64 → isSet 64 (getD here v 0) r ≡ true → otherAt low high r v < 64 → isSet 64 near (otherAt low high r v) ≡ true)
-        → Growing dir first (bitOr rest near) grown′ joined′
-    growing-goes-on {dir} {first} {cand} {grown} {joined} i v G room hi e hv {joined′} q rest near grown′ with-v above others =
+        → more ≡ getD near v 0
+        → Growing dir first (bitOr rest more) grown′ joined′
+    growing-goes-on {dir} {first} {cand} {grown} {joined} i v G room hi e hv {joined′} q rest more grown′ with-v above at-v =
         record {
           covers = λ r w h t p.
               let j′ = set joined v i in
@@ -171,18 +171,19 @@ module _ (b : Board) (n : Limits) (low high weight : List ℕ) (R : Rocks b n lo
                 | inr ne ↦ elim (eq-or-ne o v) [
                   | inl at ↦
                       let r-small : r < 64 = omega (arith, R .rocks) in
-                      let at-v : touchesAt low high r v ≡ true = subst (λ (k : ℕ). touchesAt low high r k ≡ true) at (far-touches r w h t) in
+                      let there : touchesAt low high r v ≡ true = subst (λ (k : ℕ). touchesAt low high r k ≡ true) at (far-touches r w h t) in
                       let back : otherAt low high r v ≡ w = ap (λ (k : ℕ). otherAt low high r k) (sym at) ∙ far-far r w h t in
-                      or-has-right rest near w
-                      (subst (λ (k : ℕ). isSet 64 near k ≡ true) back
-                      (others r r-small (H .rocks-at v r (omega (arith, R .few-benches)) r-small ∙ and-intro (lt-ltb r (n .rocks) h) at-v)
+                      or-has-right rest more w
+                      (ap (λ (x : ℕ). isSet 64 x w) at-v
+                      ∙ subst (λ (k : ℕ). isSet 64 (getD near v 0) k ≡ true) back
+                      (N r v h r-small (omega (arith, R .few-benches)) there
                       (subst (λ (k : ℕ). k < 64) (sym back) (omega (arith, R .few-benches, end-below r w h t)))))
                   | inr far ↦
                       let before : joinsAt (n .benches) low high dir joined r w ≡ true =
                       and-intro (ap not (sym (within-other (n .benches) joined v w i ne) ∙ out)) (and-intro towards-o (sym (within-other (n .benches) joined v o i far) ∙ in-o)) in
                       let low-v = lowest-bound (joinsAt (n .benches) low high dir joined) v e r w h t before in
                       let beyond : v < w = below-of-ne v w low-v (λ s. ne (sym s)) in
-                      or-has-left rest near w (above w (omega (arith, R .few-benches, end-below r w h t)) ∙ and-intro (G .covers r w h t before) (lt-ltb v w beyond))
+                      or-has-left rest more w (above w (omega (arith, R .few-benches, end-below r w h t)) ∙ and-intro (G .covers r w h t before) (lt-ltb v w beyond))
                 ]
               ];
           grew = λ w h out in-it.

@@ -8,15 +8,15 @@ use mathlib.Core.Bool.{Bool, true, false, _&&_}
 use mathlib.Core.Logic.{inl, inr, ⊎-elim, _≢_}
 use mathlib.Core.List.{List}
 use native.Mathlib.Omega.{arith}
-use lib.ListN.{length, getD, set, replicate, length-set}
+use lib.ListN.{getD, set, replicate, length-set}
 use lib.Dec.{eqb, ltb}
 use lib.Seq.{getD-set-same, getD-set-other}
 use borrow.Author.Tests.{eq-eqb, ne-eqb, lt-ltb, le-ltb}
-use Rattle.bools.proofs.BoolLaws.{split, clash, and-intro, and-left, and-right, and-false-right}
+use Rattle.bools.proofs.BoolLaws.{split, and-intro, and-left, and-right}
 use Rattle.bools.proofs.OrderLaws.{eq-or-ne, lt-or-le}
 use Rattle.sums.specs.Sum.{on}
 use Rattle.sums.specs.Search.{any, least}
-use Rattle.sums.proofs.SearchLaws.{any-cong, any-false, any-intro, least-cong, least-le, least-holds}
+use Rattle.sums.proofs.SearchLaws.{any-cong, any-false, least-cong, least-le, least-holds}
 use Rattle.sums.proofs.MembersLaws.{members-rise}
 use Rattle.run.specs.declared.rocks.Limits.{Limits}
 use Rattle.algorithm.specs.Board.{Board, Directions, touches, other, neutral, load}
@@ -26,7 +26,7 @@ use Rattle.algorithm.proofs.BoardLaws.{direct-same, direct-rest, pointed-direct
 use Rattle.algorithm.proofs.StepLaws.{forces-touches, forces-neutral}
 use Rattle.algorithm.proofs.TurnLaws.{forcedJob-forces, inner-stop, inner-go, outer-stop, outer-go}
 use Rattle.run.proofs.MarkLaws.{marked-none, marked-set}
-use Rattle.run.proofs.ScanLaws.{and-assoc, board-lowest, board-first, rock-below, rock-holds}
+use Rattle.run.proofs.ScanLaws.{board-lowest, board-first, rock-below}
 
 lt-of-ne : (a m : ℕ) → a ≤ m → a ≢ m → a < m
 lt-of-ne a m l ne = elim (lt-or-le a m) [ inl h ↦ h | inr h ↦ absurd (ne (omega arith)) ]
@@ -183,8 +183,6 @@ module _ (b : Board) (n : Limits) (low high weight : List ℕ) (R : Rocks b n lo
     -- The bench and the rock that the searches find.
     pub record Step (v r : ℕ) : Type 0 where
       pub bench-below : v < b .benches
-      pub is-marked : getD marked v false ≡ true
-      pub is-forcing : forcing b dirs v ≡ true
       pub rock-below : r < rocksOf b
       pub rock-is : rockAt b r ≡ forcedJob b dirs v
       pub touched : touches b (rockAt b r) v ≡ true
@@ -204,8 +202,6 @@ module _ (b : Board) (n : Limits) (low high weight : List ℕ) (R : Rocks b n lo
         let forces-it : forces b dirs v (rockAt b r) ≡ true = rw (rock .1) (forcedJob-forces b dirs v f) in
         record {
           bench-below = below;
-          is-marked = m;
-          is-forcing = f;
           rock-below = rock .0;
           rock-is = rock .1;
           touched = forces-touches b dirs v (rockAt b r) forces-it;

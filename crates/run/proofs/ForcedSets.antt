@@ -1,5 +1,4 @@
 -- The candidates of FORCED ORIENTATIONS: which benches a rock can be forced from.
---     forces-directed, forces-rest     the test of a rock at an end
 --     Source                           the bench and the rock that a search through the candidates finds are those of a search through all rocks
 --     forces-after, tails-next         the candidates after a rock is directed, and the benches that one was directed away from
 --     nowhere-forced                   at the end no rock is forced
@@ -30,13 +29,6 @@ use Rattle.run.specs.SetArrays.{forcesAt, Here, Covers, Nowhere, Tails}
 use Rattle.run.specs.CandidateArrays.{someRock, rockOf, benchOf, Left}
 use Rattle.run.proofs.ScanLaws.{rock-below, rock-holds, touches-at}
 use Rattle.run.proofs.CandidateLaws.{rock-met, first-rock, candidate-below, candidate-some, candidate-lowest, candidate-none, rock-ends, few-rocks, few-benches}
-
-pub forces-directed : (bound : ℕ) (weight dir loads : List ℕ) (r v : ℕ) → (getD dir r 0 ≡ 0 → ⊥) → false ≡ forcesAt bound weight dir loads r v
-forces-directed bound weight dir loads r v ne = rw (ne-eqb (getD dir r 0) 0 ne)
-
-pub forces-rest : (bound : ℕ) (weight dir loads : List ℕ) (r v : ℕ) → getD dir r 0 ≡ 0
-    → ltb bound (getD loads v 0 + getD weight r 0) ≡ forcesAt bound weight dir loads r v
-forces-rest bound weight dir loads r v e = rw (eq-eqb (getD dir r 0) 0 e)
 
 -- ── marked benches ──
 

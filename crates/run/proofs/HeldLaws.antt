@@ -1,7 +1,7 @@
 -- The tables of the run show the board of each state that it reaches.
 --     held-rocks, held-pebbles, few-rocks     from Ready and Held
 --     own-total, held-owned                   the sums of weights are the board's own loads
-use Prim.Native.Nat.{ℕ, zero, suc, _+_, _*_, _≤_, _<_, _^_}
+use Prim.Native.Nat.{ℕ, _+_, _*_, _≤_, _<_, _^_}
 use mathlib.Core.Path.{_≡_, refl, sym, ap, subst, _∙_}
 use mathlib.Core.Bool.{Bool, true, false, not, _&&_, _||_}
 use mathlib.Core.List.{List}
@@ -19,9 +19,9 @@ use Rattle.sums.proofs.SumLaws.{sum-cong, sum-le, sum-mul, sum-split-on, on-le}
 use Rattle.sums.specs.Members.{members}
 use Rattle.sums.proofs.CountLaws.{count-cong, count-mono, count-le}
 use Rattle.run.specs.declared.rocks.Limits.{Limits}
-use Rattle.algorithm.specs.Board.{Board, Directions, touches, towards, rockLoad, load}
+use Rattle.algorithm.specs.Board.{Directions, touches, towards, rockLoad, load}
 use Rattle.algorithm.specs.Day.{Day, weight, scale, rock, lowest, highest}
-use Rattle.algorithm.specs.Start.{State, start}
+use Rattle.algorithm.specs.Start.{State}
 use Rattle.algorithm.specs.SoundDay.{SoundDay, Uncrowded}
 use Rattle.algorithm.specs.Run.{boardOf, ownMinutes}
 use Rattle.run.specs.Arrays.{plusOf, rocksOf, rockAt, Rocks, Owned, Pebbles}

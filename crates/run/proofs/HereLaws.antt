@@ -1,22 +1,24 @@
--- The sets of the rocks at each bench, filled rock by rock.
+-- The sets of the rocks at each bench, filled rock by rock; and those of their other ends, filled bench by bench.
 --     rock-added     one rock more in one of the sets
 --     Filling        what the loop keeps: the sets have the rocks that were passed; how it starts, goes on and ends
-use Prim.Native.Nat.{ℕ, _+_, _<_}
-use mathlib.Core.Path.{_≡_, refl, sym, ap, ap₂, _∙_}
+--     Nearing        the same of the other ends: the benches that were passed have theirs
+use Prim.Native.Nat.{ℕ, _+_, _≤_, _<_}
+use mathlib.Core.Path.{_≡_, refl, sym, ap, ap₂, subst, _∙_}
 use mathlib.Core.Bool.{Bool, true, false, _&&_, _||_}
 use mathlib.Core.Logic.{inl, inr}
 use mathlib.Core.List.{List}
 use native.Mathlib.Omega.{arith}
-use lib.ListN.{length, getD, set, replicate, length-replicate, getD-replicate}
+use lib.ListN.{length, getD, set, replicate, length-set, length-replicate, getD-replicate}
 use lib.Dec.{eqb, ltb}
 use lib.Seq.{getD-set-same, getD-set-other}
 use borrow.Author.Tests.{eq-eqb, ne-eqb, lt-ltb, le-ltb}
+use Rattle.bools.proofs.BoolLaws.{and-intro}
 use Rattle.bools.proofs.OrderLaws.{eq-or-ne, lt-or-le}
 use Rattle.bits.specs.Bits.{isSet}
 use Rattle.bits.proofs.SetBits.{isSet-zero}
 use Rattle.run.specs.declared.rocks.Limits.{Limits}
-use Rattle.run.specs.Arrays.{touchesAt}
-use Rattle.run.specs.SetArrays.{Here}
+use Rattle.run.specs.Arrays.{touchesAt, otherAt}
+use Rattle.run.specs.SetArrays.{Here, Near}
 
 or-none : (a : Bool) {b : Bool} → b ≡ false → (a || b) ≡ a
 or-none true e = refl
@@ -96,3 +98,36 @@ module _ (low high : List ℕ) where
   pub filling-ends : (n : Limits) (r : ℕ) {here : List ℕ} → Filling r here → r ≡ n .rocks → Here n low high here
   filling-ends n r {here} F e =
       record { rocks-at = λ v u hv hu. F .rocks v u hv hu ∙ ap (λ (k : ℕ). ltb u k && touchesAt low high u v) e }
+
+-- ── the other ends ──
+
+below-next : (u v : ℕ) → u < v + 1 → (u ≡ v → ⊥) → u < v
+below-next u v h ne = elim (lt-or-le u v) [ inl l ↦ l | inr l ↦ absurd (ne (omega arith)) ]
+
+module _ (low high here : List ℕ) where
+  pub record Nearing (v : ℕ) (near : List ℕ) : Type 0 where
+    pub long : length near ≡ 64
+    pub ends : (r u : ℕ) → u < v → u < 64 → r < 64 → isSet 64 (getD here u 0) r ≡ true → otherAt low high r u < 64
+        → isSet 64 (getD near u 0) (otherAt low high r u) ≡ true
+
+  pub nearing-starts : {near : List ℕ} → length near ≡ 64 → Nearing 0 near
+  nearing-starts l = record { long = l; ends = λ r u h. absurd (omega arith) }
+
+  pub nearing-goes-on : (v a s : ℕ) (near : List ℕ) {near′ : List ℕ} → Nearing v near → v < 64 → a ≡ getD here v 0
+      → ((r : ℕ) → r < 64 → isSet 64 a r ≡ true → otherAt low high r v < 64 → isSet 64 s (otherAt low high r v) ≡ true) → near′ ≡ set near v s
+      → Nearing (v + 1) near′
+  nearing-goes-on v a s near {near′} N hv ea others e =
+      record {
+        long = ap length e ∙ length-set near v s ∙ N .long;
+        ends = λ r u h hu hr p o. ap (λ (xs : List ℕ). isSet 64 (getD xs u 0) (otherAt low high r u)) e ∙ elim (eq-or-ne u v) [
+          | inl at ↦
+              subst (λ (k : ℕ). isSet 64 (getD (set near v s) k 0) (otherAt low high r k) ≡ true) (sym at)
+              (ap (λ (x : ℕ). isSet 64 x (otherAt low high r v)) (getD-set-same near v s 0 (omega (arith, N .long)))
+              ∙ others r hr (ap (λ (x : ℕ). isSet 64 x r) (ea ∙ ap (λ (k : ℕ). getD here k 0) (sym at)) ∙ p) (subst (λ (k : ℕ). otherAt low high r k < 64) at o))
+          | inr ne ↦
+              ap (λ (x : ℕ). isSet 64 x (otherAt low high r u)) (getD-set-other near v u s 0 ne) ∙ N .ends r u (below-next u v h ne) hu hr p o
+        ];
+      }
+
+  pub nearing-ends : (n : Limits) (v : ℕ) {near : List ℕ} → Here n low high here → Nearing v near → 64 ≤ v → Near n low high near
+  nearing-ends n v H N all r u h hr hu t o = N .ends r u (omega arith) hu hr (H .rocks-at u r hu hr ∙ and-intro (lt-ltb r (n .rocks) h) t) o

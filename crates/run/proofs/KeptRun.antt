@@ -1,10 +1,13 @@
 -- What a move changes of the loads and of the benches in reach.
 --     shifted-load         each load after a shift
---     lies-more            the benches in reach with one more job
+--     more-on, more-off    the set with the choice of a job on the bench, and as it was
+--     lies-none, lies-more     the benches in reach of no job, and of one job more
+--     lies-all, lies-full      the benches in reach of all jobs: after the last job, and where the set has all that can come
 --     reach-shifted        the sets after a shift
+--     held-choices         the choices of the jobs show the board's pebbles
 --     owned-sums           the loads that an array shows are the sums of the weights
 --     moved-owned, moved-reach     after the move of a push the shifted arrays show the next state
-use Prim.Native.Nat.{ℕ, _+_, _-_, _≤_, _<_, _^_}
+use Prim.Native.Nat.{ℕ, _+_, _-_, _≤_, _<_, _^_, min}
 use mathlib.Core.Path.{_≡_, refl, sym, ap, ap₂, subst, _∙_}
 use mathlib.Core.Logic.{_≢_, inl, inr}
 use mathlib.Core.Bool.{Bool, true, false, cond, not, _&&_, _||_}
@@ -13,19 +16,20 @@ use native.Mathlib.Omega.{arith}
 use native.Mathlib.Numerals.{add-one}
 use lib.Bits.{bitOr}
 use lib.Dec.{eqb}
-use lib.ListN.{length, getD, set, length-set}
+use lib.ListN.{length, getD, set, length-set, List·getD-eq-default}
 use lib.Seq.{getD-set-same, getD-set-other}
 use borrow.Author.Tests.{eq-eqb, ne-eqb}
-use Rattle.bools.proofs.BoolLaws.{split, clash, and-left, not-true}
-use Rattle.bools.proofs.OrderLaws.{eq-or-ne}
+use Rattle.bools.proofs.BoolLaws.{split, clash, and-intro, and-left, and-right, and-false-right, or-right, not-true, bool-ext, or-nothing, eqb-sym}
+use Rattle.bools.proofs.OrderLaws.{eq-or-ne, lt-or-le}
 use Rattle.sums.specs.Sum.{on, sum}
 use Rattle.sums.specs.Search.{any}
 use Rattle.sums.proofs.SumLaws.{sum-cong, sum-update, sum-term}
-use Rattle.sums.proofs.SearchLaws.{any-cong, any-intro}
+use Rattle.sums.proofs.SearchLaws.{any-cong, any-intro, any-elim}
 use Rattle.bits.specs.Bits.{isSet}
 use Rattle.bits.proofs.SetBits.{isSet-zero}
 use Rattle.run.specs.Arrays.{plusOf}
-use Rattle.run.specs.KeptArrays.{shiftedOf, liesAt, ReachShifted}
+use Rattle.run.specs.KeptArrays.{shiftedOf, liesAt, ReachShifted, Chosen}
+use Rattle.run.specs.PushArrays.{Choices}
 use Rattle.algorithm.specs.Day.{Day, rock, heavy, pebble, weight}
 use Rattle.algorithm.specs.Start.{State}
 use Rattle.algorithm.specs.Run.{boardOf}
@@ -35,7 +39,7 @@ use Rattle.run.specs.Arrays.{Owned}
 use Rattle.run.specs.ExploreArrays.{Reaches}
 use Rattle.run.specs.Held.{Ready, Held, amountOn}
 use Rattle.run.proofs.SetLaws.{or-isSet}
-use Rattle.run.proofs.HeldLaws.{own-sum, same-left, held-owned}
+use Rattle.run.proofs.HeldLaws.{own-sum, same-left, held-rocks, held-owned}
 
 -- ── the loads ──
 
@@ -66,57 +70,67 @@ module _ (own : List ℕ) (u v w : ℕ) where
 
 -- ── the benches in reach ──
 
-module _ (pebble : List Bool) (place : List ℕ) (u j : ℕ) {x : ℕ} (ex : x ≡ getD place j 0) where
-  pub not-on : x ≢ u → false ≡ (getD pebble j false && eqb (getD place j 0) u)
-  not-on ne = rw (ne-eqb (getD place j 0) u (λ q. ne (ex ∙ q))) (neither (getD pebble j false))
-    where
-      neither : (a : Bool) → false ≡ (a && false)
-      neither true = refl
-      neither false = refl
+pub more-on : (set : ℕ) {x y u a b : ℕ} → x ≡ y → x ≡ u → a ≡ b → bitOr set a ≡ cond (eqb y u) (bitOr set b) set
+more-on set {x} {y} {u} e p q = rw (eq-eqb y u (sym e ∙ p), q)
 
-  pub on-it : {t : Bool} → x ≡ u → t ≡ getD pebble j false → t ≡ (getD pebble j false && eqb (getD place j 0) u)
-  on-it same et = et ∙ rw (eq-eqb (getD place j 0) u (sym ex ∙ same)) (both (getD pebble j false))
-    where
-      both : (a : Bool) → a ≡ (a && true)
-      both true = refl
-      both false = refl
+pub more-off : (set b : ℕ) {x y u : ℕ} → x ≡ y → x ≢ u → set ≡ cond (eqb y u) (bitOr set b) set
+more-off set b {x} {y} {u} e p = rw (ne-eqb y u (λ q. p (e ∙ q)))
 
-pub more-on : (set : ℕ) {a b : ℕ} {t c : Bool} → t ≡ c → t ≡ true → a ≡ b → bitOr set a ≡ cond c (bitOr set b) set
-more-on set e p q = rw (sym e ∙ p, q)
+module _ (choice place : List ℕ) (u : ℕ) where
+  pub lies-none : (v : ℕ) → isSet 64 0 v ≡ any 0 (liesAt choice place u v)
+  lies-none v = isSet-zero 64 v
 
-pub more-off : (set b : ℕ) {t c : Bool} → t ≡ c → t ≡ false → set ≡ cond c (bitOr set b) set
-more-off set b e p = rw (sym e ∙ p)
+  pub lies-more : (j set next : ℕ) → ((v : ℕ) → v < 64 → isSet 64 set v ≡ any j (liesAt choice place u v))
+      → next ≡ cond (eqb (getD place j 0) u) (bitOr set (getD choice j 0)) set
+      → (v : ℕ) → v < 64 → isSet 64 next v ≡ any (j + 1) (liesAt choice place u v)
+  lies-more j set next before en v h = rw add-one (elim (split (eqb (getD place j 0) u)) [
+    | inl p ↦
+        let e : next ≡ bitOr set (getD choice j 0) = en ∙ rw p in
+        ap (λ (k : ℕ). isSet 64 k v) e ∙ or-isSet set (getD choice j 0) v
+        ∙ ap₂ (λ (a b : Bool). a || b) (before v h) (sym (ap (λ (a : Bool). a && isSet 64 (getD choice j 0) v) p))
+    | inr p ↦
+        let e : next ≡ set = en ∙ rw p in
+        ap (λ (k : ℕ). isSet 64 k v) e ∙ before v h
+        ∙ sym (ap (λ (a : Bool). any j (liesAt choice place u v) || (a && isSet 64 (getD choice j 0) v)) p ∙ or-nothing (any j (liesAt choice place u v)))
+  ])
 
-pub lies-none : (pebble : List Bool) (allowed place : List ℕ) (u v : ℕ) → isSet 64 0 v ≡ any 0 (liesAt pebble allowed place u v)
-lies-none pebble allowed place u v = isSet-zero 64 v
+  -- A job past the end of the table has no choice.
+  pub lies-all : (j jobs end set v : ℕ) → j ≤ jobs → end ≡ min jobs (length choice) → end ≤ j → isSet 64 set v ≡ any j (liesAt choice place u v)
+      → isSet 64 set v ≡ any jobs (liesAt choice place u v)
+  lies-all j jobs end set v h least l e =
+      let f : ℕ → Bool = liesAt choice place u v in
+      e
+      ∙ bool-ext (any j f) (any jobs f) (λ p. let (i, b, q) = any-elim j f p in any-intro jobs f i (omega arith) q)
+      (λ p.
+      let (i, b, q) = any-elim jobs f p in
+      elim (lt-or-le i j) [
+        | inl s ↦ any-intro j f i s q
+        | inr s ↦
+            let past : length choice ≤ i = omega (arith, least) in
+            clash (and-right (eqb (getD place i 0) u) (isSet 64 (getD choice i 0) v) q)
+            (ap (λ (k : ℕ). isSet 64 k v) (List·getD-eq-default choice 0 past) ∙ isSet-zero 64 v)
+      ])
 
-pub lies-more : (pebble : List Bool) (allowed place : List ℕ) (u j set next : ℕ) (t : Bool) → ((v : ℕ) → v < 64 → isSet 64 set v ≡ any j (liesAt pebble allowed place u v))
-    → t ≡ (getD pebble j false && eqb (getD place j 0) u) → next ≡ cond t (bitOr set (getD allowed j 0)) set
-    → (v : ℕ) → v < 64 → isSet 64 next v ≡ any (j + 1) (liesAt pebble allowed place u v)
-lies-more pebble allowed place u j set next t before et en v h = rw add-one (step t et en)
-  where
-    step : (t : Bool) → t ≡ (getD pebble j false && eqb (getD place j 0) u) → next ≡ cond t (bitOr set (getD allowed j 0)) set
-        → isSet 64 next v ≡ (any j (liesAt pebble allowed place u v) || liesAt pebble allowed place u v j)
-    step true et en =
-        ap (λ (k : ℕ). isSet 64 k v) en ∙ or-isSet set (getD allowed j 0) v
-        ∙ ap₂ (λ (a b : Bool). a || b) (before v h) (ap (λ (a : Bool). a && isSet 64 (getD allowed j 0) v) et)
-    step false et en =
-        ap (λ (k : ℕ). isSet 64 k v) en ∙ before v h ∙ sym (ap (λ (a : Bool). any j (liesAt pebble allowed place u v) || (a && isSet 64 (getD allowed j 0) v)) (sym et) ∙ or-no (any j (liesAt pebble allowed place u v)))
-      where
-        or-no : (a : Bool) → (a || false) ≡ a
-        or-no true = refl
-        or-no false = refl
+  -- A set that has all that can come has no more to take in.
+  pub lies-full : (j jobs set full v : ℕ) → j ≤ jobs → set ≡ full → isSet 64 set v ≡ any j (liesAt choice place u v)
+      → (any jobs (liesAt choice place u v) ≡ true → isSet 64 full v ≡ true) → isSet 64 set v ≡ any jobs (liesAt choice place u v)
+  lies-full j jobs set full v h e before all-in =
+      bool-ext (isSet 64 set v) (any jobs (liesAt choice place u v))
+      (λ p. let (i, l, q) = any-elim j (liesAt choice place u v) (sym before ∙ p) in any-intro jobs (liesAt choice place u v) i (omega arith) q)
+      (λ p. ap (λ (k : ℕ). isSet 64 k v) e ∙ all-in p)
 
-pub reach-shifted : (jobs : ℕ) (pebble : List Bool) (allowed place from : List ℕ) (u v j : ℕ) (more there : ℕ) (from₁ : List ℕ) {from₂ : List ℕ} → more ≡ bitOr (getD from v 0) (getD allowed j 0)
-    → from₁ ≡ set from v more → ((x : ℕ) → x < 64 → isSet 64 there x ≡ any jobs (liesAt pebble allowed place u x)) → from₂ ≡ set from₁ u there
-    → ReachShifted jobs pebble allowed place from u v j from₂
-reach-shifted jobs pebble allowed place from u v j more there from₁ {from₂} em e1 es e2 w x h l =
+pub reach-shifted : (jobs : ℕ) (choice place from : List ℕ) (u v j : ℕ) (full more there : ℕ) (from₁ : List ℕ) {from₂ : List ℕ} → full ≡ getD from u 0
+    → ((x : ℕ) → x < 64 → (any jobs (liesAt choice place u x) ≡ true → isSet 64 full x ≡ true) → isSet 64 there x ≡ any jobs (liesAt choice place u x))
+    → more ≡ bitOr (getD from v 0) (getD choice j 0) → from₁ ≡ set from v more → from₂ ≡ set from₁ u there
+    → ReachShifted jobs choice place from u v j from₂
+reach-shifted jobs choice place from u v j full more there from₁ {from₂} ef es em e1 e2 w x h l had =
     let sized : length from₁ ≡ length from = ap length e1 ∙ length-set from v more in
     elim (eq-or-ne w u) [
       | inl e ↦
           rw (eq-eqb w u e)
           (ap (λ (xs : List ℕ). isSet 64 (getD xs w 0) x) e2 ∙ ap (λ (k : ℕ). isSet 64 (getD (set from₁ u there) k 0) x) e
-          ∙ ap (λ (k : ℕ). isSet 64 k x) (getD-set-same from₁ u there 0 (omega (arith, sized))) ∙ es x l)
+          ∙ ap (λ (k : ℕ). isSet 64 k x) (getD-set-same from₁ u there 0 (omega (arith, sized)))
+          ∙ es x l (λ p. ap (λ (k : ℕ). isSet 64 k x) ef ∙ had p))
       | inr ne ↦
           let past : isSet 64 (getD from₂ w 0) x ≡ isSet 64 (getD (set from v more) w 0) x =
           ap (λ (xs : List ℕ). isSet 64 (getD xs w 0) x) e2 ∙ ap (λ (k : ℕ). isSet 64 k x) (getD-set-other from₁ u w there 0 ne ∙ ap (λ (xs : List ℕ). getD xs w 0) e1) in
@@ -124,7 +138,7 @@ reach-shifted jobs pebble allowed place from u v j more there from₁ {from₂} 
             | inl e ↦
                 rw (ne-eqb w u ne, eq-eqb w v e)
                 (past ∙ ap (λ (k : ℕ). isSet 64 (getD (set from v more) k 0) x) e
-                ∙ ap (λ (k : ℕ). isSet 64 k x) (getD-set-same from v more 0 (omega arith) ∙ em) ∙ or-isSet (getD from v 0) (getD allowed j 0) x)
+                ∙ ap (λ (k : ℕ). isSet 64 k x) (getD-set-same from v more 0 (omega arith) ∙ em) ∙ or-isSet (getD from v 0) (getD choice j 0) x)
             | inr other ↦
                 rw (ne-eqb w u ne, ne-eqb w v other) (past ∙ ap (λ (k : ℕ). isSet 64 k x) (getD-set-other from v w more 0 other))
           ]
@@ -139,6 +153,21 @@ module _ (d : Day) (n : Limits) (low high weights amount : List ℕ) (pebbles : 
       O .entries v h ∙ own-sum d n low high weights amount pebbles allowed R m s left place H v
       ∙ sum-cong (d .jobs) (λ j. on (not (getD (s .left) j false) && eqb (getD (s .place) j 0) v) (weight d j)) (amountOn amount left place v)
       (λ j l. rw (H .lefts j l, H .places j l, R .amounts j l))
+
+  -- The choice of a job has the benches that it allows if it is a pebble.
+  choice-day : (choice : List ℕ) → Chosen (n .jobs) pebbles allowed choice → (j y : ℕ) → j < d .jobs → y < d .benches
+      → isSet 64 (getD choice j 0) y ≡ (pebble d j && d .allows j y)
+  choice-day choice C j y h l = elim (split (pebble d j)) [
+    | inl p ↦
+        let e : getD choice j 0 ≡ getD allowed j 0 = C j (omega (arith, R .jobs)) ∙ rw (R .pebbly j h, p) in
+        ap (λ (k : ℕ). isSet 64 k y) e ∙ rw p (R .allowing j y h l)
+    | inr p ↦
+        let e : getD choice j 0 ≡ 0 = C j (omega (arith, R .jobs)) ∙ rw (R .pebbly j h, p) in
+        ap (λ (k : ℕ). isSet 64 k y) e ∙ rw p (isSet-zero 64 y)
+  ]
+
+  pub held-choices : (choice : List ℕ) → Chosen (n .jobs) pebbles allowed choice → Choices (boardOf d s) choice place
+  held-choices choice C = record { allow = choice-day choice C; lie = λ j h p. H .places j h }
 
   -- A pebble is no rock, so it is not left.
   pebble-placed : (j : ℕ) → j < d .jobs → pebble d j ≡ true → getD left j false ≡ false
@@ -192,79 +221,88 @@ module _ (d : Day) (n : Limits) (low high weights amount : List ℕ) (pebbles : 
         ap (λ (xs : List ℕ). getD xs v 0) e ∙ shifted-load own u bench w v (omega (arith, sized, R .few-benches)) (omega (arith, small, w-small)) in
         entry ∙ rw (flip1, flip2) (omega (arith, now-sum, more, part)))
       where
-        eqb-sym : (a b : ℕ) → eqb a b ≡ eqb b a
-        eqb-sym a b = elim (eq-or-ne a b) [
-          | inl q ↦ eq-eqb a b q ∙ sym (eq-eqb b a (sym q))
-          | inr q ↦ ne-eqb a b q ∙ sym (ne-eqb b a (λ r. q (sym r)))
-        ]
-
         on-small : (a : Bool) (x : ℕ) → x < 2 ^ 62 → on a x < 2 ^ 62
         on-small true x h = h
         on-small false x h = omega arith
 
-    -- The day's own words for the benches in reach of a bench.
-    lies-day : (t : State) (q : ℕ) (pl : List ℕ) (K : Held d q t left pl) (x y : ℕ) → y < d .benches
-        → any (d .jobs) (liesAt pebbles allowed pl x y) ≡ any (d .jobs) (λ j. pebble d j && eqb (getD (t .place) j 0) x && d .allows j y)
-    lies-day t q pl K x y hy =
-        any-cong (d .jobs) (liesAt pebbles allowed pl x y) (λ j. pebble d j && eqb (getD (t .place) j 0) x && d .allows j y)
-        (λ j h. rw (R .pebbly j h, K .places j h, R .allowing j y h hy))
+    module _ (choice : List ℕ) (C : Chosen (n .jobs) pebbles allowed choice) where
+      -- The day's own words for the benches in reach of a bench.
+      lies-day : (t : State) (q : ℕ) (pl : List ℕ) (K : Held d q t left pl) (x y : ℕ) → y < d .benches
+          → any (d .jobs) (liesAt choice pl x y) ≡ any (d .jobs) (λ j. pebble d j && eqb (getD (t .place) j 0) x && d .allows j y)
+      lies-day t q pl K x y hy =
+          any-cong (d .jobs) (liesAt choice pl x y) (λ j. pebble d j && eqb (getD (t .place) j 0) x && d .allows j y)
+          (λ j h. ap₂ (λ (k : ℕ) (a : Bool). eqb k x && a) (K .places j h) (choice-day choice C j y h hy)
+          ∙ first-two (pebble d j) (eqb (getD (t .place) j 0) x) (d .allows j y))
+        where
+          first-two : (a b c : Bool) → (b && (a && c)) ≡ ((a && b) && c)
+          first-two true true c = refl
+          first-two true false c = refl
+          first-two false b c = and-false-right b refl
 
-    pub moved-reach : (from from′ : List ℕ) → length from ≡ 64 → Reaches (boardOf d s) from → ReachShifted (n .jobs) pebbles allowed place′ from u bench job from′
-        → Reaches (boardOf d s′) from′
-    moved-reach from from′ sized F S =
-        record {
-          entries = λ x y hx hy.
-              let step = S x y (omega (arith, sized, R .few-benches)) (omega (arith, R .few-benches)) in
-              let all-jobs : any (n .jobs) (liesAt pebbles allowed place′ u y) ≡ any (d .jobs) (liesAt pebbles allowed place′ u y) =
-              ap (λ (k : ℕ). any k (liesAt pebbles allowed place′ u y)) (R .jobs) in
-              elim (eq-or-ne x u) [
-                | inl e ↦
-                    step ∙ rw (eq-eqb x u e)
-                    (all-jobs ∙ ap (λ (k : ℕ). any (d .jobs) (liesAt pebbles allowed place′ k y)) (sym e) ∙ lies-day s′ m′ place′ H′ x y hy)
-                | inr ne ↦
-                    let old : isSet 64 (getD from x 0) y ≡ any (d .jobs) (liesAt pebbles allowed place x y) =
-                    F .entries x y hx hy ∙ sym (lies-day s m place H x y hy) in
-                    let other : (j : ℕ) → j < d .jobs → j ≢ job → liesAt pebbles allowed place x y j ≡ liesAt pebbles allowed place′ x y j =
-                    λ j h far. ap (λ (k : ℕ). getD pebbles j false && eqb k x && isSet 64 (getD allowed j 0) y) (sym (place-same j far)) in
-                    let was : liesAt pebbles allowed place x y job ≡ false = rw (ne-eqb u x (λ q. ne (sym q)), and-none (getD pebbles job false)) in
-                    elim (eq-or-ne x bench) [
-                      | inl e ↦
-                          let comes : liesAt pebbles allowed place′ x y job ≡ isSet 64 (getD allowed job 0) y =
-                          rw (R .pebbly job below, is, place-new, eq-eqb bench x (sym e)) in
-                          let there : isSet 64 (getD from bench 0) y ≡ isSet 64 (getD from x 0) y = ap (λ (k : ℕ). isSet 64 (getD from k 0) y) (sym e) in
-                          step ∙ rw (ne-eqb x u ne, eq-eqb x bench e)
-                          (ap₂ (λ (a b : Bool). a || b) (there ∙ old) (sym comes)
-                          ∙ any-one (d .jobs) (liesAt pebbles allowed place x y) (liesAt pebbles allowed place′ x y) job below other was
-                          ∙ lies-day s′ m′ place′ H′ x y hy)
-                      | inr far ↦
-                          let still : liesAt pebbles allowed place′ x y job ≡ false = rw (place-new, ne-eqb bench x (λ q. far (sym q)), and-none (getD pebbles job false)) in
-                          step ∙ rw (ne-eqb x u ne, ne-eqb x bench far)
-                          (old
-                          ∙ any-cong (d .jobs) (liesAt pebbles allowed place x y) (liesAt pebbles allowed place′ x y)
-                          (λ j h. elim (eq-or-ne j job) [
-                            | inl q ↦ rw q (was ∙ sym still)
-                            | inr q ↦ other j h q
-                          ])
-                          ∙ lies-day s′ m′ place′ H′ x y hy)
-                    ]
-              ];
-        }
-      where
-        and-none : (a : Bool) → (a && false) ≡ false
-        and-none true = refl
-        and-none false = refl
+      other-lies : (x y j : ℕ) → j ≢ job → liesAt choice place x y j ≡ liesAt choice place′ x y j
+      other-lies x y j far = ap (λ (k : ℕ). eqb k x && isSet 64 (getD choice j 0) y) (sym (place-same j far))
 
-        -- One more job meets the test.
-        any-one : (k : ℕ) (f g : ℕ → Bool) (j : ℕ) → j < k → ((i : ℕ) → i < k → i ≢ j → f i ≡ g i) → f j ≡ false → (any k f || g j) ≡ any k g
-        any-one k f g j h same none = elim (split (g j)) [
-          | inl p ↦ rw p (or-true (any k f) ∙ sym (any-intro k g j h p))
-          | inr p ↦ rw p (or-false (any k f) ∙ any-cong k f g (λ i l. elim (eq-or-ne i j) [ inl q ↦ rw q (none ∙ sym p) | inr q ↦ same i l q ]))
-        ]
-          where
-            or-true : (a : Bool) → (a || true) ≡ true
-            or-true true = refl
-            or-true false = refl
+      u-below : u < d .benches
+      u-below =
+          let S = held-rocks d n low high weights amount pebbles allowed R m s left place H .sound in
+          omega (arith, H .places job below, S .allowed-below job (getD (s .place) job 0) below (S .pebble-allowed job below is))
 
-            or-false : (a : Bool) → (a || false) ≡ a
-            or-false true = refl
-            or-false false = refl
+      -- A job that is on u now was on u before.
+      had : (from : List ℕ) → Reaches (boardOf d s) from → (y : ℕ) → y < d .benches
+          → any (n .jobs) (liesAt choice place′ u y) ≡ true → isSet 64 (getD from u 0) y ≡ true
+      had from F y hy p =
+          let (j, l, q) = any-elim (n .jobs) (liesAt choice place′ u y) p in
+          let h : j < d .jobs = omega (arith, R .jobs) in
+          F .entries u y u-below hy ∙ sym (lies-day s m place H u y hy)
+          ∙ any-intro (d .jobs) (liesAt choice place u y) j h
+          (elim (eq-or-ne j job) [
+            | inl e ↦
+                let chosen : isSet 64 (getD choice j 0) y ≡ true = and-right (eqb (getD place′ j 0) u) (isSet 64 (getD choice j 0) y) q in
+                and-intro (eq-eqb (getD place j 0) u (ap (λ (k : ℕ). getD place k 0) e)) chosen
+            | inr far ↦ other-lies u y j far ∙ q
+          ])
+
+      pub moved-reach : (from from′ : List ℕ) → length from ≡ 64 → Reaches (boardOf d s) from → ReachShifted (n .jobs) choice place′ from u bench job from′
+          → Reaches (boardOf d s′) from′
+      moved-reach from from′ sized F S =
+          record {
+            entries = λ x y hx hy.
+                let step = S x y (omega (arith, sized, R .few-benches)) (omega (arith, R .few-benches)) (had from F y hy) in
+                let all-jobs : any (n .jobs) (liesAt choice place′ u y) ≡ any (d .jobs) (liesAt choice place′ u y) =
+                ap (λ (k : ℕ). any k (liesAt choice place′ u y)) (R .jobs) in
+                elim (eq-or-ne x u) [
+                  | inl e ↦
+                      step ∙ rw (eq-eqb x u e)
+                      (all-jobs ∙ ap (λ (k : ℕ). any (d .jobs) (liesAt choice place′ k y)) (sym e) ∙ lies-day s′ m′ place′ H′ x y hy)
+                  | inr ne ↦
+                      let old : isSet 64 (getD from x 0) y ≡ any (d .jobs) (liesAt choice place x y) =
+                      F .entries x y hx hy ∙ sym (lies-day s m place H x y hy) in
+                      let was : liesAt choice place x y job ≡ false = rw (ne-eqb u x (λ q. ne (sym q))) in
+                      elim (eq-or-ne x bench) [
+                        | inl e ↦
+                            let comes : liesAt choice place′ x y job ≡ isSet 64 (getD choice job 0) y = rw (place-new, eq-eqb bench x (sym e)) in
+                            let there : isSet 64 (getD from bench 0) y ≡ isSet 64 (getD from x 0) y = ap (λ (k : ℕ). isSet 64 (getD from k 0) y) (sym e) in
+                            step ∙ rw (ne-eqb x u ne, eq-eqb x bench e)
+                            (ap₂ (λ (a b : Bool). a || b) (there ∙ old) (sym comes)
+                            ∙ any-one (d .jobs) (liesAt choice place x y) (liesAt choice place′ x y) job below (λ j h far. other-lies x y j far) was
+                            ∙ lies-day s′ m′ place′ H′ x y hy)
+                        | inr far ↦
+                            let still : liesAt choice place′ x y job ≡ false = rw (place-new, ne-eqb bench x (λ q. far (sym q))) in
+                            step ∙ rw (ne-eqb x u ne, ne-eqb x bench far)
+                            (old
+                            ∙ any-cong (d .jobs) (liesAt choice place x y) (liesAt choice place′ x y)
+                            (λ j h. elim (eq-or-ne j job) [
+                              | inl q ↦ rw q (was ∙ sym still)
+                              | inr q ↦ other-lies x y j q
+                            ])
+                            ∙ lies-day s′ m′ place′ H′ x y hy)
+                      ]
+                ];
+          }
+        where
+          -- One more job meets the test.
+          any-one : (k : ℕ) (f g : ℕ → Bool) (j : ℕ) → j < k → ((i : ℕ) → i < k → i ≢ j → f i ≡ g i) → f j ≡ false → (any k f || g j) ≡ any k g
+          any-one k f g j h same none = elim (split (g j)) [
+            | inl p ↦ rw p (or-right (any k f) refl ∙ sym (any-intro k g j h p))
+            | inr p ↦ rw p (or-nothing (any k f) ∙ any-cong k f g (λ i l. elim (eq-or-ne i j) [ inl q ↦ rw q (none ∙ sym p) | inr q ↦ same i l q ]))
+          ]

@@ -3,6 +3,7 @@ pub mod ScanLaws
 pub mod SetLaws
 pub mod SetRun
 pub mod CandidateLaws
+pub mod NeutralLaws
 pub mod HereLaws
 pub mod HeldLaws
 pub mod KeptRun
@@ -26,8 +27,11 @@ pub mod SettleRun
 pub mod CountRun
 pub mod ReceiverLaws
 pub mod PushRun
+pub mod FilledLaws
 pub mod StartLaws
 pub mod StartRun
+pub mod PlaceLaws
 pub mod ComponentRun
+pub mod BalanceRun
 pub mod RocksRun
 pub mod TableRun

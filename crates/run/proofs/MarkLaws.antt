@@ -1,11 +1,13 @@
 -- Arrays of marks.
-use Prim.Native.Nat.{ℕ, _≤_, _<_}
+--     marked-none     no bench is marked
+--     marked-set      one bench more is marked
+use Prim.Native.Nat.{ℕ, _≤_}
 use mathlib.Core.Path.{_≡_, sym, subst, _∙_}
 use mathlib.Core.Bool.{Bool, true, false}
 use mathlib.Core.Logic.{inl, inr}
 use mathlib.Core.List.{List}
 use native.Mathlib.Omega.{arith}
-use lib.ListN.{length, getD, set, replicate, length-set, length-replicate, getD-replicate}
+use lib.ListN.{getD, set, replicate, length-set, length-replicate, getD-replicate}
 use lib.Seq.{getD-set-same, getD-set-other}
 use Rattle.bools.proofs.OrderLaws.{eq-or-ne}
 use Rattle.algorithm.specs.Board.{Board}

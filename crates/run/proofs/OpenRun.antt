@@ -1,5 +1,6 @@
 -- The arrays follow the opening of a round, and the search for a bench to activate.
 --     Gathered          what a loop over the first k benches keeps that collects those with f
+--     some-entry, no-entry     how it goes on where it collects the entries that are not 0
 --     Entering          what the loop keeps by which the benches of a set join the conflict set
 --     some-yes, some-no     how the search through the rocks of a bench ends
 use Prim.Native.Nat.{ℕ, _+_, _≤_, _<_}
@@ -12,7 +13,7 @@ use lib.Dec.{eqb, leb, ltb}
 use lib.ListN.{length, getD, set, length-set}
 use lib.Seq.{getD-set-same, getD-set-other}
 use borrow.Author.Tests.{lt-ltb, le-ltb, eq-eqb, ne-eqb}
-use Rattle.bools.proofs.BoolLaws.{split, clash, tests, bool-ext, and-intro, and-left, and-right, and-false-left, and-false-right, not-intro-true}
+use Rattle.bools.proofs.BoolLaws.{split, clash, tests, bool-ext, and-intro, and-left, and-right, and-false-left, and-false-right, not-intro-true, or-nothing}
 use Rattle.bools.proofs.OrderLaws.{eq-or-ne, lt-or-le}
 use Rattle.sums.proofs.SearchLaws.{any-intro, any-false}
 use Rattle.bits.specs.Bits.{isSet}
@@ -26,10 +27,6 @@ use Rattle.run.proofs.SetRun.{Searched}
 and-one : (a : Bool) → (a && true) ≡ a
 and-one true = refl
 and-one false = refl
-
-or-no : (a : Bool) → (a || false) ≡ a
-or-no true = refl
-or-no false = refl
 
 strict : (a m : ℕ) → a < m + 1 → a ≢ m → a < m
 strict a m h ne = elim (lt-or-le a m) [ inl l ↦ l | inr l ↦ absurd (ne (omega arith)) ]
@@ -66,7 +63,7 @@ gathered-more f k s s′ c G e step =
             let away : (c && eqb u k) ≡ false = and-false-right c (ne-eqb u k ne) in
             let same : ltb u k ≡ ltb u (k + 1) =
             bool-ext (ltb u k) (ltb u (k + 1)) (λ p. lt-ltb u (k + 1) (omega tests)) (λ p. lt-ltb u k (strict u k (omega tests) ne)) in
-            ap (λ (x : Bool). (ltb u k && f u) || x) away ∙ or-no (ltb u k && f u) ∙ ap (λ (x : Bool). x && f u) same
+            ap (λ (x : Bool). (ltb u k && f u) || x) away ∙ or-nothing (ltb u k && f u) ∙ ap (λ (x : Bool). x && f u) same
       ];
     }
 
@@ -76,11 +73,30 @@ gathered-all f k s G e u h = G .has u h ∙ ap (λ (x : ℕ). ltb u x && f u) e
 pub gathered-every : (k s : ℕ) {m : ℕ} → Gathered (λ u. true) k s → k ≡ m → (u : ℕ) → u < 64 → isSet 64 s u ≡ ltb u m
 gathered-every k s G e u h = G .has u h ∙ and-one (ltb u k) ∙ ap (λ (x : ℕ). ltb u x) e
 
+-- All of the 64 numbers were passed.
+pub gathered-wide : (f : ℕ → Bool) (k s : ℕ) → Gathered f k s → 64 ≤ k → (u : ℕ) → u < 64 → isSet 64 s u ≡ f u
+gathered-wide f k s G all u h = G .has u h ∙ ap (λ (x : Bool). x && f u) (lt-ltb u k (omega arith))
+
 pub add-yes : {x c : Bool} (a e : Bool) → c ≡ true → x ≡ (a || e) → x ≡ (a || (c && e))
 add-yes a e p q = rw p q
 
 pub add-not : {c : Bool} (a e : Bool) → c ≡ false → a ≡ (a || (c && e))
-add-not a e p = rw p (sym (or-no a))
+add-not a e p = rw p (sym (or-nothing a))
+
+-- The entries of a table that are not 0.
+abbrev pub hasSome : List ℕ → ℕ → Bool
+hasSome t u = not (eqb (getD t u 0) 0)
+
+module _ (t : List ℕ) (k s a : ℕ) (G : Gathered (hasSome t) k s) (e : a ≡ getD t k 0) where
+  pub some-entry : (s′ : ℕ) {found : ℕ} → a ≢ 0 → ((u : ℕ) → u < 64 → isSet 64 s′ u ≡ (isSet 64 s u || eqb u k)) → found ≡ s′ → Gathered (hasSome t) (k + 1) found
+  some-entry s′ {found} ne step same =
+      gathered-more (hasSome t) k s found true G (sym (ap (λ (x : ℕ). not (eqb x 0)) (sym e) ∙ not-intro-true (ne-eqb a 0 ne)))
+      (λ u h. ap (λ (x : ℕ). isSet 64 x u) same ∙ step u h)
+
+  pub no-entry : {found : ℕ} → a ≡ 0 → found ≡ s → Gathered (hasSome t) (k + 1) found
+  no-entry {found} none same =
+      gathered-more (hasSome t) k s found false G (sym (ap (λ (x : ℕ). not (eqb x 0)) (sym e ∙ none)))
+      (λ u h. ap (λ (x : ℕ). isSet 64 x u) same ∙ add-not (isSet 64 s u) (eqb u k) refl)
 
 -- ── the benches that join ──
 

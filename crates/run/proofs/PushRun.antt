@@ -1,64 +1,44 @@
 -- The arrays follow PUSH.
---     mark-entry, marks-more, fills-more     the marks after one turn more of a loop
---     board-any           some rock at a bench has P: some job there has Q
---     receives-same       what the arrays say of a bench that may receive is what the board says
---     meets-same, needed  a job that may go meets PUSH where canPush says so; one that may not meets it nowhere
---     push-found, push-none     the first pair that meets PUSH, and none
+--     or-first, or-second      a bench with no child, and one with no heavy father
+--     has-past, has-in         a bench of a set
+--     goalAt, goal-none, goal-next     the benches that may receive a pebble from a bench
+--     Fills, fills-more        the entries of a list after one turn more of the loop
+--     opens, opens-not, opens-nowhere, opens-more     the benches to which a job may go, and a job that goes nowhere
+--     within-same              a round of the arrays is one of the exploration where the board says so
+--     levels-end               after the loop the sets of the levels are those of the board
+--     goals-end                after the loop the goals are those of the board
+--     push-none, push-found    no pair meets PUSH, and the first that does
 use Prim.Native.Nat.{ℕ, zero, suc, _+_, _-_, _/_, _%_, _^_, _≤_, _<_}
 use mathlib.Core.Path.{_≡_, refl, sym, ap, ap₂, subst, _∙_}
-use mathlib.Core.Bool.{Bool, true, false, not, _&&_, _||_}
-use mathlib.Core.Logic.{inl, inr, ⊎-elim}
+use mathlib.Core.Bool.{Bool, true, false, cond, not, _&&_, _||_}
+use mathlib.Core.Logic.{inl, inr}
 use mathlib.Core.List.{List}
 use native.Mathlib.Omega.{arith}
-use lib.ListN.{length, getD, set, replicate, length-set, length-replicate, getD-replicate}
+use lib.ListN.{length, getD, set, replicate, length-replicate, getD-replicate}
 use lib.Dec.{eqb, leb, ltb}
 use lib.Bits.{bitAnd}
 use lib.Seq.{getD-set-same, getD-set-other}
-use borrow.Author.Tests.{eq-eqb, ne-eqb, eqb-true, lt-ltb, le-ltb, le-leb, lt-leb, leb-true, ltb-true}
-use Rattle.bools.proofs.BoolLaws.{split, tests, and-intro, and-left, and-right, and-false-left, and-false-right, or-left, or-right, bool-ext, implies-false, not-intro-true}
-use Rattle.bools.proofs.OrderLaws.{eq-or-ne, last-or-below}
+use borrow.Author.Tests.{eqb-true, lt-ltb, le-ltb, le-leb, lt-leb, leb-true, ltb-true}
+use Rattle.bools.proofs.BoolLaws.{split, clash, tests, and-false-left, and-false-right, or-left, bool-ext, not-intro-true, eqb-sym}
+use Rattle.bools.proofs.OrderLaws.{last-or-below}
 use Rattle.sums.specs.Search.{any, all, least}
 use Rattle.sums.proofs.SearchLaws.{any-cong, any-false, any-intro, least-found, least-none}
-use Rattle.sums.proofs.MembersLaws.{any-members}
 use Rattle.bits.specs.Bits.{isSet}
 use Rattle.bits.proofs.SetBits.{isSet-zero}
 use Rattle.run.specs.declared.rocks.Limits.{Limits}
 use Rattle.algorithm.specs.Board.{Board, touches, other, towards, load}
 use Rattle.algorithm.specs.Explore.{Explored, roundOf, within, inConflict, activated, father, child}
 use Rattle.algorithm.specs.Push.{leaf, lightFathers, canPush, pushJob, pushBench}
-use Rattle.run.specs.Arrays.{plusOf, touchesAt, otherAt, withinAt, fatherAt, childAt, rocksOf, rockAt, Rocks, Owned, Rounds, Pebbles}
+use Rattle.run.specs.Arrays.{plusOf, touchesAt, otherAt, withinAt, fatherAt, childAt, rocksOf, rockAt, Rocks, Owned, Rounds}
 use Rattle.run.specs.Shown.{Shown}
-use Rattle.run.specs.PushArrays.{hasAt, markIf, heavyAt, receivesAt, receiving, mayGoAt, meetsAt, Openings, Wanted}
+use Rattle.run.specs.PushArrays.{hasAt, heavyAt, receivesAt, receiving, Wanted, Goals, Choices}
 use Rattle.algorithm.proofs.BoardLaws.{other-below}
-use Rattle.algorithm.proofs.PushLaws.{Pushed, push-allowed}
-use Rattle.run.proofs.ScanLaws.{and-assoc, touches-at, rock-below, rock-holds}
+use Rattle.run.proofs.ScanLaws.{and-assoc, rock-below, board-any}
 use Rattle.run.proofs.ForcedRun.{plus-one, other-at}
-use Rattle.run.proofs.ReceiverLaws.{shares}
+use Rattle.run.proofs.SetLaws.{and-isSet}
+use Rattle.run.proofs.ReceiverLaws.{Ends, Levels}
 
 -- ── Booleans ──
-
-or-nothing : (a : Bool) {b : Bool} → b ≡ false → (a || b) ≡ a
-or-nothing true e = refl
-or-nothing false e = e
-
-gather : (a n x y p : Bool) → (((a || n) || (x && p)) || (y && p)) ≡ (a || (n || ((x || y) && p)))
-gather true n x y p = refl
-gather false true x y p = refl
-gather false false true y true = refl
-gather false false true y false = and-false-right y refl
-gather false false false y p = refl
-
-or-assoc : (a b c : Bool) → ((a || b) || c) ≡ (a || (b || c))
-or-assoc true b c = refl
-or-assoc false b c = refl
-
-regroup : (al ac eq ll lf : Bool) → (((ac && ll) && lf) && (al && eq)) ≡ ((((al && ac) && eq) && ll) && lf)
-regroup true true true true true = refl
-regroup true true true true false = refl
-regroup true true true false lf = refl
-regroup true true false ll lf = and-false-right (ll && lf) refl
-regroup true false eq ll lf = refl
-regroup false ac eq ll lf = and-false-right ((ac && ll) && lf) refl
 
 not-both : (a b c : Bool) → c ≡ not b → (not a || c) ≡ not (a && b)
 not-both true b c e = e
@@ -78,6 +58,16 @@ leb-not-ltb a m = bool-ext (leb a m) (not (ltb m a)) (λ p. not-intro-true (le-l
 leb-ltb : (a m : ℕ) → leb a m ≡ ltb a (suc m)
 leb-ltb a m = bool-ext (leb a m) (ltb a (suc m)) (λ p. omega tests) (λ p. omega tests)
 
+-- The bench that the pebble comes from is activated where the other tests hold.
+regroup : (al from eq ac ll lf : Bool) → (ac ≡ true → eq ≡ true → from ≡ true) → (al && (from && (eq && ((ac && ll) && lf)))) ≡ ((((al && ac) && eq) && ll) && lf)
+regroup false from eq ac ll lf h = refl
+regroup true true false ac ll lf h = sym (and-false-left lf (and-false-left ll (and-false-right ac refl)))
+regroup true true true true ll lf h = refl
+regroup true true true false ll lf h = refl
+regroup true false false ac ll lf h = sym (and-false-left lf (and-false-left ll (and-false-right ac refl)))
+regroup true false true true ll lf h = clash {b = true} refl (sym (h refl refl))
+regroup true false true false ll lf h = refl
+
 pub or-first : {a : Bool} (b : Bool) → a ≡ true → true ≡ (a || b)
 or-first b p = sym (or-left b p)
 
@@ -93,92 +83,54 @@ pub has-in : (mask v : ℕ) → v ≤ 63 → eqb (mask / 2 ^ (63 - v) % 2) 1 ≡
 unfolding isSet
 has-in mask v h = rw (le-leb v 63 h)
 
--- ── marks ──
+has-set : (mask v : ℕ) → v < 64 → hasAt mask v ≡ isSet 64 mask v
+has-set mask v h = ap (λ (k : Bool). k && isSet 64 mask v) (le-leb v 63 (omega arith))
 
-next : (i : ℕ) → suc i ≡ i + 1
-next i = omega arith
+-- ── the benches that may receive a pebble from u ──
 
-pub mark-length : (c : Bool) (t : List Bool) (i : ℕ) → length (markIf c t i) ≡ length t
-mark-length true t i = length-set t i true
-mark-length false t i = refl
+abbrev pub goalAt : ℕ → List ℕ → List ℕ → ℕ → ℕ
+goalAt benches level wanted u = cond (withinAt benches level u) (getD wanted (plusOf (getD level u 0) 1) 0) 0
 
-pub mark-entry : (c : Bool) (t : List Bool) (i v : ℕ) → v < length t → getD (markIf c t i) v false ≡ (getD t v false || (eqb v i && c))
-mark-entry false t i v h = sym (or-nothing (getD t v false) (and-false-right (eqb v i) refl))
-mark-entry true t i v h = elim (eq-or-ne v i) [
-  | inl e ↦
-      subst (λ (k : ℕ). getD (set t i true) k false ≡ (getD t k false || (eqb k i && true))) (sym e)
-      (getD-set-same t i true false (subst (λ (k : ℕ). k < length t) e h) ∙ sym (or-right (getD t i false) (and-intro (eq-eqb i i refl) refl)))
-  | inr ne ↦ getD-set-other t i v true false ne ∙ sym (or-nothing (getD t v false) (and-false-left true (ne-eqb v i ne)))
-]
+module _ (benches : ℕ) (level wanted : List ℕ) (u : ℕ) {l : ℕ} (el : l ≡ getD level u 0) where
+  pub goal-none : benches < l → 0 ≡ goalAt benches level wanted u
+  goal-none h = rw (lt-leb (getD level u 0) benches (omega arith))
 
--- The other end of the test is the same where it holds.
-at-end : (f : ℕ → Bool) (v u : ℕ) → (eqb v u && f u) ≡ (eqb v u && f v)
-at-end f v u = elim (split (eqb v u)) [
-  | inl p ↦ ap (λ (k : ℕ). eqb v u && f k) (sym (eqb-true v u p))
-  | inr p ↦ and-false-left (f u) p ∙ sym (and-false-left (f v) p)
-]
+  pub goal-next : {m w : ℕ} → l ≤ benches → m ≡ plusOf l 1 → w ≡ getD wanted m 0 → w ≡ goalAt benches level wanted u
+  goal-next h em ew =
+      rw (le-leb (getD level u 0) benches (omega arith)) (ew ∙ ap (λ (k : ℕ). getD wanted k 0) (em ∙ ap (λ (k : ℕ). plusOf k 1) el))
 
-pub marks-none : (t : List Bool) (v : ℕ) → getD t v false ≡ (getD t v false || false)
-marks-none t v = sym (or-nothing (getD t v false) refl)
+-- The entries below v are those of f.
+abbrev pub Fills : (ℕ → ℕ) → ℕ → ℕ → List ℕ → Type 0
+Fills f size v t = (u : ℕ) → u < v → u < size → getD t u 0 ≡ f u
 
-module _ (P : ℕ → ℕ → Bool) (low high : List ℕ) where
-  abbrev there : ℕ → ℕ → Bool
-  there v i = touchesAt low high i v && P i v
-
-  pub marks-more : (r : ℕ) (t₀ t : List Bool) {s u : List Bool} {lo hi : ℕ} {c d : Bool} → length t ≡ length t₀
-      → ((v : ℕ) → v < length t₀ → getD t v false ≡ (getD t₀ v false || any r (λ i. touchesAt low high i v && P i v)))
-      → lo ≡ getD low r 0 → c ≡ P r lo → s ≡ markIf c t lo → hi ≡ getD high r 0 → d ≡ P r hi → u ≡ markIf d s hi
-      → (v : ℕ) → v < length t₀ → getD u v false ≡ (getD t₀ v false || any (r + 1) (λ i. touchesAt low high i v && P i v))
-  marks-more r t₀ t {s} {u} {lo} {hi} {c} {d} same inv elo ec es ehi ed eu v h =
-      let long : length s ≡ length t = ap length es ∙ mark-length c t lo in
-      let first : getD s v false ≡ (getD t v false || (eqb v lo && c)) = ap (λ (l : List Bool). getD l v false) es ∙ mark-entry c t lo v (omega arith) in
-      let second : getD u v false ≡ (getD s v false || (eqb v hi && d)) = ap (λ (l : List Bool). getD l v false) eu ∙ mark-entry d s hi v (omega arith) in
-      let at-low : (eqb v lo && c) ≡ (eqb v (getD low r 0) && P r v) = ap (λ (k : Bool). eqb v lo && k) ec ∙ at-end (P r) v lo ∙ ap (λ (k : ℕ). eqb v k && P r v) elo in
-      let at-high : (eqb v hi && d) ≡ (eqb v (getD high r 0) && P r v) = ap (λ (k : Bool). eqb v hi && k) ed ∙ at-end (P r) v hi ∙ ap (λ (k : ℕ). eqb v k && P r v) ehi in
-      second ∙ ap₂ _||_ (first ∙ ap₂ _||_ (inv v h) at-low) at-high
-      ∙ gather (getD t₀ v false) (any r (there v)) (eqb v (getD low r 0)) (eqb v (getD high r 0)) (P r v)
-      ∙ ap (λ (k : ℕ). getD t₀ v false || any k (there v)) (next r)
-
-pub fills-more : (f : ℕ → Bool) (v : ℕ) (t₀ t : List Bool) {s : List Bool} {c : Bool} → length t ≡ length t₀
-    → ((u : ℕ) → u < v → u < length t₀ → getD t u false ≡ f u) → c ≡ f v → s ≡ set t v c
-    → (u : ℕ) → u < v + 1 → u < length t₀ → getD s u false ≡ f u
+pub fills-more : (f : ℕ → ℕ) (v : ℕ) (t₀ t : List ℕ) {s : List ℕ} {c : ℕ} → length t ≡ length t₀ → Fills f (length t₀) v t → c ≡ f v → s ≡ set t v c
+    → Fills f (length t₀) (v + 1) s
 fills-more f v t₀ t {s} {c} same inv ec es u h l = elim (last-or-below {i = u} {n = v} (omega arith)) [
   | inl e ↦
-      subst (λ (k : ℕ). getD s k false ≡ f k) (sym e)
-      (ap (λ (k : List Bool). getD k v false) es ∙ getD-set-same t v c false (omega arith) ∙ ec)
-  | inr below ↦ ap (λ (k : List Bool). getD k u false) es ∙ getD-set-other t v u c false (λ e. omega arith) ∙ inv u below l
+      subst (λ (k : ℕ). getD s k 0 ≡ f k) (sym e)
+      (ap (λ (k : List ℕ). getD k v 0) es ∙ getD-set-same t v c 0 (omega arith) ∙ ec)
+  | inr below ↦ ap (λ (k : List ℕ). getD k u 0) es ∙ getD-set-other t v u c 0 (λ e. omega arith) ∙ inv u below l
 ]
 
--- Job j may go, and meets PUSH somewhere.
-abbrev pub goesAt : ℕ → List Bool → List ℕ → List ℕ → List ℕ → List Bool → List ℕ → ℕ → Bool
-goesAt benches pebble allowed place level opened wanted j = mayGoAt benches pebble allowed place level wanted j && any benches (meetsAt allowed place level opened j)
+-- ── a job that goes nowhere ──
+
+-- The benches to which job j may go.
+abbrev pub opens : List ℕ → List ℕ → List ℕ → ℕ → ℕ
+opens choice place goals j = bitAnd (getD choice j 0) (getD goals (getD place j 0) 0)
+
+pub opens-not : (k s o : ℕ) → o ≡ s → o ≡ 0 → any k (hasAt s) ≡ false
+opens-not k s o e z =
+    any-false k (hasAt s) (λ v h. and-false-right (leb v 63) (ap (λ (x : ℕ). isSet 64 x v) (sym e ∙ z) ∙ isSet-zero 64 v))
+
+pub opens-nowhere : (k v s : ℕ) → k ≤ v → ((u : ℕ) → u < v → hasAt s u ≡ false) → any k (hasAt s) ≡ false
+opens-nowhere k v s past none = any-false k (hasAt s) (λ u l. none u (omega arith))
+
+pub opens-more : (f : ℕ → Bool) (j : ℕ) → ((i : ℕ) → i < j → f i ≡ false) → f j ≡ false → (i : ℕ) → i < j + 1 → f i ≡ false
+opens-more f j before e i l = elim (last-or-below {i = i} {n = j} (omega arith)) [ inl same ↦ ap f same ∙ e | inr below ↦ before i below ]
 
 -- ── of a board ──
 
 module _ (b : Board) (n : Limits) (low high weight : List ℕ) (R : Rocks b n low high weight) where
-  module _ (P Q : ℕ → ℕ → Bool) (same : (r v : ℕ) → r < rocksOf b → v < b .benches → touches b (rockAt b r) v ≡ true → P r v ≡ Q (rockAt b r) v) where
-    abbrev ends : ℕ → ℕ → Bool
-    ends v j = (eqb v (b .low j) || eqb v (b .high j)) && Q j v
-
-    at-same : (v r : ℕ) → v < b .benches → r < rocksOf b → (touchesAt low high r v && P r v) ≡ ends v (rockAt b r)
-    at-same v r l h =
-        let t = touches-at b n low high weight R r v h in
-        let inside : touches b (rockAt b r) v ≡ (eqb v (b .low (rockAt b r)) || eqb v (b .high (rockAt b r))) = rw (rock-holds b n low high weight R r h) in
-        elim (split (touches b (rockAt b r) v)) [
-          | inl p ↦ let q : touchesAt low high r v ≡ true = t ∙ p in
-              let s : (eqb v (b .low (rockAt b r)) || eqb v (b .high (rockAt b r))) ≡ true = sym inside ∙ p in rw (q, s) (same r v h l p)
-          | inr p ↦ let q : touchesAt low high r v ≡ false = t ∙ p in
-              let s : (eqb v (b .low (rockAt b r)) || eqb v (b .high (rockAt b r))) ≡ false = sym inside ∙ p in rw (q, s)
-        ]
-
-    pub board-any : (v : ℕ) → v < b .benches → any (n .rocks) (λ r. touchesAt low high r v && P r v) ≡ any (b .jobs) (λ j. touches b j v && Q j v)
-    board-any v l =
-        rw (R .rocks)
-        (any-cong (rocksOf b) (λ r. touchesAt low high r v && P r v) (λ r. ends v (rockAt b r)) (λ r h. at-same v r l h)
-        ∙ sym (any-members (b .jobs) (b .rock) (ends v) 0)
-        ∙ any-cong (b .jobs) (λ j. b .rock j && ends v j) (λ j. touches b j v && Q j v)
-        (λ j h. sym (and-assoc (b .rock j) (eqb v (b .low j) || eqb v (b .high j)) (Q j v))))
-
   pub within-same : (xs rounds : List ℕ) → Rounds b xs rounds → (v : ℕ) → v < b .benches → withinAt (n .benches) rounds v ≡ within b xs v
   within-same xs rounds L v h = ap₂ leb (L .entries v h) (R .benches) ∙ leb-ltb (roundOf b xs v) (b .benches)
 
@@ -223,7 +175,7 @@ module _ (b : Board) (n : Limits) (low high weight : List ℕ) (R : Rocks b n lo
         → not (any (n .rocks) (λ r. touchesAt low high r v && childAt (n .benches) low high dir joins r v)) ≡ leaf b x v
     leaf-same v l =
         ap not
-        (board-any (childAt (n .benches) low high dir joins) childThere child-same v l
+        (board-any b n low high weight R (childAt (n .benches) low high dir joins) childThere child-same v l
         ∙ any-cong (b .jobs) (λ j. touches b j v && childThere j v) (child b (x .dir) (inConflict b x) v)
         (λ j h. sym (and-assoc (touches b j v) (towards (x .dir) j v) (inConflict b x (other b j v)))))
 
@@ -231,7 +183,7 @@ module _ (b : Board) (n : Limits) (low high weight : List ℕ) (R : Rocks b n lo
         → not (any (n .rocks) (λ r. touchesAt low high r v && heavyAt (n .benches) (n .limit) low high weight own dir joins r v)) ≡ lightFathers b x v
     light-same v l =
         ap not
-        (board-any (heavyAt (n .benches) (n .limit) low high weight own dir joins) heavyThere heavy-same v l
+        (board-any b n low high weight R (heavyAt (n .benches) (n .limit) low high weight own dir joins) heavyThere heavy-same v l
         ∙ any-cong (b .jobs) (λ j. touches b j v && heavyThere j v)
         (λ j. father b (x .dir) (inConflict b x) v j && ltb (b .limit) (b .own v + b .weight j))
         (λ j h. sym (and-assoc (touches b j v) (fatherThere j v) (ltb (b .limit) (b .own v + b .weight j)))
@@ -242,144 +194,113 @@ module _ (b : Board) (n : Limits) (low high weight : List ℕ) (R : Rocks b n lo
         (λ j. father b (x .dir) (inConflict b x) v j && ltb (b .limit) (b .own v + b .weight j))
         (λ j. not-both (father b (x .dir) (inConflict b x) v j) (ltb (b .limit) (b .own v + b .weight j)) (leb (b .own v + b .weight j) (b .limit)) (leb-not-ltb (b .own v + b .weight j) (b .limit))))
 
-    -- The marks that the two passes over the rocks leave.
-    module _ (children heavy : List Bool)
-        (C : (v : ℕ) → v < length (replicate 64 false) → getD children v false
-        ≡ (getD (replicate 64 false) v false || any (n .rocks) (λ r. touchesAt low high r v && childAt (n .benches) low high dir joins r v)))
-        (H : (v : ℕ) → v < length (replicate 64 false) → getD heavy v false
-        ≡ (getD (replicate 64 false) v false
-        || any (n .rocks) (λ r. touchesAt low high r v && heavyAt (n .benches) (n .limit) low high weight own dir joins r v))) where
-      marked : {f : Bool} (t : List Bool) (v : ℕ) → v < b .benches
-          → (v < length (replicate 64 false) → getD t v false ≡ (getD (replicate 64 false) v false || f)) → getD t v false ≡ f
-      marked {f} t v l M =
-          M (omega (arith, length-replicate 64 false, R .few-benches))
-          ∙ ap (λ (k : Bool). k || f) (getD-replicate 64 v false false (omega (arith, R .few-benches)))
-
-      pub receives-same : (v : ℕ) → v < b .benches → receivesAt (n .benches) (n .limit) loads levels children heavy v ≡ receiving b x v
+    -- The marks that the pass over the rocks leaves.
+    module _ (children heavy : ℕ) (C : Ends low high (childAt (n .benches) low high dir joins) (n .rocks) children)
+        (H : Ends low high (heavyAt (n .benches) (n .limit) low high weight own dir joins) (n .rocks) heavy) where
+      receives-same : (v : ℕ) → v < b .benches → receivesAt (n .benches) (n .limit) loads levels children heavy v ≡ receiving b x v
       receives-same v l =
+          let small : v < 64 = omega (arith, R .few-benches) in
           ap₂ _&&_ (within-same (x .level) levels (S .level) v l)
           (ap₂ _&&_ (ap₂ leb (S .seen .loaded .entries v l) (R .limit))
-          (ap₂ _||_ (ap not (marked children v l (C v)) ∙ leaf-same v l) (ap not (marked heavy v l (H v)) ∙ light-same v l)))
+          (ap₂ _||_ (ap not (has-set children v small ∙ C v small) ∙ leaf-same v l) (ap not (has-set heavy v small ∙ H v small) ∙ light-same v l)))
           ∙ sym (and-assoc (activated b x v) (leb (load b (x .dir) v) (b .limit)) (leaf b x v || lightFathers b x v))
 
-      pub receivers-end : (v : ℕ) (t₀ opened : List Bool) → n .benches ≤ v → b .benches ≤ length t₀
-          → ((u : ℕ) → u < v → u < length t₀ → getD opened u false ≡ receivesAt (n .benches) (n .limit) loads levels children heavy u) → Openings b x opened
-      receivers-end v t₀ opened past room inv =
-          record { entries = λ u l. inv u (omega (arith, R .benches)) (omega arith) ∙ receives-same u l }
+      pub levels-end : (v : ℕ) (t₀ wanted : List ℕ) → n .benches ≤ v → t₀ ≡ replicate 66 0
+          → Levels levels (receivesAt (n .benches) (n .limit) loads levels children heavy) t₀ v wanted → Wanted b x wanted
+      levels-end v t₀ wanted past none inv =
+          record {
+            entries = λ l u h m.
+                inv l u (omega (arith, ap length none, length-replicate {A = ℕ} 66 0)) (omega (arith, R .few-benches))
+                ∙ ap₂ _||_
+                (ap (λ (k : List ℕ). isSet 64 (getD k l 0) u) none ∙ ap (λ (k : ℕ). isSet 64 k u) (getD-replicate 66 l 0 0 h) ∙ isSet-zero 64 u)
+                (ap₂ _&&_ (lt-ltb u v (omega (arith, R .benches))) (ap₂ (λ (k : ℕ) (t : Bool). eqb l k && t) (S .level .entries u m) (receives-same u m)));
+          }
 
-  -- ── the levels wanted, and the first pair ──
+  -- ── the goals of each bench ──
 
-  module _ (x : Explored) (level : List ℕ) (opened : List Bool) (L : Rounds b (x .level) level) (O : Openings b x opened) where
-    pub levels-end : (v : ℕ) (t₀ wanted : List ℕ) → v ≤ n .benches → n .benches ≤ v → t₀ ≡ replicate 66 0
-        → ((l u : ℕ) → l < length t₀ → u < 64
-        → isSet 64 (getD wanted l 0) u ≡ (isSet 64 (getD t₀ l 0) u || (ltb u v && (eqb l (getD level u 0) && getD opened u false)))) → Wanted b x wanted
-    levels-end v t₀ wanted below past none inv =
-        record {
-          entries = λ l u h m.
-              inv l u (omega (arith, ap length none, length-replicate {A = ℕ} 66 0)) (omega (arith, R .few-benches))
-              ∙ ap₂ _||_
-              (ap (λ (k : List ℕ). isSet 64 (getD k l 0) u) none ∙ ap (λ (k : ℕ). isSet 64 k u) (getD-replicate 66 l 0 0 h) ∙ isSet-zero 64 u)
-              (ap₂ _&&_ (lt-ltb u v (omega (arith, R .benches))) (ap₂ (λ (k : ℕ) (t : Bool). eqb l k && t) (L .entries u m) (O .entries u m)));
-        }
+  module _ (x : Explored) where
+    abbrev round : ℕ → ℕ
+    round v = roundOf b (x .level) v
 
-    module _ (pebble : List Bool) (allowed place : List ℕ) (wanted : List ℕ) (P : Pebbles b pebble allowed place) (W : Wanted b x wanted) where
-      abbrev may : ℕ → Bool
-      may j = mayGoAt (n .benches) pebble allowed place level wanted j
+    module _ (level wanted : List ℕ) (L : Rounds b (x .level) level) (W : Wanted b x wanted) where
+      goal-same : (u v : ℕ) → u < b .benches → v < b .benches
+          → isSet 64 (goalAt (n .benches) level wanted u) v ≡ (activated b x u && (eqb (round v) (round u + 1) && receiving b x v))
+      goal-same u v hu hv = elim (split (activated b x u)) [
+        | inl p ↦
+            let near : round u ≤ b .benches = omega (arith, ltb-true (round u) (suc (b .benches)) p) in
+            let next : plusOf (getD level u 0) 1 ≡ round u + 1 = ap (λ (k : ℕ). plusOf k 1) (L .entries u hu) ∙ plus-one (round u) (omega (arith, R .few-benches)) ∙ omega arith in
+            let inside : withinAt (n .benches) level u ≡ true = within-same (x .level) level L u hu ∙ p in
+            let there : goalAt (n .benches) level wanted u ≡ getD wanted (round u + 1) 0 = rw inside (ap (λ (k : ℕ). getD wanted k 0) next) in
+            ap (λ (k : ℕ). isSet 64 k v) there ∙ W .entries (round u + 1) v (omega (arith, R .few-benches)) hv
+            ∙ ap (λ (k : Bool). k && receiving b x v) (eqb-sym (round u + 1) (round v))
+            ∙ sym (ap (λ (k : Bool). k && (eqb (round v) (round u + 1) && receiving b x v)) p)
+        | inr p ↦
+            let outside : withinAt (n .benches) level u ≡ false = within-same (x .level) level L u hu ∙ p in
+            let none : goalAt (n .benches) level wanted u ≡ 0 = rw outside in
+            ap (λ (k : ℕ). isSet 64 k v) none ∙ isSet-zero 64 v
+            ∙ sym (and-false-left (eqb (round v) (round u + 1) && receiving b x v) p)
+      ]
 
-      abbrev meet : ℕ → ℕ → Bool
-      meet j v = meetsAt allowed place level opened j v
+      pub goals-end : (v : ℕ) (t₀ goals : List ℕ) → n .benches ≤ v → b .benches ≤ length t₀
+          → Fills (goalAt (n .benches) level wanted) (length t₀) v goals → Goals b x goals
+      goals-end v t₀ goals past room inv =
+          record {
+            entries = λ u w hu hw.
+                ap (λ (k : ℕ). isSet 64 k w) (inv u (omega (arith, R .benches)) (omega arith)) ∙ goal-same u w hu hw;
+          }
 
+    -- ── the first pair ──
+
+    module _ (choice place goals : List ℕ) (C : Choices b choice place) (G : Goals b x goals) where
       place-below : (j : ℕ) → j < b .jobs → b .pebble j ≡ true → b .place j < b .benches
       place-below j h p = R .sound .allowed-below j (b .place j) h (R .sound .pebble-allowed j h p)
 
-      level-there : (j : ℕ) → j < b .jobs → b .pebble j ≡ true → getD level (getD place j 0) 0 ≡ roundOf b (x .level) (b .place j)
-      level-there j h p = ap (λ (k : ℕ). getD level k 0) (P .lie j h p) ∙ L .entries (b .place j) (place-below j h p)
+      push-same : (j v : ℕ) → j < b .jobs → v < b .benches → hasAt (opens choice place goals j) v ≡ canPush b x j v
+      push-same j v h l =
+          has-set (opens choice place goals j) v (omega (arith, R .few-benches))
+          ∙ and-isSet (getD choice j 0) (getD goals (getD place j 0) 0) v
+          ∙ ap (λ (k : Bool). k && isSet 64 (getD goals (getD place j 0) 0) v) (C .allow j v h l)
+          ∙ elim (split (b .pebble j)) [
+            | inl p ↦
+                let u : ℕ = b .place j in
+                let there : isSet 64 (getD goals (getD place j 0) 0) v ≡ (activated b x u && (eqb (round v) (round u + 1) && receiving b x v)) =
+                ap (λ (k : ℕ). isSet 64 (getD goals k 0) v) (C .lie j h p) ∙ G .entries u v (place-below j h p) l in
+                let next : round u + 1 ≡ suc (round u) = omega arith in
+                rw p (ap (λ (k : Bool). b .allows j v && k)
+                (there ∙ ap (λ (k : ℕ). activated b x u && (eqb (round v) k && receiving b x v)) next)
+                ∙ regroup (b .allows j v) (activated b x u) (eqb (round v) (suc (round u))) (activated b x v) (leb (load b (x .dir) v) (b .limit)) (leaf b x v || lightFathers b x v)
+                (λ ac eq. lt-ltb (round u) (suc (b .benches))
+                (omega (arith, ltb-true (round v) (suc (b .benches)) ac, eqb-true (round v) (suc (round u)) eq))))
+            | inr p ↦ rw p
+          ]
 
-      within-there : (j : ℕ) → j < b .jobs → b .pebble j ≡ true → withinAt (n .benches) level (getD place j 0) ≡ activated b x (b .place j)
-      within-there j h p =
-          ap (λ (k : ℕ). withinAt (n .benches) level k) (P .lie j h p) ∙ within-same (x .level) level L (b .place j) (place-below j h p)
+      any-same : (j : ℕ) → j < b .jobs → any (n .benches) (hasAt (opens choice place goals j)) ≡ any (b .benches) (canPush b x j)
+      any-same j h =
+          ap (λ (k : ℕ). any k (hasAt (opens choice place goals j))) (R .benches)
+          ∙ any-cong (b .benches) (hasAt (opens choice place goals j)) (canPush b x j) (λ v l. push-same j v h l)
 
-      next-level : (j : ℕ) → j < b .jobs → b .pebble j ≡ true → roundOf b (x .level) (b .place j) ≤ b .benches
-          → plusOf (getD level (getD place j 0) 0) 1 ≡ suc (roundOf b (x .level) (b .place j))
-      next-level j h p low-level =
-          ap (λ (k : ℕ). plusOf k 1) (level-there j h p) ∙ plus-one (roundOf b (x .level) (b .place j)) (omega (arith, R .few-benches))
-
-      -- Where job j may not go, it meets PUSH nowhere.
-      needed : (j v : ℕ) → j < b .jobs → v < b .benches → canPush b x j v ≡ true → may j ≡ true
-      needed j v h l p =
-          let F : Pushed b x j v = push-allowed b x j v p in
-          let active : activated b x (b .place j) ≡ true = lt-ltb (roundOf b (x .level) (b .place j)) (suc (b .benches)) (omega (arith, F .one-higher, F .active)) in
-          let here : receiving b x v ≡ true = and-intro
-          (and-intro (lt-ltb (roundOf b (x .level) v) (suc (b .benches)) (omega (arith, F .active))) (le-leb (load b (x .dir) v) (b .limit) (F .load-low)))
-          (⊎-elim (λ q. or-left (lightFathers b x v) q) (λ q. or-right (leaf b x v) q) (F .leaf-or-light)) in
-          let next : plusOf (getD level (getD place j 0) 0) 1 ≡ roundOf b (x .level) v =
-          next-level j h (F .pebble) (omega (arith, F .one-higher, F .active)) ∙ sym (F .one-higher) in
-          and-intro (P .are j h ∙ F .pebble)
-          (and-intro (within-there j h (F .pebble) ∙ active)
-          (shares (getD allowed j 0) (getD wanted (plusOf (getD level (getD place j 0) 0) 1) 0) v (P .allow j v h l ∙ F .allowed)
-          (ap (λ (k : ℕ). isSet 64 (getD wanted k 0) v) next ∙ W .entries (roundOf b (x .level) v) v (omega (arith, F .active, R .few-benches)) l
-          ∙ and-intro (eq-eqb (roundOf b (x .level) v) (roundOf b (x .level) v) refl) here)))
-
-      meets-same : (j v : ℕ) → j < b .jobs → v < b .benches → may j ≡ true → meet j v ≡ canPush b x j v
-      meets-same j v h l m =
-          let shared : Bool = not (eqb (bitAnd (getD allowed j 0) (getD wanted (plusOf (getD level (getD place j 0) 0) 1) 0)) 0) in
-          let rest : Bool = withinAt (n .benches) level (getD place j 0) && shared in
-          let p : b .pebble j ≡ true = sym (P .are j h) ∙ and-left (getD pebble j false) rest m in
-          let active : activated b x (b .place j) ≡ true =
-          sym (within-there j h p) ∙ and-left (withinAt (n .benches) level (getD place j 0)) shared
-          (and-right (getD pebble j false) rest m) in
-          let next = next-level j h p (omega (arith, ltb-true (roundOf b (x .level) (b .place j)) (suc (b .benches)) active)) in
-          let set-same : hasAt (getD allowed j 0) v ≡ b .allows j v =
-          ap (λ (k : Bool). k && isSet 64 (getD allowed j 0) v) (le-leb v 63 (omega (arith, R .few-benches))) ∙ P .allow j v h l in
-          let eq = eqb (roundOf b (x .level) v) (suc (roundOf b (x .level) (b .place j))) in
-          let ll = leb (load b (x .dir) v) (b .limit) in
-          let lf = leaf b x v || lightFathers b x v in
-          ap₂ _&&_ (O .entries v l) (ap₂ _&&_ set-same (ap₂ eqb (L .entries v l) next))
-          ∙ regroup (b .allows j v) (activated b x v) eq ll lf
-          ∙ sym (ap (λ (k : Bool). ((((k && b .allows j v) && activated b x v) && eq) && ll) && lf) p)
-
-      abbrev goes : ℕ → Bool
-      goes j = goesAt (n .benches) pebble allowed place level opened wanted j
-
-      goes-same : (j : ℕ) → j < b .jobs → goes j ≡ any (b .benches) (canPush b x j)
-      goes-same j h = ⊎-elim
-          (λ m. ap₂ _&&_ m (ap (λ (k : ℕ). any k (meet j)) (R .benches) ∙ any-cong (b .benches) (meet j) (canPush b x j) (λ v l. meets-same j v h l m)))
-          (λ m. and-false-left (any (n .benches) (meet j)) m
-          ∙ sym (any-false (b .benches) (canPush b x j) (λ v l. implies-false (canPush b x j v) (needed j v h l) m)))
-          (split (may j))
-
-      pub push-none : (j v : ℕ) → j ≤ n .jobs → n .jobs ≤ j → ((i : ℕ) → i < j → goesAt (n .benches) pebble allowed place level opened wanted i ≡ false)
+      pub push-none : (j v : ℕ) → j ≤ n .jobs → n .jobs ≤ j → ((i : ℕ) → i < j → any (n .benches) (hasAt (opens choice place goals i)) ≡ false)
           → (j ≡ pushJob b x) × (j < b .jobs → v ≡ pushBench b x)
       push-none j v below past before =
           let e : j ≡ b .jobs = omega (arith, R .jobs) in (
             e ∙ sym
-                (least-none (b .jobs) (λ i. any (b .benches) (canPush b x i)) (λ i l. sym (goes-same i l) ∙ before i (omega arith))),
+                (least-none (b .jobs) (λ i. any (b .benches) (canPush b x i)) (λ i l. sym (any-same i l) ∙ before i (omega arith))),
             λ l. absurd (omega arith),
           )
 
-      pub push-found : (j v : ℕ) → j < n .jobs → v < n .benches → ((i : ℕ) → i < j → goesAt (n .benches) pebble allowed place level opened wanted i ≡ false) → mayGoAt (n .benches) pebble allowed place level wanted j ≡ true
-          → ((u : ℕ) → u < v → meetsAt allowed place level opened j u ≡ false) → meetsAt allowed place level opened j v ≡ true
+      pub push-found : (j v o : ℕ) {t : Bool} → j < n .jobs → v < n .benches → o ≡ opens choice place goals j
+          → ((i : ℕ) → i < j → any (n .benches) (hasAt (opens choice place goals i)) ≡ false)
+          → ((u : ℕ) → u < v → hasAt (opens choice place goals j) u ≡ false) → t ≡ hasAt o v → t ≡ true
           → (j ≡ pushJob b x) × (j < b .jobs → v ≡ pushBench b x)
-      push-found j v hj hv before m lower here =
+      push-found j v o hj hv eo before lower et here =
           let h : j < b .jobs = omega (arith, R .jobs) in
           let l : v < b .benches = omega (arith, R .benches) in
-          let push-here : canPush b x j v ≡ true = sym (meets-same j v h l m) ∙ here in
+          let push-here : canPush b x j v ≡ true = sym (push-same j v h l) ∙ ap (λ (k : ℕ). hasAt k v) (sym eo) ∙ sym et ∙ here in
           let job : j ≡ pushJob b x =
           sym (least-found (b .jobs) (λ i. any (b .benches) (canPush b x i)) j h (any-intro (b .benches) (canPush b x j) v l push-here)
-          (λ i k. sym (goes-same i (omega arith)) ∙ before i k)) in (
+          (λ i k. sym (any-same i (omega arith)) ∙ before i k)) in (
             job,
             λ k.
-                sym (least-found (b .benches) (canPush b x j) v l push-here (λ u s. sym (meets-same j u h (omega arith) m) ∙ lower u s))
+                sym (least-found (b .benches) (canPush b x j) v l push-here (λ u s. sym (push-same j u h (omega arith)) ∙ lower u s))
                 ∙ ap (λ (i : ℕ). least (b .benches) (canPush b x i)) job,
           )
-
--- ── a job that meets PUSH nowhere ──
-
-pub goes-not : (m : Bool) (k : ℕ) (f : ℕ → Bool) → m ≡ false → (m && any k f) ≡ false
-goes-not m k f e = and-false-left (any k f) e
-
-pub goes-nowhere : (m : Bool) (k v : ℕ) (f : ℕ → Bool) → k ≤ v → ((u : ℕ) → u < v → f u ≡ false) → (m && any k f) ≡ false
-goes-nowhere m k v f past none = and-false-right m (any-false k f (λ u l. none u (omega arith)))
-
-pub goes-more : (f : ℕ → Bool) (j : ℕ) → ((i : ℕ) → i < j → f i ≡ false) → f j ≡ false → (i : ℕ) → i < j + 1 → f i ≡ false
-goes-more f j before e i l = elim (last-or-below {i = i} {n = j} (omega arith)) [ inl same ↦ ap f same ∙ e | inr below ↦ before i below ]

@@ -24,7 +24,7 @@ use Rattle.algorithm.specs.Properties.{SoundBoard}
 use Rattle.run.specs.Arrays.{rocksOf, rockAt, Rocks}
 use Rattle.algorithm.specs.SoundDay.{SoundDay}
 use Rattle.run.specs.StartArrays.{lowestOf, highestOf, filled, Bounded, Fields, Placed}
-use Rattle.run.proofs.StartLaws.{getD-filled}
+use Rattle.run.proofs.FilledLaws.{getD-filled}
 use Rattle.run.proofs.StartRun.{gathered-ends}
 
 module _ (d : Day) (B : Bounded d) where

@@ -15,7 +15,7 @@ use lib.Dec.{eqb, ltb}
 use lib.Bits.{bitOr}
 use lib.Seq.{getD-set-same, getD-set-other}
 use borrow.Author.Tests.{lt-ltb, le-ltb, ltb-true, eq-eqb, ne-eqb, eqb-true}
-use Rattle.bools.proofs.BoolLaws.{bool-ext, and-intro, and-left, and-right, and-false-left, not-intro-true}
+use Rattle.bools.proofs.BoolLaws.{split, bool-ext, and-intro, and-left, and-right, and-false-left, and-false-right, not-intro-true, or-nothing}
 use Rattle.bools.proofs.OrderLaws.{eq-or-ne, lt-or-le}
 use Rattle.sums.specs.Search.{any}
 use Rattle.sums.proofs.SearchLaws.{any-intro, any-elim, any-none, any-false}
@@ -36,10 +36,6 @@ use Rattle.run.proofs.ForcedRun.{plus-one}
 use Rattle.run.proofs.ExploreLaws.{cond-no, isSet-or, isSet-zero}
 use Rattle.run.proofs.ConflictRun.{within-same}
 use Rattle.run.proofs.RoundSets.{Raised, Sets}
-
-or-none : (a : Bool) → a ≡ (a || false)
-or-none true = refl
-or-none false = refl
 
 -- ── the benches that the pebbles allow ──
 
@@ -79,7 +75,7 @@ module _ (b : Board) (pebble : List Bool) (allowed place from : List ℕ) (j : �
           | inr ne ↦
               let away : lies b u v j ≡ false = rw (p, ne-eqb (b .place j) u (λ q. ne (sym (P .lie j h p ∙ q)))) in
               ap (λ (x : ℕ). isSet 64 x v) (getD-set-other from there u more 0 ne) ∙ F .entries u v hu hv
-              ∙ or-none (any j (lies b u v)) ∙ ap (λ (x : Bool). any j (lies b u v) || x) (sym away)
+              ∙ sym (or-nothing (any j (lies b u v))) ∙ ap (λ (x : Bool). any j (lies b u v) || x) (sym away)
         ];
       }
 
@@ -89,7 +85,7 @@ module _ (b : Board) (pebble : List Bool) (allowed place from : List ℕ) (j : �
         room = F .room;
         entries = λ u v hu hv.
             let away : lies b u v j ≡ false = rw p in
-            F .entries u v hu hv ∙ or-none (any j (lies b u v)) ∙ ap (λ (x : Bool). any j (lies b u v) || x) (sym away);
+            F .entries u v hu hv ∙ sym (or-nothing (any j (lies b u v))) ∙ ap (λ (x : Bool). any j (lies b u v) || x) (sym away);
       }
 
   filled-added : (c : Bool) → c ≡ b .pebble j → Filled b (suc j) (cond c (set from there more) from)
@@ -112,13 +108,12 @@ module _ (b : Board) (sound : SoundBoard b) (few : b .benches ≤ 64) (i : ℕ) 
   level-at u h e = let q = Y .entries u h in omega (arith, e, q)
 
   -- The benches of the level before i are in the set `fresh`.
-  reach-shows : (reach fresh : ℕ) → ((v : ℕ) → v < 64 → isSet 64 reach v ≡ any 64 (λ u. isSet 64 fresh u && isSet 64 (getD from u 0) v))
-      → ((u : ℕ) → u < 64 → isSet 64 fresh u ≡ (ltb u (b .benches) && eqb (plusOf (getD level u 0) 1) i))
-      → (v : ℕ) → v < b .benches → isSet 64 reach v ≡ inReach b i ys v
-  reach-shows reach fresh er ef v hv =
+  reach-shows : (reach fresh : ℕ) → ((u : ℕ) → u < 64 → isSet 64 fresh u ≡ (ltb u (b .benches) && eqb (plusOf (getD level u 0) 1) i))
+      → (v : ℕ) → v < b .benches → isSet 64 reach v ≡ any 64 (λ u. isSet 64 fresh u && isSet 64 (getD from u 0) v) → isSet 64 reach v ≡ inReach b i ys v
+  reach-shows reach fresh ef v hv er =
       let near : ℕ → Bool = λ j. b .pebble j && b .allows j v && eqb (suc (roundOf b ys (b .place j))) i in
       let meets : ℕ → Bool = λ u. isSet 64 fresh u && isSet 64 (getD from u 0) v in
-      er v (omega arith)
+      er
       ∙ bool-ext (any 64 meets) (inReach b i ys v)
       (λ p.
       let (u, h, q) = any-elim 64 meets p in
@@ -164,16 +159,24 @@ module _ (b : Board) (n : Limits) (low high weight : List ℕ) (R : Rocks b n lo
   module _ (i : ℕ) (x : Explored) (all active reach opened fresh wait : ℕ) (dir load joined level joined′ level′ : List ℕ)
       (S : Sets n low high weight i all dir load joined level active fresh wait) (O : Raised n i all active reach load joined level opened joined′ level′)
       (L : Loaded b (x .dir) load) (X : Rounds b (x .joined) joined) (Y : Rounds b (x .level) level)
-      (reached : (v : ℕ) → v < b .benches → isSet 64 reach v ≡ inReach b i (x .level) v) where
+      (reached : (v : ℕ) → v < b .benches → isSet 64 active v ≡ false → isSet 64 reach v ≡ inReach b i (x .level) v) where
+    -- Of a bench that is activated it does not matter whether it is in reach.
+    reached-new : (v : ℕ) → v < b .benches → (isSet 64 reach v && not (isSet 64 active v)) ≡ (not (activated b x v) && inReach b i (x .level) v)
+    reached-new v h =
+        let same : isSet 64 active v ≡ activated b x v = S .actives v (omega (arith, R .benches)) ∙ within-same b n low high weight R (x .level) level Y v h in
+        elim (split (isSet 64 active v)) [
+          | inl p ↦ and-false-right (isSet 64 reach v) (ap not p) ∙ sym (and-false-left (inReach b i (x .level) v) (ap not (sym same ∙ p)))
+          | inr p ↦
+              ap₂ (λ (p q : Bool). p && not q) (reached v h p) same ∙ and-swap (inReach b i (x .level) v) (not (activated b x v))
+        ]
+
     opens-inside : (v : ℕ) → v < b .benches → opensAt n i all active reach load v ≡ typeA b i x v
     opens-inside v h =
         let l : v < n .benches = omega (arith, R .benches) in
         let t : ltb v (n .benches) ≡ true = lt-ltb v (n .benches) l in
         ap₂ (λ (p q : Bool). cond (eqb i 0) p q)
         (ap₂ (λ (p q : Bool). p && q) t (ap₂ ltb (R .bound) (L .entries v h)))
-        (ap₂ (λ (p q : Bool). p && q) (S .alls v (omega (arith, R .few-benches)) ∙ t)
-        (ap₂ (λ (p q : Bool). p && not q) (reached v h) (S .actives v l ∙ within-same b n low high weight R (x .level) level Y v h)
-        ∙ and-swap (inReach b i (x .level) v) (not (activated b x v))))
+        (ap₂ (λ (p q : Bool). p && q) (S .alls v (omega (arith, R .few-benches)) ∙ t) (reached-new v h))
         ∙ sym (type-a i b x v)
 
     opens-same : (v : ℕ) → v < 64 → isSet 64 opened v ≡ (ltb v (b .benches) && typeA b i x v)
@@ -334,16 +337,20 @@ module _ (b : Board) (n : Limits) (low high weight : List ℕ) (R : Rocks b n lo
       subst (λ (x : Explored). Shown b x dir loads joined level)
       (sym (E .same ∙ ap (λ (k : ℕ). rounds k b i (E .now-x)) none ∙ rounds-none b i (E .now-x))) (E .shown)
 
-  module _ {i turns all active reach fresh wait opened : ℕ} {from dir loads joined level joined′ level′ : List ℕ} (T : Reaches b from)
+  module _ (idle : ℕ) {i turns all active reach fresh wait opened : ℕ} {from dir loads joined level joined′ level′ : List ℕ} (T : Reaches b from)
       (E : Exploring i dir loads joined level) (in-time : i < turns) (bound : turns ≡ plusOf (n .benches) 1)
-      (e : (v : ℕ) → v < 64 → isSet 64 reach v ≡ any 64 (λ u. isSet 64 fresh u && isSet 64 (getD from u 0) v))
+      (ei : (v : ℕ) → isSet 64 idle v ≡ (isSet 64 all v && not (isSet 64 active v)))
+      (e : (v : ℕ) → v < 64 → isSet 64 idle v ≡ true → isSet 64 reach v ≡ any 64 (λ u. isSet 64 fresh u && isSet 64 (getD from u 0) v))
       (S : Sets n low high weight i all dir loads joined level active fresh wait) (O : Raised n i all active reach loads joined level opened joined′ level′) where
     opened-now : Begun b i (E .now-x) opened joined′ level′
     opened-now =
         begun b n low high weight R i (E .now-x) all active reach opened fresh wait dir loads joined level joined′ level′ S O
         (E .shown .seen .loaded) (E .shown .joined) (E .shown .level)
-        (reach-shows b (R .sound) (R .few-benches) i (omega (arith, bound, R .benches)) from (E .now-x .level) level T (E .shown .level) reach fresh e
-        (λ u h. S .freshly u h ∙ ap (λ (m : ℕ). ltb u m && eqb (plusOf (getD level u 0) 1) i) (R .benches)))
+        (λ v h out.
+        let small : v < 64 = omega (arith, R .few-benches) in
+        reach-shows b (R .sound) (R .few-benches) i (omega (arith, bound, R .benches)) from (E .now-x .level) level T (E .shown .level) reach fresh
+        (λ u h. S .freshly u h ∙ ap (λ (m : ℕ). ltb u m && eqb (plusOf (getD level u 0) 1) i) (R .benches)) v h
+        (e v small (ei v ∙ and-intro (S .alls v small ∙ lt-ltb v (n .benches) (omega (arith, R .benches))) (not-intro-true out))))
 
     pub exploring-joined : Rounds b (openedJoined b i (E .now-x)) joined′
     exploring-joined = opened-now .joined

@@ -16,12 +16,14 @@ use lib.Dec.{eqb, leb, ltb}
 use borrow.Author.Tests.{lt-ltb, le-ltb, eq-eqb, ne-eqb, eqb-true, le-leb, ltb-true}
 use Rattle.bools.proofs.BoolLaws.{split, clash, tests, and-intro, and-left, and-right, and-false-left, and-false-right, or-left, or-right, or-elim, not-intro-true, not-true}
 use Rattle.bools.proofs.OrderLaws.{eq-or-ne, lt-or-le}
+use Rattle.sums.specs.Search.{any}
+use Rattle.sums.proofs.SearchLaws.{any-intro}
 use Rattle.bits.specs.Bits.{isSet}
 use Rattle.bits.proofs.SetBits.{isSet-zero}
 use Rattle.run.specs.declared.rocks.Limits.{Limits}
 use Rattle.run.specs.Arrays.{plusOf, touchesAt, otherAt, withinAt, fatherAt}
 use Rattle.run.specs.ExploreArrays.{joinsAt, fakeAt, opensAt}
-use Rattle.run.specs.SetArrays.{Covers, Nowhere, forcesAt, Grew, Waits}
+use Rattle.run.specs.SetArrays.{Mapped, Covers, Nowhere, forcesAt, Grew, Waits}
 use Rattle.run.proofs.ArrayLaws.{other-at-low, other-at-high}
 use Rattle.run.proofs.SetLaws.{or-isSet}
 
@@ -183,11 +185,10 @@ module _ (n : Limits) (low high weight : List ℕ) where
             clash q (within-of (n .benches) joined′ joined v (entered-at v h ∙ cond-false i (getD joined v 0) out) ∙ p)
       ]
 
-      pub joins-covered : (cand : ℕ) → n .rocks ≤ 64
-          → ((r u : ℕ) → r < n .rocks → r < 64 → u < 64 → otherAt low high r u < 64 → touchesAt low high r u ≡ true → isSet 64 opened u ≡ true
-          → isSet 64 cand (otherAt low high r u) ≡ true)
+      pub joins-covered : (here near : List ℕ) (stony cand : ℕ) → n .rocks ≤ 64 → Mapped n low high here near all stony
+          → ((w : ℕ) → w < 64 → isSet 64 stony w ≡ true → isSet 64 cand w ≡ any 64 (λ u. isSet 64 opened u && isSet 64 (getD near u 0) w))
           → Covers n low high (joinsAt (n .benches) low high dir joined′) cand
-      joins-covered cand narrow near r v h t p =
+      joins-covered here near stony cand narrow M reached r v h t p =
           let u = otherAt low high r v in
           let (tu, back) = other-back low high r v t in
           let hv : v < n .benches = end-below low high (n .benches) r v (ends r h) t in
@@ -200,11 +201,15 @@ module _ (n : Limits) (low high weight : List ℕ) where
             | inr q ↦ q
             | inl q ↦ clash (and-intro (not-intro-true out) (and-intro aims q)) (S .joins r v h t)
           ] in
-          subst (λ (k : ℕ). isSet 64 cand k ≡ true) back
-          (near r u h (omega arith) (omega arith) (subst (λ (k : ℕ). k < 64) (sym back) (omega arith)) tu (came-in u hu before inside))
+          let small : v < 64 = omega arith in
+          let close : isSet 64 (getD near u 0) v ≡ true =
+          subst (λ (k : ℕ). isSet 64 (getD near u 0) k ≡ true) back (M .ends r u h (omega arith) (omega arith) tu (subst (λ (k : ℕ). k < 64) (sym back) small)) in
+          reached v small (M .stones r v h (omega arith) small t)
+          ∙ any-intro 64 (λ k. isSet 64 opened k && isSet 64 (getD near k 0) v) u (omega arith) (and-intro (came-in u hu before inside) close)
 
-      pub fakes-covered : Covers n low high (fakeAt (n .benches) dir joined′) opened
-      fakes-covered r v h t p =
+      pub fakes-covered : (here near : List ℕ) (stony fakes : ℕ) → n .rocks ≤ 64 → Mapped n low high here near all stony
+          → ((w : ℕ) → isSet 64 fakes w ≡ (isSet 64 opened w && isSet 64 stony w)) → Covers n low high (fakeAt (n .benches) dir joined′) fakes
+      fakes-covered here near stony fakes narrow M both r v h t p =
           let hv : v < n .benches = end-below low high (n .benches) r v (ends r h) t in
           let idle = and-left (eqb (getD dir r 0) 0) (withinAt (n .benches) joined′ v) p in
           let inside = and-right (eqb (getD dir r 0) 0) (withinAt (n .benches) joined′ v) p in
@@ -212,7 +217,7 @@ module _ (n : Limits) (low high weight : List ℕ) where
             | inr q ↦ q
             | inl q ↦ clash (and-intro idle q) (S .fakes r v h t)
           ] in
-          came-in v hv before inside
+          both v ∙ and-intro (came-in v hv before inside) (M .stones r v h (omega arith) (omega arith) t)
 
       module _ (grown rest asked : ℕ) (joined″ : List ℕ) (G : Grew n joined′ joined″ grown)
           (er : (v : ℕ) → isSet 64 rest v ≡ (isSet 64 (bitOr wait grown) v && not (isSet 64 opened v)))

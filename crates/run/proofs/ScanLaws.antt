@@ -1,21 +1,21 @@
 -- One pass over the rocks finds the lowest bench, and then the lowest job, that a definition asks for.
 --     lowest-least     the lowest end that P holds of is the least bench at which some rock has P
---     board-lowest     the same, over the jobs of a board
+--     board-any        some rock at a bench has P: some job there has Q
+--     board-lowest     lowest-least over the jobs of a board
 --     board-first      the first rock at a bench is the lowest job there
-use Prim.Native.Nat.{ℕ, zero, suc, _+_, _≤_, _<_}
+use Prim.Native.Nat.{ℕ, zero, suc, _≤_, _<_}
 use mathlib.Core.Path.{_≡_, refl, sym, ap, subst, _∙_}
-use mathlib.Core.Bool.{Bool, true, false, cond, _&&_, _||_}
+use mathlib.Core.Bool.{Bool, true, false, _&&_, _||_}
 use mathlib.Core.Logic.{_⊎_, inl, inr, ⊎-elim}
 use mathlib.Core.List.{List}
 use native.Mathlib.Omega.{arith}
 use lib.ListN.{getD}
 use lib.Dec.{eqb, ltb}
 use borrow.Author.Tests.{eq-eqb, eqb-true}
-use Rattle.bools.proofs.BoolLaws.{split, clash, tests, and-intro, and-left, and-right, and-false-left, or-left, or-right, or-elim, or-false, bool-ext}
+use Rattle.bools.proofs.BoolLaws.{split, clash, tests, and-intro, and-left, and-right, or-left, or-right, or-elim}
 use Rattle.bools.proofs.OrderLaws.{last-or-below}
 use Rattle.sums.specs.Search.{any, least}
-use Rattle.sums.specs.Members.{members}
-use Rattle.sums.proofs.SearchLaws.{any-intro, any-elim, any-false, any-cong, any-least, least-le, least-found, least-none, least-holds, least-before, least-cong}
+use Rattle.sums.proofs.SearchLaws.{any-cong, any-least, least-found, least-none, least-holds, least-before, least-cong}
 use Rattle.sums.proofs.MembersLaws.{member-below, member-holds, any-members, least-members-at}
 use Rattle.run.specs.declared.rocks.Limits.{Limits}
 use Rattle.algorithm.specs.Board.{Board, touches}
@@ -146,8 +146,8 @@ module _ (b : Board) (n : Limits) (low high weight : List ℕ) (R : Rocks b n lo
               let s : (eqb v (b .low (rockAt b r)) || eqb v (b .high (rockAt b r))) ≡ false = sym inside ∙ p in rw (q, s)
         ]
 
-    any-same : (v : ℕ) → v < b .benches → any (n .rocks) (λ r. touchesAt low high r v && P r v) ≡ any (b .jobs) (there v)
-    any-same v l =
+    pub board-any : (v : ℕ) → v < b .benches → any (n .rocks) (λ r. touchesAt low high r v && P r v) ≡ any (b .jobs) (there v)
+    board-any v l =
         rw (R .rocks)
         (any-cong (rocksOf b) (λ r. touchesAt low high r v && P r v) (λ r. ends v (rockAt b r)) (λ r h. at-same v r l h)
         ∙ sym (any-members (b .jobs) (b .rock) (ends v) 0)
@@ -158,7 +158,7 @@ module _ (b : Board) (n : Limits) (low high weight : List ℕ) (R : Rocks b n lo
         rw (R .benches)
         (lowest-least (b .benches) low high P (n .rocks)
         (λ r h. let l : r < rocksOf b = omega (arith, R .rocks) in (low-below r l, high-below r l))
-        ∙ least-cong (b .benches) (λ v. any (n .rocks) (λ r. touchesAt low high r v && P r v)) (λ v. any (b .jobs) (there v)) any-same)
+        ∙ least-cong (b .benches) (λ v. any (n .rocks) (λ r. touchesAt low high r v && P r v)) (λ v. any (b .jobs) (there v)) board-any)
 
     pub board-first : (v : ℕ) → v < b .benches → any (b .jobs) (there v) ≡ true
         → (r : ℕ) → r ≡ least (n .rocks) (λ i. touchesAt low high i v && P i v) → (r < rocksOf b) × (rockAt b r ≡ least (b .jobs) (there v))
@@ -166,7 +166,7 @@ module _ (b : Board) (n : Limits) (low high weight : List ℕ) (R : Rocks b n lo
         let k = rocksOf b in
         let near : ℕ → Bool = λ i. touchesAt low high i v && P i v in
         let first : r ≡ least k near = e ∙ ap (λ (m : ℕ). least m near) (R .rocks) in
-        let found : r < k = subst (λ (m : ℕ). m < k) (sym first) (any-least k near (subst (λ (m : ℕ). any m near ≡ true) (R .rocks) (any-same v l ∙ some))) in
+        let found : r < k = subst (λ (m : ℕ). m < k) (sym first) (any-least k near (subst (λ (m : ℕ). any m near ≡ true) (R .rocks) (board-any v l ∙ some))) in
         let holds : near r ≡ true = subst (λ (m : ℕ). near m ≡ true) (sym first) (least-holds k near (subst (λ (m : ℕ). m < k) first found)) in (
           found,
           sym

@@ -17,7 +17,7 @@ use borrow.Author.Tests.{ne-eqb, lt-ltb, ltb-true}
 use Rattle.bools.proofs.BoolLaws.{split, clash, and-intro, and-left, and-right, and-false-left, and-false-right, not-intro-true, or-left, or-right, bool-ext}
 use Rattle.bools.proofs.OrderLaws.{eq-or-ne}
 use Rattle.sums.specs.Search.{any, least}
-use Rattle.sums.proofs.SearchLaws.{any-elim, any-false, any-intro, any-least, least-found, least-none}
+use Rattle.sums.proofs.SearchLaws.{any-elim, any-intro, any-least, least-found, least-none}
 use Rattle.bits.specs.Bits.{isSet}
 use Rattle.bits.proofs.SetBits.{isSet-zero, any-isSet}
 use Rattle.run.specs.StartArrays.{lowestOf}
@@ -165,3 +165,11 @@ module _ (all : ℕ) (from : List ℕ) where
       let (u, h, q) = any-elim 64 (meets v) p in
       J .has v u h (and-left (isSet 64 all u) (isSet 64 (getD from u 0) v) q) (ap (λ (m : ℕ). isSet 64 m u) e ∙ isSet-zero 64 u)
       (and-right (isSet 64 all u) (isSet 64 (getD from u 0) v) q))
+
+  -- Where none of the set `full` is left to be reached, the entries that are left add nothing to it.
+  pub joined-full : (left reach full rest : ℕ) → Joined left reach → ((u : ℕ) → isSet 64 rest u ≡ (isSet 64 full u && not (isSet 64 reach u))) → rest ≡ 0
+      → (v : ℕ) → isSet 64 full v ≡ true → isSet 64 reach v ≡ any 64 (λ u. isSet 64 all u && isSet 64 (getD from u 0) v)
+  joined-full left reach full rest J same none v h = elim (split (isSet 64 reach v)) [
+    | inl p ↦ p ∙ sym (J .only v p)
+    | inr p ↦ clash (same v ∙ and-intro h (not-intro-true p)) (ap (λ (m : ℕ). isSet 64 m v) none ∙ isSet-zero 64 v)
+  ]

@@ -1,8 +1,6 @@
 -- Laws of the numbers and lists that a day is put into (StartArrays).
 --     times-fits, times-exact        products of small numbers
 --     leading-least, trailing-least  zeros before the first and behind the last bench of a set
---     filled-more, filled-end        one more entry of a list that is being filled, and all of them
---     getD-filled, filled-rest, length-filled     its entries
 --     member-at                      the place of a member
 --     choices-are, lowest-is, highest-is, heavy-is, rock-is, pebble-is, weight-is     a job's numbers are those of the day
 --     bound-is, small-is, limit-is   so are the limits
@@ -17,8 +15,7 @@ use mathlib.Core.List.{List}
 use native.Mathlib.Nat.{mul-le-mul, pow-suc, eq-zero-or-pos, div-lt-iff-lt-mul, div-one}
 use native.Mathlib.Numerals.{add-one}
 use native.Mathlib.Omega.{arith}
-use lib.ListN.{length, getD, set, length-set}
-use lib.Seq.{getD-set-same, getD-set-other}
+use lib.ListN.{length, getD, set}
 use lib.Dec.{eqb, leb, ltb}
 use lib.Bits.{bitOr, or-step, or-shr}
 use lib.Pow.{pow-mono, pow-pos, pow-lt, pow-add, shl-shr, shr-shr}
@@ -35,6 +32,7 @@ use Rattle.sums.proofs.MembersLaws.{member-early, member-last}
 use Rattle.bits.specs.Bits.{isSet}
 use Rattle.bits.proofs.SetBits.{isSet-zero, count-isSet}
 use Rattle.run.specs.Arrays.{plusOf}
+use Rattle.run.proofs.FilledLaws.{filled-none, filled-more, length-filled}
 use Rattle.run.specs.StartArrays.{timesOf, choicesOf, lowestOf, highestOf, heavyOf, rockOf, pebbleOf, limitsOf, filled, Bounded, Fields}
 use Rattle.algorithm.specs.Day.{Day, choices, heavy, rock, pebble, lowest, highest, weight, bound, small, limit}
 use Rattle.algorithm.specs.SoundDay.{SoundDay}
@@ -126,37 +124,6 @@ lowest-leading a h = leading-least 64 a h
 pub highest-trailing : (a : ℕ) → 63 - trailingZeros 64 a ≡ highestOf a
 unfolding highestOf
 highest-trailing a = ap (λ (k : ℕ). 63 - k) (trailing-set 63 a)
-
--- ── lists that are filled ──
-
-module _ {ℓ} {A : Type ℓ} (f : ℕ → A) where
-  pub filled-none : (xs : List A) → xs ≡ filled 0 f xs
-  unfolding filled
-  filled-none xs = refl
-
-  pub filled-more : (n : ℕ) (xs : List A) {ys zs : List A} {a : A} → ys ≡ filled n f xs → a ≡ f n → zs ≡ set ys n a → zs ≡ filled (n + 1) f xs
-  unfolding filled
-  filled-more n xs e p q = rw add-one (q ∙ ap₂ (λ (k : List A) (b : A). set k n b) e p)
-
-  pub length-filled : (n : ℕ) (xs : List A) → length (filled n f xs) ≡ length xs
-  unfolding filled
-  length-filled zero xs = refl
-  length-filled (suc n) xs = length-set (filled n f xs) n (f n) ∙ length-filled n xs
-
-  pub getD-filled : (n : ℕ) (xs : List A) (i : ℕ) (d : A) → i < n → i < length xs → getD (filled n f xs) i d ≡ f i
-  unfolding filled
-  getD-filled zero xs i d h l = absurd (omega arith)
-  getD-filled (suc n) xs i d h l = elim (last-or-below {i = i} {n = n} h) [
-    | inl e ↦
-        subst (λ (k : ℕ). getD (set (filled n f xs) n (f n)) k d ≡ f k) (sym e)
-        (getD-set-same (filled n f xs) n (f n) d (omega (arith, length-filled n xs)))
-    | inr b ↦ getD-set-other (filled n f xs) n i (f n) d (λ e. omega arith) ∙ getD-filled n xs i d b l
-  ]
-
-  pub filled-rest : (n : ℕ) (xs : List A) (i : ℕ) (d : A) → n ≤ i → getD (filled n f xs) i d ≡ getD xs i d
-  unfolding filled
-  filled-rest zero xs i d h = refl
-  filled-rest (suc n) xs i d h = getD-set-other (filled n f xs) n i (f n) d (λ e. omega arith) ∙ filled-rest n xs i d (omega arith)
 
 -- ── members ──
 
@@ -286,9 +253,6 @@ module _ (d : Day) (B : Bounded d) where
       ∙ times-exact (5 * d .q - 2 * d .p) (d .target) (omega arith) (omega arith)
 
 -- ── loops ──
-
-pub filled-end {ℓ} : {A : Type ℓ} (f : ℕ → A) (n i : ℕ) (xs : List A) {ys : List A} → i ≤ n → n ≤ i → ys ≡ filled i f xs → ys ≡ filled n f xs
-filled-end f n i xs a b e = let same : i ≡ n = omega arith in e ∙ ap (λ (k : ℕ). filled k f xs) same
 
 pub count-yes : (f : ℕ → Bool) (r : ℕ) {k l : ℕ} {t : Bool} → r < 2 ^ 64 - 1 → k ≡ count r f → t ≡ f r → t ≡ true → l ≡ plusOf k 1 → l ≡ count (r + 1) f
 count-yes f r {k} h e p q s =

@@ -36,7 +36,8 @@ use Rattle.run.specs.Arrays.{touchesAt}
 use Rattle.run.specs.StartArrays.{timesOf, lowestOf, highestOf, rockOf, pebbleOf, filled, Fields, dayRocks, dayRock, DayRocks, JobsOf, Cycles, Placed}
 use Rattle.run.specs.StartArrays.{leftRock, leftCount, hangingOf}
 use Rattle.algorithm.proofs.RockLaws.{low-allowed, high-allowed, allowed-end}
-use Rattle.run.proofs.StartLaws.{getD-filled, length-filled, lowest-is, highest-is, rock-is, pebble-is, weight-is}
+use Rattle.run.proofs.FilledLaws.{getD-filled, length-filled}
+use Rattle.run.proofs.StartLaws.{lowest-is, highest-is, rock-is, pebble-is, weight-is}
 
 left-and : (l a r : Bool) → (l ≡ true → r ≡ true) → (l && a) ≡ (r && (a && l))
 left-and true true r h = sym (ap (λ (x : Bool). x && true) (h refl))

@@ -2,13 +2,13 @@
 --     within-leb, congested-shown     the test of the levels is whether a bench is overloaded
 --     push-moves, push-stays          what a push makes of the state
 --     Turning                         what the loop of the turns keeps; how it goes on, and how it ends
-use Prim.Native.Nat.{ℕ, suc, _+_, _-_, _*_, _≤_, _<_, _^_}
+use Prim.Native.Nat.{ℕ, suc, _+_, _-_, _*_, _%_, _≤_, _<_, _^_}
 use mathlib.Core.Path.{_≡_, refl, sym, ap, subst, _∙_}
 use mathlib.Core.Bool.{Bool, true, false}
 use mathlib.Core.Logic.{inl, inr, _≢_}
 use mathlib.Core.List.{List}
 use native.Mathlib.Omega.{arith}
-use native.Mathlib.Nat.{mul-le-mul}
+use native.Mathlib.Nat.{mul-le-mul, mod-eq-of-lt}
 use lib.ListN.{length, getD, set, replicate, length-set, length-replicate, getD-replicate}
 use lib.Dec.{leb, ltb}
 use lib.Seq.{getD-set-same, getD-set-other}
@@ -30,15 +30,15 @@ use Rattle.algorithm.specs.Run.{boardOf, explored, congested, canMove, nextStat
 use Rattle.algorithm.specs.States.{Reached, by-move}
 use Rattle.run.specs.Arrays.{plusOf, withinAt, rocksOf, Rocks, Owned, Rounds, Pebbles}
 use Rattle.run.specs.ExploreArrays.{Reaches}
-use Rattle.run.specs.PushArrays.{Openings, Wanted}
+use Rattle.run.specs.PushArrays.{Wanted, Goals, Choices}
 use Rattle.run.specs.Shown.{Shown}
 use Rattle.run.specs.Held.{amountOn, Ready, Held, Pushed, a-move, no-move, Last}
 use Rattle.algorithm.proofs.PushLaws.{push-allowed}
-use Rattle.algorithm.proofs.Budget.{turns-spent, turns-move, turns-stop}
+use Rattle.algorithm.proofs.Budget.{turns-move, turns-stop}
 use Rattle.algorithm.proofs.DayFacts.{reached-run}
 use Rattle.run.proofs.ForcedRun.{plus-one}
-use Rattle.run.specs.KeptArrays.{shiftedOf, ReachShifted}
-use Rattle.run.proofs.KeptRun.{moved-owned, moved-reach}
+use Rattle.run.specs.KeptArrays.{shiftedOf, ReachShifted, Chosen}
+use Rattle.run.proofs.KeptRun.{moved-owned, moved-reach, held-choices}
 use Rattle.run.proofs.HeldLaws.{held-good, held-rocks, held-pebbles, held-owned, few-rocks}
 
 within-leb : (k m : ℕ) → leb k m ≡ ltb k (suc m)
@@ -82,20 +82,19 @@ module _ (d : Day) (n : Limits) (low high weights amount : List ℕ) (pebbles : 
     oriented-pebbles = held-pebbles d n low high weights amount pebbles allowed R m s left place H
 
     -- The first pair, from what the three functions of the search promise.
-    pub push-found-at : {own dir loads rounds levels : List ℕ} → Owned (boardOf d s) own → Shown (boardOf d s) (explored d s) dir loads rounds levels
-        → (opened : List Bool) (wanted : List ℕ) {job bench : ℕ}
+    pub push-found-at : (choice : List ℕ) → Chosen (n .jobs) pebbles allowed choice → {own dir loads rounds levels : List ℕ} → Owned (boardOf d s) own
+        → Shown (boardOf d s) (explored d s) dir loads rounds levels → (wanted goals : List ℕ) {job bench : ℕ}
         → (Rocks (boardOf d s) n low high weights → Owned (boardOf d s) own → Shown (boardOf d s) (explored d s) dir loads rounds levels
-        → d .benches ≤ length (replicate 64 false) → Openings (boardOf d s) (explored d s) opened)
+        → replicate {A = ℕ} 66 0 ≡ replicate {A = ℕ} 66 0 → Wanted (boardOf d s) (explored d s) wanted)
         → ((low′ high′ weights′ : List ℕ) → Rocks (boardOf d s) n low′ high′ weights′ → Rounds (boardOf d s) (explored d s .level) levels
-        → Openings (boardOf d s) (explored d s) opened → replicate {A = ℕ} 66 0 ≡ replicate {A = ℕ} 66 0 → Wanted (boardOf d s) (explored d s) wanted)
-        → ((low′ high′ weights′ : List ℕ) → Rocks (boardOf d s) n low′ high′ weights′ → Pebbles (boardOf d s) pebbles allowed place
-        → Rounds (boardOf d s) (explored d s .level) levels → Openings (boardOf d s) (explored d s) opened → Wanted (boardOf d s) (explored d s) wanted
+        → Wanted (boardOf d s) (explored d s) wanted → d .benches ≤ length (replicate {A = ℕ} 64 0) → Goals (boardOf d s) (explored d s) goals)
+        → ((low′ high′ weights′ : List ℕ) → Rocks (boardOf d s) n low′ high′ weights′ → Choices (boardOf d s) choice place → Goals (boardOf d s) (explored d s) goals
         → (job ≡ pushJob (boardOf d s) (explored d s)) × (job < d .jobs → bench ≡ pushBench (boardOf d s) (explored d s)))
         → (job ≡ pushJob (boardOf d s) (explored d s)) × (job < d .jobs → bench ≡ pushBench (boardOf d s) (explored d s))
-    push-found-at O X opened wanted receive want find =
+    push-found-at choice C O X wanted goals want aim find =
         let rocks = held-rocks d n low high weights amount pebbles allowed R m s left place H in
-        let open-benches = receive rocks O X (omega (arith, length-replicate {A = Bool} 64 false, R .few-benches)) in
-        find low high weights rocks oriented-pebbles (X .level) open-benches (want low high weights rocks (X .level) open-benches refl)
+        let goals-are = aim low high weights rocks (X .level) (want rocks O X refl) (omega (arith, length-replicate {A = ℕ} 64 0, R .few-benches)) in
+        find low high weights rocks (held-choices d n low high weights amount pebbles allowed R m s left place H choice C) goals-are
 
   -- ── a push ──
 
@@ -113,14 +112,15 @@ module _ (d : Day) (n : Limits) (low high weights amount : List ℕ) (pebbles : 
       let (v, l, p) = any-elim (d .benches) (canPush b x (pushJob b x)) (least-holds (d .jobs) (λ j. any (d .benches) (canPush b x j)) h) in
       and-intro (any-intro (d .benches) (activated b x) v l (lt-ltb (roundOf b (x .level) v) (never b) (omega (arith, push-allowed b x (pushJob b x) v p .active)))) (lt-ltb (pushJob b x) (d .jobs) h)
 
-  pub push-moves : (m : ℕ) (s : State) (before after : Kept) → Held d m s (before .left) (before .place) → before .moves ≡ m
+  pub push-moves : (choice : List ℕ) → Chosen (n .jobs) pebbles allowed choice
+      → (m : ℕ) (s : State) (before after : Kept) → Held d m s (before .left) (before .place) → before .moves ≡ m
       → Owned (boardOf d s) (before .own) → Reaches (boardOf d s) (before .from) → length (before .own) ≡ 64 → length (before .from) ≡ 64
       → (job bench : ℕ) → job ≡ pushJob (boardOf d s) (explored d s) → (job < d .jobs → bench ≡ pushBench (boardOf d s) (explored d s)) → job < n .jobs
-      → after .left ≡ before .left → after .place ≡ set (before .place) job bench → after .moves ≡ plusOf (before .moves) 1
-      → after .own ≡ shiftedOf (before .own) (getD (before .place) job 0) bench (getD amount job 0)
-      → ReachShifted (n .jobs) pebbles allowed (after .place) (before .from) (getD (before .place) job 0) bench job (after .from)
+      → after .left ≡ before .left → after .place ≡ set (before .place) job (bench % 256) → after .moves ≡ plusOf (before .moves) 1
+      → {u : ℕ} → u ≡ getD (before .place) job 0 → after .own ≡ shiftedOf (before .own) u bench (getD amount job 0)
+      → ReachShifted (n .jobs) choice (after .place) (before .from) u bench job (after .from)
       → Pushed d m s before after
-  push-moves m s before after H made O F so sf job bench ej eb below l p q eo S =
+  push-moves choice C m s before after H made O F so sf job bench ej eb below l p₀ q {u} eu eo₁ S₁ =
       let b = boardOf d s in
       let x = explored d s in
       let j = pushJob b x in
@@ -131,6 +131,8 @@ module _ (d : Day) (n : Limits) (low high weights amount : List ℕ) (pebbles : 
       let bench-is = eb h in
       let some = least-holds (d .jobs) (λ i. any (d .benches) (canPush b x i)) found in
       let benched : v < d .benches = any-least (d .benches) (canPush b x j) some in
+      let p : after .place ≡ set (before .place) job bench =
+      p₀ ∙ ap (set (before .place) job) (mod-eq-of-lt (let few : bench < 256 = omega (arith, bench-is, benched, R .few-benches) in few)) in
       let allowed-push = push-allowed b x j v (least-holds (d .benches) (canPush b x j) benched) in
       let is : pebble d job ≡ true = subst (λ (k : ℕ). pebble d k ≡ true) (sym ej) (allowed-push .pebble) in
       let H₁ : Held d (suc m) (nextState d s) (after .left) (after .place) = record {
@@ -148,10 +150,14 @@ module _ (d : Day) (n : Limits) (low high weights amount : List ℕ) (pebbles : 
         ];
       } in
       let H₂ : Held d (suc m) (nextState d s) (before .left) (after .place) = subst (λ (ls : List Bool). Held d (suc m) (nextState d s) ls (after .place)) l H₁ in
+      let eo : after .own ≡ shiftedOf (before .own) (getD (before .place) job 0) bench (getD amount job 0) =
+      eo₁ ∙ ap (λ (k : ℕ). shiftedOf (before .own) k bench (getD amount job 0)) eu in
+      let S : ReachShifted (n .jobs) choice (after .place) (before .from) (getD (before .place) job 0) bench job (after .from) =
+      subst (λ (k : ℕ). ReachShifted (n .jobs) choice (after .place) (before .from) k bench job (after .from)) eu S₁ in
       let at-bench : bench < d .benches = omega (arith, bench-is, benched) in
       a-move can H₁ (q ∙ ap (λ (k : ℕ). plusOf k 1) made ∙ plus-one m (omega (arith, few-moves m s (H .reached))))
       (moved-owned d n low high weights amount pebbles allowed R m s (before .left) (before .place) H job bench h at-bench is (after .place) p (suc m) (nextState d s) H₂ (before .own) (after .own) so O eo)
-      (moved-reach d n low high weights amount pebbles allowed R m s (before .left) (before .place) H job bench h at-bench is (after .place) p (suc m) (nextState d s) H₂ (before .from) (after .from) sf F S)
+      (moved-reach d n low high weights amount pebbles allowed R m s (before .left) (before .place) H job bench h at-bench is (after .place) p (suc m) (nextState d s) H₂ choice C (before .from) (after .from) sf F S)
 
   pub push-stays : (m : ℕ) (s : State) (before after : Kept) → (job : ℕ) → job ≡ pushJob (boardOf d s) (explored d s) → n .jobs ≤ job → after ≡ before → Pushed d m s before after
   push-stays m s before after job e far same =
@@ -160,6 +166,7 @@ module _ (d : Day) (n : Limits) (low high weights amount : List ℕ) (pebbles : 
 
   -- ── the turns ──
 
+  -- Before an exploration: k − 1 moves may follow.
   pub record Turning (k : ℕ) (kept : Kept) : Type 0 where
     pub moves : ℕ
     pub state : State
@@ -167,8 +174,8 @@ module _ (d : Day) (n : Limits) (low high weights amount : List ℕ) (pebbles : 
     pub made : kept .moves ≡ moves
     pub owned : Owned (boardOf d state) (kept .own)
     pub reaches : Reaches (boardOf d state) (kept .from)
-    pub shown : Shown (boardOf d state) (explored d state) (kept .dir) (kept .load) (kept .joined) (kept .level)
-    pub same : turns (budget d) d (start d) 0 ≡ turns k d state moves
+    pub in-all : k + moves ≡ suc (budget d)
+    pub same : turns (budget d) d (start d) 0 ≡ turns (k - 1) d state moves
 
   abbrev pub Oriented : Kept → Kept → Type 0
   Oriented kept after =
@@ -180,80 +187,102 @@ module _ (d : Day) (n : Limits) (low high weights amount : List ℕ) (pebbles : 
       → Held d m s (after .left) (after .place)
   held-after {m} {s} kept after l p H = rw (l, p) H
 
-  -- What `weigh` and the first exploration make of the first state.
-  pub starts : (first kept after : Kept) {k : ℕ} → k ≡ budget d → Held d 0 (start d) (first .left) (first .place) → first .moves ≡ 0
+  few-turns : budget d ≤ 32768
+  few-turns =
+      let pebbles-few : count (d .jobs) (pebble d) ≤ 512 = omega (arith, count-le (d .jobs) (pebble d), R .few-jobs) in
+      mul-le-mul (R .few-benches) pebbles-few
+
+  -- What `weigh` makes of the first state.
+  pub starts : (first kept : Kept) {k i : ℕ} → k ≡ budget d → i ≡ plusOf k 1 → Held d 0 (start d) (first .left) (first .place) → first .moves ≡ 0
       → (kept .left ≡ first .left) × (kept .place ≡ first .place) × (kept .moves ≡ first .moves)
       → ((m : ℕ) (s : State) → Held d m s (first .left) (first .place) → Owned (boardOf d s) (kept .own) × Reaches (boardOf d s) (kept .from))
-      → Oriented kept after → Turning k after
-  starts first kept after e H made same filled O =
-      let held : Held d 0 (start d) (kept .left) (kept .place) = held-after first kept (same .0) (same .1) H in
-      let full = filled 0 (start d) H in
-      rw e
-      (record {
+      → Turning i kept
+  starts first kept {k} {i} e one H made same weighed =
+      let full = weighed 0 (start d) H in
+      let next : i ≡ suc (budget d) = one ∙ ap (λ (a : ℕ). plusOf a 1) e ∙ plus-one (budget d) (omega (arith, few-turns)) in
+      record {
         moves = 0;
         state = start d;
-        held = held-after kept after (O .0) (O .1) held;
-        made = O .2 ∙ same .2 ∙ made;
-        owned = subst (Owned (boardOf d (start d))) (sym (O .3)) (full .0);
-        reaches = subst (Reaches (boardOf d (start d))) (sym (O .4)) (full .1);
-        shown = O .5 0 (start d) held (full .0) (full .1);
-        same = refl;
-      })
+        held = held-after first kept (same .0) (same .1) H;
+        made = same .2 ∙ made;
+        owned = full .0;
+        reaches = full .1;
+        in-all = omega (arith, next);
+        same = let all : budget d ≡ i - 1 = omega (arith, next) in ap (λ (a : ℕ). turns a d (start d) 0) all;
+      }
 
   module _ {k : ℕ} {kept : Kept} (T : Turning k kept) where
-    stop : canMove d (T .state) ≡ false → Last d kept
-    stop cannot =
-        record {
-          moves = T .moves;
-          state = T .state;
-          held = T .held;
-          made = T .made;
-          shown = T .shown;
-          same = T .same ∙ turns-stop d (T .state) (T .moves) k cannot;
-        }
+    moves-few : T .moves ≤ budget d
+    moves-few = omega (arith, reached-run d (R .sound) (R .uncrowded) (T .held .reached) .of-budget)
 
-    pub turning-calm : {t : Bool} → t ≡ any (n .benches) (withinAt (n .benches) (kept .level)) → t ≡ false → Last d kept
-    turning-calm e calm =
-        let still : congested d (T .state) ≡ false = sym (congested-shown (T .state) (kept .level) (T .shown .level)) ∙ sym e ∙ calm in
-        stop (and-false-left (ltb (pushJob (boardOf d (T .state)) (explored d (T .state))) (d .jobs)) still)
+    pub turning-spent : {after : Kept} → k ≤ 0 → Last d after
+    turning-spent none = absurd (omega (arith, moves-few, T .in-all))
 
-    pub turning-spent : k ≤ 0 → Last d kept
-    turning-spent none =
-        let e : k ≡ 0 = omega arith in
-        record {
-          moves = T .moves;
-          state = T .state;
-          held = T .held;
-          made = T .made;
-          shown = T .shown;
-          same = T .same ∙ ap (λ (i : ℕ). turns i d (T .state) (T .moves)) e ∙ turns-spent d (T .state) (T .moves);
-        }
+    module _ {after : Kept} (O : Oriented kept after) where
+      oriented : Held d (T .moves) (T .state) (after .left) (after .place)
+      oriented = held-after kept after (O .0) (O .1) (T .held)
 
-    module _ {after : Kept} (P : Pushed d (T .moves) (T .state) kept after) where
-      pub turning-stuck : after .moves ≡ kept .moves → Last d after
-      turning-stuck same = stuck P same
-        where
-          stuck : Pushed d (T .moves) (T .state) kept after → after .moves ≡ kept .moves → Last d after
-          stuck (a-move can H made O F) same = absurd (omega (arith, T .made))
-          stuck (no-move none e) same =
-              subst (λ (x : Kept). Last d x) (sym e)
-              (stop (and-false-right (congested d (T .state)) (le-ltb (pushJob (boardOf d (T .state)) (explored d (T .state))) (d .jobs) (omega (arith, none)))))
+      made : after .moves ≡ T .moves
+      made = O .2 ∙ T .made
 
-      pub turning-next : (last : Kept) → after .moves ≢ kept .moves → 0 < k → Oriented after last → Turning (k - 1) last
-      turning-next last ne more O = next P ne
-        where
-          next : Pushed d (T .moves) (T .state) kept after → after .moves ≢ kept .moves → Turning (k - 1) last
-          next (a-move can H made own-next reach-next) ne =
-              record {
-                moves = suc (T .moves);
-                state = nextState d (T .state);
-                held = held-after after last (O .0) (O .1) H;
-                made = O .2 ∙ made;
-                owned = subst (Owned (boardOf d (nextState d (T .state)))) (sym (O .3)) own-next;
-                reaches = subst (Reaches (boardOf d (nextState d (T .state)))) (sym (O .4)) reach-next;
-                shown = O .5 (suc (T .moves)) (nextState d (T .state)) H own-next reach-next;
-                same =
-                    let e : k ≡ suc (k - 1) = omega arith in
-                    T .same ∙ ap (λ (i : ℕ). turns i d (T .state) (T .moves)) e ∙ turns-move d (T .state) (T .moves) (k - 1) can;
-              }
-          next (no-move none e) ne = absurd (ne (ap (λ (x : Kept). x .moves) e))
+      owned : Owned (boardOf d (T .state)) (after .own)
+      owned = subst (Owned (boardOf d (T .state))) (sym (O .3)) (T .owned)
+
+      reaches : Reaches (boardOf d (T .state)) (after .from)
+      reaches = subst (Reaches (boardOf d (T .state))) (sym (O .4)) (T .reaches)
+
+      shown : Shown (boardOf d (T .state)) (explored d (T .state)) (after .dir) (after .load) (after .joined) (after .level)
+      shown = O .5 (T .moves) (T .state) (T .held) (T .owned) (T .reaches)
+
+      stop : canMove d (T .state) ≡ false → Last d after
+      stop cannot =
+          record {
+            moves = T .moves;
+            state = T .state;
+            held = oriented;
+            made = made;
+            shown = shown;
+            same = T .same ∙ turns-stop d (T .state) (T .moves) (k - 1) cannot;
+          }
+
+      pub turning-calm : {t : Bool} → t ≡ any (n .benches) (withinAt (n .benches) (after .level)) → t ≡ false → Last d after
+      turning-calm e calm =
+          let still : congested d (T .state) ≡ false = sym (congested-shown (T .state) (after .level) (shown .level)) ∙ sym e ∙ calm in
+          stop (and-false-left (ltb (pushJob (boardOf d (T .state)) (explored d (T .state))) (d .jobs)) still)
+
+      -- A push, from what its contract asks.
+      pub pushes : {last : Kept}
+          → (Held d (T .moves) (T .state) (after .left) (after .place) → Owned (boardOf d (T .state)) (after .own) → Reaches (boardOf d (T .state)) (after .from)
+          → Shown (boardOf d (T .state)) (explored d (T .state)) (after .dir) (after .load) (after .joined) (after .level) → after .moves ≡ T .moves
+          → Pushed d (T .moves) (T .state) after last)
+          → Pushed d (T .moves) (T .state) after last
+      pushes call = call oriented owned reaches shown made
+
+      module _ {last : Kept} (P : Pushed d (T .moves) (T .state) after last) where
+        pub turning-stuck : last .moves ≡ after .moves → Last d last
+        turning-stuck same = stuck P same
+          where
+            stuck : Pushed d (T .moves) (T .state) after last → last .moves ≡ after .moves → Last d last
+            stuck (a-move can H moved own-next reach-next) same = absurd (omega (arith, made))
+            stuck (no-move none e) same =
+                subst (λ (x : Kept). Last d x) (sym e)
+                (stop (and-false-right (congested d (T .state)) (le-ltb (pushJob (boardOf d (T .state)) (explored d (T .state))) (d .jobs) (omega (arith, none)))))
+
+        pub turning-next : last .moves ≢ after .moves → 0 < k → Turning (k - 1) last
+        turning-next ne more = next P ne
+          where
+            next : Pushed d (T .moves) (T .state) after last → last .moves ≢ after .moves → Turning (k - 1) last
+            next (a-move can H moved own-next reach-next) ne =
+                let few = reached-run d (R .sound) (R .uncrowded) (H .reached) .of-budget in
+                let e : k - 1 ≡ suc (k - 1 - 1) = omega (arith, few, T .in-all) in
+                record {
+                  moves = suc (T .moves);
+                  state = nextState d (T .state);
+                  held = H;
+                  made = moved;
+                  owned = own-next;
+                  reaches = reach-next;
+                  in-all = omega (arith, T .in-all);
+                  same = T .same ∙ ap (λ (i : ℕ). turns i d (T .state) (T .moves)) e ∙ turns-move d (T .state) (T .moves) (k - 1 - 1) can;
+                }
+            next (no-move none e) ne = absurd (ne (ap (λ (x : Kept). x .moves) e))

@@ -4,6 +4,7 @@
 --     benchOf here P cand    the lowest bench of cand with such a rock, and 64 where there is none
 --     Left here P cand left  cand without some benches that have no such rock
 --     CoversBut n low high P set u     the set has every bench but u at which a rock meets P
+--     Neutral n dir neutral  the rocks that are not directed, as a set
 use Prim.Native.Nat.{ℕ, _<_}
 use mathlib.Core.Path.{_≡_}
 use mathlib.Core.Bool.{Bool, true, false, _&&_, _||_}
@@ -32,3 +33,7 @@ pub record Left (here : List ℕ) (P : ℕ → ℕ → Bool) (cand left : ℕ) :
 abbrev pub CoversBut : Limits → List ℕ → List ℕ → (ℕ → ℕ → Bool) → ℕ → ℕ → Type 0
 CoversBut n low high P set u =
     (r v : ℕ) → r < n .rocks → touchesAt low high r v ≡ true → P r v ≡ true → (isSet 64 set v || eqb v u) ≡ true
+
+-- The rocks that are not directed, as a set.
+abbrev pub Neutral : Limits → List ℕ → ℕ → Type 0
+Neutral n dir neutral = (r : ℕ) → r < n .rocks → r < 64 → isSet 64 neutral r ≡ eqb (getD dir r 0) 0

@@ -1,5 +1,7 @@
 -- Sets of benches or rocks as numbers: number u is the bit of weight 2 ^ (63 − u).
 --     Here n low high here        entry v of here is the set of the rocks at bench v
+--     Near n low high near        entry u of near has the other ends of the rocks at bench u
+--     Mapped                      what stays the same in a run: both tables, the set of all benches, and one that has every bench with a rock
 --     Covers n low high P set     the set has every bench at which a rock of it meets P
 --     Nowhere n low high P        no rock meets P at one of its ends
 --     forcesAt                    rock r is neutral and too heavy for its end v
@@ -18,6 +20,16 @@ use Rattle.run.specs.Arrays.{plusOf, touchesAt, otherAt, withinAt}
 
 pub record Here (n : Limits) (low high here : List ℕ) : Type 0 where
   pub rocks-at : (v r : ℕ) → v < 64 → r < 64 → isSet 64 (getD here v 0) r ≡ (ltb r (n .rocks) && touchesAt low high r v)
+
+abbrev pub Near : Limits → List ℕ → List ℕ → List ℕ → Type 0
+Near n low high near =
+    (r u : ℕ) → r < n .rocks → r < 64 → u < 64 → touchesAt low high r u ≡ true → otherAt low high r u < 64 → isSet 64 (getD near u 0) (otherAt low high r u) ≡ true
+
+pub record Mapped (n : Limits) (low high here near : List ℕ) (all stony : ℕ) : Type 0 where
+  pub rocks : Here n low high here
+  pub ends : Near n low high near
+  pub every : (v : ℕ) → v < 64 → isSet 64 all v ≡ ltb v (n .benches)
+  pub stones : (r v : ℕ) → r < n .rocks → r < 64 → v < 64 → touchesAt low high r v ≡ true → isSet 64 stony v ≡ true
 
 abbrev pub Covers : Limits → List ℕ → List ℕ → (ℕ → ℕ → Bool) → ℕ → Type 0
 Covers n low high P set = (r v : ℕ) → r < n .rocks → touchesAt low high r v ≡ true → P r v ≡ true → isSet 64 set v ≡ true

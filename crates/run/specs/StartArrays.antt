@@ -9,6 +9,7 @@
 --     dayRocks d, dayRock d r   how many rocks a day has, and the job of rock r
 --     DayRocks, JobsOf          the arrays hold the day's rocks, with their ends; their jobs
 --     balanceIn d v             0, 1 or 2 where the component of v has fewer rocks than benches, as many, or more
+--     BalancesTo d v xs         entry u is the balance of u for u below v, and else that or 3
 --     leftRock, leftCount, hangingOf    leftAt, its count, and hanging, in arrays
 --     Cycles                    the benches whose component has one cycle
 --     Placed d s left place      the arrays show this state
@@ -121,6 +122,12 @@ JobsOf d job = (r : ℕ) → r < dayRocks d → getD job r 0 ≡ dayRock d r
 -- Rocks against benches, in the component of v.
 abbrev pub balanceIn : Day → ℕ → ℕ
 balanceIn d v = balanceOf (rocksIn d v) (count (d .benches) (component d v))
+
+-- An entry is 3 until it is known; those below v are known.
+pub record BalancesTo (d : Day) (v : ℕ) (xs : List ℕ) : Type 0 where
+  pub room : d .benches ≤ length xs
+  pub known : (u : ℕ) → u < v → u < d .benches → getD xs u 0 ≡ balanceIn d u
+  pub others : (u : ℕ) → u < d .benches → (getD xs u 0 ≡ 3 → ⊥) → getD xs u 0 ≡ balanceIn d u
 
 -- ── peeling in arrays ──
 

@@ -5,7 +5,7 @@ use crate::rocks::Limits;
 use crate::sets;
 ghost use mathlib.Core.Path.{_≡_};
 ghost use Prim.Native.Nat.{ℕ, _<_, _≤_};
-ghost use mathlib.Core.Bool.{cond, _&&_, _||_, not};
+ghost use mathlib.Core.Bool.{cond, _&&_, not};
 ghost use mathlib.Core.List.{List};
 ghost use lib.ListN.{getD, length};
 ghost use Rattle.bits.specs.Bits.{isSet};

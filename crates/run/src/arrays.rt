@@ -1,8 +1,8 @@
 // Arrays read and written at any index, and sums that stop at the greatest number: none of these asks anything of its caller.
 ghost use mathlib.Core.Path.{_≡_};
-ghost use Prim.Native.Nat.{ℕ, _+_, _-_, _<_};
+ghost use Prim.Native.Nat.{ℕ, _+_, _-_, _<_, _≤_, min};
 ghost use mathlib.Core.Bool.{false, _||_};
-ghost use lib.ListN.{getD, set};
+ghost use lib.ListN.{getD, set, length};
 ghost use lib.Dec.{eqb, ltb};
 ghost use Rattle.sums.specs.Sum.{on, count};
 ghost use Rattle.bits.specs.Bits.{isSet};
@@ -129,12 +129,20 @@ pub fn store(t: &mut [u64], i: usize, v: u64)
     }
 }
 
+// The lower of two numbers.
+pub fn least(a: usize, b: usize) -> usize
+    ensures { λ r. ⌜ r ≡ min a b ⌝ }
+{
+    if a < b { a } else { b }
+}
+
 // The first n entries of one table go to the other.
 pub fn narrow(n: usize, from: &[u64], to: &mut [usize])
     ensures { λ _. ⌜ now (to .exit) ≡ filled n (λ i. getD (now (from .entry)) i 0) (now (to .entry)) ⌝ }
 {
+    let end = least(n, to.len());
     let mut i = 0;
-    while i < n {
+    while i < end {
         put(to, i, entry(from, i) as usize);
         i += 1;
     }
@@ -143,8 +151,9 @@ pub fn narrow(n: usize, from: &[u64], to: &mut [usize])
 pub fn widen(n: usize, from: &[usize], to: &mut [u64])
     ensures { λ _. ⌜ now (to .exit) ≡ filled n (λ i. getD (now (from .entry)) i 0) (now (to .entry)) ⌝ }
 {
+    let end = least(n, to.len());
     let mut i = 0;
-    while i < n {
+    while i < end {
         store(to, i, at(from, i) as u64);
         i += 1;
     }
@@ -168,4 +177,44 @@ pub fn count(n: usize, t: &[bool]) -> usize
         i += 1;
     }
     k
+}
+
+// Entry i, and 0 past the end.
+pub fn byte(t: &[u8], i: usize) -> usize
+    ensures { λ r. ⌜ r ≡ getD (now (t .entry)) i 0 ⌝ }
+{
+    if i < t.len() { t[i] as usize } else { 0 }
+}
+
+// Entry i becomes v, which is below 256.
+fn put_byte(t: &mut [u8], i: usize, v: usize)
+    ensures { λ _. ⌜ (length (now (t .exit)) ≡ length (now (t .entry))) × (v < 256 → now (t .exit) ≡ set (now (t .entry)) i v) ⌝ }
+{
+    if i < t.len() {
+        t[i] = (v % 256) as u8;
+    }
+}
+
+// The first n entries of one table, which has as many, go to the other.
+pub fn from_bytes(n: usize, from: &[u8], to: &mut [usize])
+    ensures { λ _. ⌜ (n ≤ length (now (from .entry)) → n ≤ length (now (to .entry)) → now (to .exit) ≡ filled n (λ i. getD (now (from .entry)) i 0) (now (to .entry))) ⌝ }
+{
+    let end = least(n, least(from.len(), to.len()));
+    let mut i = 0;
+    while i < end {
+        put(to, i, byte(from, i));
+        i += 1;
+    }
+}
+
+// The same, where every entry is below 256.
+pub fn to_bytes(n: usize, from: &[usize], to: &mut [u8])
+    ensures { λ _. ⌜ (n ≤ length (now (from .entry)) → n ≤ length (now (to .entry)) → ((i : ℕ) → i < n → getD (now (from .entry)) i 0 < 256) → now (to .exit) ≡ filled n (λ i. getD (now (from .entry)) i 0) (now (to .entry))) ⌝ }
+{
+    let end = least(n, least(from.len(), to.len()));
+    let mut i = 0;
+    while i < end {
+        put_byte(to, i, at(from, i));
+        i += 1;
+    }
 }

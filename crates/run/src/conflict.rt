@@ -1,19 +1,18 @@
 // The conflict set and fake orientations.
 use crate::arrays;
 use crate::forced;
-use crate::neighbours;
 use crate::rocks;
 use crate::rocks::Limits;
 use crate::sets;
 ghost use mathlib.Core.Path.{_≡_};
-ghost use Prim.Native.Nat.{ℕ, _≤_};
+ghost use Prim.Native.Nat.{ℕ, _≤_, _<_};
 ghost use mathlib.Core.List.{List};
 ghost use Rattle.algorithm.specs.Board.{Board, Directions};
 ghost use Rattle.algorithm.specs.Explore.{conflictSet, construct as constructed};
 ghost use Rattle.run.specs.Arrays.{rocksOf, Rocks, Directed, Seen, Rounds};
 ghost use Rattle.run.specs.ExploreArrays.{joinsAt, fakeAt, Built};
-ghost use Rattle.run.specs.SetArrays.{Here, Covers, Nowhere, forcesAt, Grew};
-ghost use Rattle.run.specs.CandidateArrays.{rockOf, benchOf};
+ghost use Rattle.run.specs.SetArrays.{Here, Near, Covers, Nowhere, forcesAt, Grew};
+ghost use Rattle.run.specs.CandidateArrays.{Neutral, rockOf, benchOf};
 
 // The lowest rock by which v joins the conflict set, and 64 where there is none.
 fn joining_rock<'a>(
@@ -71,11 +70,12 @@ fn close<'a>(
     low: &'a [usize],
     high: &'a [usize],
     here: &'a [usize],
+    near: &'a [usize],
     cand: usize,
     dir: &'a [usize],
     joined: &mut [usize],
 ) -> usize
-    ensures { λ grown. ⌜ ((b : Board) → (weight : List ℕ) → (dirs : Directions) → (xs : List ℕ) → Rocks b n (now (low .entry)) (now (high .entry)) weight → rocksOf b ≤ 64 → i ≤ b .benches → Here n (now (low .entry)) (now (high .entry)) (now (here .entry)) → Covers n (now (low .entry)) (now (high .entry)) (joinsAt (n .benches) (now (low .entry)) (now (high .entry)) (now (dir .entry)) (now (joined .entry))) cand → Directed b dirs (now (dir .entry)) → Rounds b xs (now (joined .entry)) → Rounds b (conflictSet (b .benches) b i dirs xs) (now (joined .exit)) × Grew n (now (joined .entry)) (now (joined .exit)) grown × Nowhere n (now (low .entry)) (now (high .entry)) (joinsAt (n .benches) (now (low .entry)) (now (high .entry)) (now (dir .entry)) (now (joined .exit)))) ⌝ }
+    ensures { λ grown. ⌜ ((b : Board) → (weight : List ℕ) → (dirs : Directions) → (xs : List ℕ) → Rocks b n (now (low .entry)) (now (high .entry)) weight → rocksOf b ≤ 64 → i ≤ b .benches → Here n (now (low .entry)) (now (high .entry)) (now (here .entry)) → Near n (now (low .entry)) (now (high .entry)) (now (near .entry)) → Covers n (now (low .entry)) (now (high .entry)) (joinsAt (n .benches) (now (low .entry)) (now (high .entry)) (now (dir .entry)) (now (joined .entry))) cand → Directed b dirs (now (dir .entry)) → Rounds b xs (now (joined .entry)) → Rounds b (conflictSet (b .benches) b i dirs xs) (now (joined .exit)) × Grew n (now (joined .entry)) (now (joined .exit)) grown × Nowhere n (now (low .entry)) (now (high .entry)) (joinsAt (n .benches) (now (low .entry)) (now (high .entry)) (now (dir .entry)) (now (joined .exit)))) ⌝ }
 {
     let mut cands = cand;
     let mut grown = 0;
@@ -87,8 +87,7 @@ fn close<'a>(
         }
         arrays::put(joined, v, i);
         grown = arrays::with(grown, v);
-        let near = neighbours::others(low, high, arrays::at(here, v), v);
-        cands = sets::above(cands, v) | near;
+        cands = sets::above(cands, v) | arrays::at(near, v);
         turns -= 1;
     }
     grown
@@ -98,24 +97,16 @@ fn close<'a>(
 fn fake_rock<'a>(
     benches: usize,
     here: &'a [usize],
-    dir: &'a [usize],
+    neutral: usize,
     joined: &'a [usize],
     v: usize,
 ) -> usize
-    ensures { λ r. ⌜ r ≡ rockOf (now (here .entry)) (fakeAt benches (now (dir .entry)) (now (joined .entry))) v ⌝ }
+    ensures { λ r. ⌜ ((n : Limits) → (low : List ℕ) → (high : List ℕ) → (dir : List ℕ) → Here n low high (now (here .entry)) → Neutral n dir neutral → v < 64 → r ≡ rockOf (now (here .entry)) (fakeAt benches dir (now (joined .entry))) v) ⌝ }
 {
     if !rocks::within(benches, joined, v) {
         return 64;
     }
-    let mut left = arrays::at(here, v);
-    while 0 < left {
-        let r = sets::lowest(left);
-        if arrays::at(dir, r) == 0 {
-            return r;
-        }
-        left = sets::after(left, r);
-    }
-    64
+    sets::lowest(sets::common(arrays::at(here, v), neutral))
 }
 
 // The lowest candidate in the conflict set with a neutral rock, and 64 where there is none.
@@ -123,15 +114,15 @@ fn first_fake<'a>(
     benches: usize,
     here: &'a [usize],
     fakes: usize,
-    dir: &'a [usize],
+    neutral: usize,
     joined: &'a [usize],
 ) -> usize
-    ensures { λ v. ⌜ v ≡ benchOf (now (here .entry)) (fakeAt benches (now (dir .entry)) (now (joined .entry))) fakes ⌝ }
+    ensures { λ v. ⌜ ((n : Limits) → (low : List ℕ) → (high : List ℕ) → (dir : List ℕ) → Here n low high (now (here .entry)) → Neutral n dir neutral → v ≡ benchOf (now (here .entry)) (fakeAt benches dir (now (joined .entry))) fakes) ⌝ }
 {
     let mut left = fakes;
     while 0 < left {
         let v = sets::lowest(left);
-        if fake_rock(benches, here, dir, joined, v) < 64 {
+        if fake_rock(benches, here, neutral, joined, v) < 64 {
             return v;
         }
         left = sets::after(left, v);
@@ -139,8 +130,14 @@ fn first_fake<'a>(
     64
 }
 
+// The benches that joined the conflict set, and the neutral rocks.
+pub struct Grown {
+    pub benches: usize,
+    pub neutral: usize,
+}
+
 // construct jobs b i dir joined, where every bench that joins is in cand and every one with a rock for a fake orientation in fakes.
-// The result has the benches that joined.
+// The result has the benches that joined, and the neutral rocks.
 pub fn construct<'a>(
     n: Limits,
     i: usize,
@@ -148,32 +145,54 @@ pub fn construct<'a>(
     high: &'a [usize],
     weight: &'a [usize],
     here: &'a [usize],
+    near: &'a [usize],
     cand: usize,
     fakes: usize,
+    before: usize,
     dir: &mut [usize],
     load: &mut [usize],
     joined: &mut [usize],
-) -> usize
-    ensures { λ grown. ⌜ ((b : Board) → (dirs : Directions) → (xs : List ℕ) → Rocks b n (now (low .entry)) (now (high .entry)) (now (weight .entry)) → rocksOf b ≤ 64 → i ≤ b .benches → Here n (now (low .entry)) (now (high .entry)) (now (here .entry)) → Covers n (now (low .entry)) (now (high .entry)) (joinsAt (n .benches) (now (low .entry)) (now (high .entry)) (now (dir .entry)) (now (joined .entry))) cand → Covers n (now (low .entry)) (now (high .entry)) (fakeAt (n .benches) (now (dir .entry)) (now (joined .entry))) fakes → Nowhere n (now (low .entry)) (now (high .entry)) (forcesAt (n .bound) (now (weight .entry)) (now (dir .entry)) (now (load .entry))) → Seen b dirs (now (dir .entry)) (now (load .entry)) → Rounds b xs (now (joined .entry)) → Built b (constructed (b .jobs) b i dirs xs) (now (dir .exit)) (now (load .exit)) (now (joined .exit)) × Grew n (now (joined .entry)) (now (joined .exit)) grown × Nowhere n (now (low .entry)) (now (high .entry)) (joinsAt (n .benches) (now (low .entry)) (now (high .entry)) (now (dir .exit)) (now (joined .exit))) × Nowhere n (now (low .entry)) (now (high .entry)) (fakeAt (n .benches) (now (dir .exit)) (now (joined .exit))) × Nowhere n (now (low .entry)) (now (high .entry)) (forcesAt (n .bound) (now (weight .entry)) (now (dir .exit)) (now (load .exit)))) ⌝ }
+) -> Grown
+    ensures { λ grown. ⌜ ((b : Board) → (dirs : Directions) → (xs : List ℕ) → Rocks b n (now (low .entry)) (now (high .entry)) (now (weight .entry)) → rocksOf b ≤ 64 → i ≤ b .benches → Here n (now (low .entry)) (now (high .entry)) (now (here .entry)) → Near n (now (low .entry)) (now (high .entry)) (now (near .entry)) → Neutral n (now (dir .entry)) before → Covers n (now (low .entry)) (now (high .entry)) (joinsAt (n .benches) (now (low .entry)) (now (high .entry)) (now (dir .entry)) (now (joined .entry))) cand → Covers n (now (low .entry)) (now (high .entry)) (fakeAt (n .benches) (now (dir .entry)) (now (joined .entry))) fakes → Nowhere n (now (low .entry)) (now (high .entry)) (forcesAt (n .bound) (now (weight .entry)) (now (dir .entry)) (now (load .entry))) → Seen b dirs (now (dir .entry)) (now (load .entry)) → Rounds b xs (now (joined .entry)) → Built b (constructed (b .jobs) b i dirs xs) (now (dir .exit)) (now (load .exit)) (now (joined .exit)) × Grew n (now (joined .entry)) (now (joined .exit)) (grown .benches) × Nowhere n (now (low .entry)) (now (high .entry)) (joinsAt (n .benches) (now (low .entry)) (now (high .entry)) (now (dir .exit)) (now (joined .exit))) × Nowhere n (now (low .entry)) (now (high .entry)) (fakeAt (n .benches) (now (dir .exit)) (now (joined .exit))) × Nowhere n (now (low .entry)) (now (high .entry)) (forcesAt (n .bound) (now (weight .entry)) (now (dir .exit)) (now (load .exit))) × Neutral n (now (dir .exit)) (grown .neutral)) ⌝ }
 {
     let mut joining = cand;
     let mut faking = fakes;
+    let mut neutral = before;
     let mut grown = 0;
     let mut turns = n.jobs;
     while 0 < turns {
-        let more = close(n, i, low, high, here, joining, dir, joined);
+        let more = close(n, i, low, high, here, near, joining, dir, joined);
         grown = grown | more;
         faking = faking | more;
-        let v = first_fake(n.benches, here, faking, dir, joined);
+        let v = first_fake(n.benches, here, faking, neutral, joined);
         if 63 < v {
-            return grown;
+            return Grown {
+                benches: grown,
+                neutral: neutral,
+            };
         }
-        let r = fake_rock(n.benches, here, dir, joined, v);
+        let r = fake_rock(n.benches, here, neutral, joined, v);
         let u = rocks::direct(low, high, weight, dir, load, r, v);
-        joining = forced::force(n, low, high, weight, here, arrays::with(0, u), dir, load);
+        neutral = sets::less(neutral, arrays::with(0, r));
+        let f = forced::force(
+            n,
+            low,
+            high,
+            weight,
+            here,
+            arrays::with(0, u),
+            neutral,
+            dir,
+            load,
+        );
+        joining = f.tails;
+        neutral = f.neutral;
         faking = arrays::with(sets::above(faking, v), v);
         turns -= 1;
     }
-    let more = close(n, i, low, high, here, joining, dir, joined);
-    grown | more
+    let more = close(n, i, low, high, here, near, joining, dir, joined);
+    Grown {
+        benches: grown | more,
+        neutral: neutral,
+    }
 }

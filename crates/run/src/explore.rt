@@ -3,7 +3,6 @@ use crate::activate;
 use crate::arrays;
 use crate::conflict;
 use crate::forced;
-use crate::neighbours;
 use crate::rocks;
 use crate::rocks::Limits;
 use crate::set_loops;
@@ -18,6 +17,7 @@ ghost use Rattle.algorithm.specs.Board.{Board};
 ghost use Rattle.algorithm.specs.Explore.{explore as explored};
 ghost use Rattle.run.specs.Arrays.{plusOf, withinAt, rocksOf, Rocks, Owned, Pebbles};
 ghost use Rattle.run.specs.ExploreArrays.{addedAt, opensAt, Reaches};
+ghost use Rattle.run.specs.SetArrays.{Mapped};
 ghost use Rattle.run.specs.Shown.{Shown};
 
 // Job j, where it is a pebble, adds the benches that it allows to the set of the bench on which it lies.
@@ -62,7 +62,7 @@ fn add(set: usize, v: usize, counts: bool) -> usize
 }
 
 // Every bench, as a set.
-fn everywhere(benches: usize) -> usize
+pub fn everywhere(benches: usize) -> usize
     ensures { λ r. ⌜ ((v : ℕ) → v < 64 → isSet 64 r v ≡ ltb v benches) ⌝ }
 {
     let mut all = 0;
@@ -113,13 +113,14 @@ fn enter(benches: usize, i: usize, joined: &mut [usize], v: usize)
     }
 }
 
-// The benches of the set join the conflict set in round i, unless they are in it.
-fn enter_all(benches: usize, i: usize, set: usize, joined: &mut [usize])
-    ensures { λ _. ⌜ ((v : ℕ) → v < length (now (joined .entry)) → v < 64 → getD (now (joined .exit)) v 0 ≡ cond (isSet 64 set v && not (withinAt benches (now (joined .entry)) v)) i (getD (now (joined .entry)) v 0)) ⌝ }
+// The benches of the set are activated in round i, and join the conflict set unless they are in it.
+fn enter_all(benches: usize, i: usize, set: usize, joined: &mut [usize], level: &mut [usize])
+    ensures { λ _. ⌜ ((v : ℕ) → v < length (now (joined .entry)) → v < 64 → getD (now (joined .exit)) v 0 ≡ cond (isSet 64 set v && not (withinAt benches (now (joined .entry)) v)) i (getD (now (joined .entry)) v 0)) × ((v : ℕ) → v < length (now (level .entry)) → getD (now (level .exit)) v 0 ≡ cond (ltb v 64 && isSet 64 set v) i (getD (now (level .entry)) v 0)) ⌝ }
 {
     let mut left = set;
     while 0 < left {
         let v = sets::lowest(left);
+        arrays::put(level, v, i);
         enter(benches, i, joined, v);
         left = sets::after(left, v);
     }
@@ -139,18 +140,22 @@ fn open_round<'a>(
     ensures { λ r. ⌜ ((v : ℕ) → v < 64 → isSet 64 r v ≡ opensAt n i all active reach (now (load .entry)) v) × ((v : ℕ) → v < length (now (joined .entry)) → v < 64 → getD (now (joined .exit)) v 0 ≡ cond (isSet 64 r v && not (withinAt (n .benches) (now (joined .entry)) v)) i (getD (now (joined .entry)) v 0)) × ((v : ℕ) → v < length (now (level .entry)) → getD (now (level .exit)) v 0 ≡ cond (ltb v 64 && isSet 64 r v) i (getD (now (level .entry)) v 0)) ⌝ }
 {
     let opened = opening(n, i, all, active, reach, load);
-    set_loops::put_all(level, opened, i);
-    enter_all(n.benches, i, opened, joined);
+    enter_all(n.benches, i, opened, joined, level);
     opened
 }
 
 // explore b, where dir is 0 everywhere, load is own, and joined and level are never everywhere.
-// Kept in the rounds: the activated benches, those of the round before, and those of the conflict set that may be activated yet.
+// Given: the rocks at each bench, their other ends, all benches, and those with a rock.
+// Kept in the rounds: the neutral rocks, the activated benches, those of the round before, and those of the conflict set that may be activated yet.
 pub fn explore<'a>(
     n: Limits,
     low: &'a [usize],
     high: &'a [usize],
     weight: &'a [usize],
+    here: &'a [usize],
+    near: &'a [usize],
+    all: usize,
+    stony: usize,
     own: &'a [usize],
     from: &'a [usize],
     dir: &mut [usize],
@@ -158,45 +163,48 @@ pub fn explore<'a>(
     joined: &mut [usize],
     level: &mut [usize],
 )
-    ensures { λ _. ⌜ ((b : Board) → Rocks b n (now (low .entry)) (now (high .entry)) (now (weight .entry)) → Owned b (now (own .entry)) → Reaches b (now (from .entry)) → rocksOf b ≤ 64 → length (now (own .entry)) ≡ 64 → now (dir .entry) ≡ replicate 64 0 → now (load .entry) ≡ now (own .entry) → now (joined .entry) ≡ replicate 64 (plusOf (n .benches) 1) → now (level .entry) ≡ replicate 64 (plusOf (n .benches) 1) → Shown b (explored b) (now (dir .exit)) (now (load .exit)) (now (joined .exit)) (now (level .exit))) ⌝ }
+    ensures { λ _. ⌜ ((b : Board) → Rocks b n (now (low .entry)) (now (high .entry)) (now (weight .entry)) → Mapped n (now (low .entry)) (now (high .entry)) (now (here .entry)) (now (near .entry)) all stony → Owned b (now (own .entry)) → Reaches b (now (from .entry)) → rocksOf b ≤ 64 → length (now (own .entry)) ≡ 64 → now (dir .entry) ≡ replicate 64 0 → now (load .entry) ≡ now (own .entry) → now (joined .entry) ≡ replicate 64 (plusOf (n .benches) 1) → now (level .entry) ≡ replicate 64 (plusOf (n .benches) 1) → Shown b (explored b) (now (dir .exit)) (now (load .exit)) (now (joined .exit)) (now (level .exit))) ⌝ }
 {
-    let mut here = [0; 64];
-    set_loops::fill_here(n, low, high, &mut here);
-    let all = everywhere(n.benches);
-    forced::force(n, low, high, weight, &here, all, dir, load);
+    let all_rocks = everywhere(n.rocks);
+    let f = forced::force(n, low, high, weight, here, stony, all_rocks, dir, load);
+    let mut neutral = f.neutral;
     let turns = arrays::plus(n.benches, 1);
     let mut active = 0;
     let mut fresh = 0;
     let mut wait = 0;
     let mut i = 0;
     while i < turns {
-        let reach = set_loops::reach_of(from, fresh);
+        let rest = sets::less(all, active);
+        let reach = set_loops::reach_of(from, fresh, rest);
         let opened = open_round(n, i, all, active, reach, load, joined, level);
         if opened == 0 {
             return;
         }
-        let cand = neighbours::neighbours(low, high, &here, opened);
+        let cand = set_loops::reach_of(near, opened, stony);
         let grown = conflict::construct(
             n,
             i,
             low,
             high,
             weight,
-            &here,
+            here,
+            near,
             cand,
-            opened,
+            sets::common(opened, stony),
+            neutral,
             dir,
             load,
             joined,
         );
-        let asked = sets::common(all, sets::less(wait | grown, opened));
+        neutral = grown.neutral;
+        let asked = sets::common(all, sets::less(wait | grown.benches, opened));
         wait = activate::activate(
             n,
             i,
             low,
             high,
             weight,
-            &here,
+            here,
             asked,
             own,
             dir,

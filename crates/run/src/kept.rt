@@ -2,7 +2,7 @@
 use crate::arrays;
 ghost use mathlib.Core.Path.{_≡_};
 ghost use Prim.Native.Nat.{ℕ, _<_};
-ghost use mathlib.Core.Bool.{false, cond, _&&_};
+ghost use mathlib.Core.Bool.{true, cond};
 ghost use lib.Bits.{bitOr};
 ghost use lib.Dec.{eqb};
 ghost use lib.ListN.{length, getD};
@@ -26,47 +26,28 @@ fn shift_load(own: &mut [usize], u: usize, v: usize, w: usize)
     arrays::put(own, v, more);
 }
 
-// Whether job j is a pebble on u.
-fn lies_on<'a>(pebble: &'a [bool], place: &'a [usize], u: usize, j: usize) -> bool
-    ensures { λ t. ⌜ t ≡ (getD (now (pebble .entry)) j false && eqb (getD (now (place .entry)) j 0) u) ⌝ }
+// The set, and where job j is on u also its choice.
+fn reach_more<'a>(choice: &'a [usize], place: &'a [u8], u: usize, j: usize, set: usize) -> usize
+    ensures { λ r. ⌜ r ≡ cond (eqb (getD (now (place .entry)) j 0) u) (bitOr set (getD (now (choice .entry)) j 0)) set ⌝ }
 {
-    if arrays::at(place, j) != u {
-        return false;
-    }
-    arrays::holds(pebble, j)
-}
-
-// The set, and where job j is a pebble on u also the benches that it allows.
-fn reach_more<'a>(
-    pebble: &'a [bool],
-    allowed: &'a [usize],
-    place: &'a [usize],
-    u: usize,
-    j: usize,
-    set: usize,
-) -> usize
-    ensures { λ r. ⌜ r ≡ cond (getD (now (pebble .entry)) j false && eqb (getD (now (place .entry)) j 0) u) (bitOr set (getD (now (allowed .entry)) j 0)) set ⌝ }
-{
-    if lies_on(pebble, place, u, j) {
-        return set | arrays::at(allowed, j);
+    if arrays::byte(place, j) == u {
+        return set | arrays::at(choice, j);
     }
     set
 }
 
-// The benches that the pebbles on u allow.
-fn reach_from<'a>(
-    jobs: usize,
-    pebble: &'a [bool],
-    allowed: &'a [usize],
-    place: &'a [usize],
-    u: usize,
-) -> usize
-    ensures { λ r. ⌜ ((v : ℕ) → v < 64 → isSet 64 r v ≡ any jobs (liesAt (now (pebble .entry)) (now (allowed .entry)) (now (place .entry)) u v)) ⌝ }
+// The benches that the pebbles on u allow, all of which are in the set `full`.
+fn reach_from<'a>(jobs: usize, choice: &'a [usize], place: &'a [u8], u: usize, full: usize) -> usize
+    ensures { λ r. ⌜ ((v : ℕ) → v < 64 → (any jobs (liesAt (now (choice .entry)) (now (place .entry)) u v) ≡ true → isSet 64 full v ≡ true) → isSet 64 r v ≡ any jobs (liesAt (now (choice .entry)) (now (place .entry)) u v)) ⌝ }
 {
+    let end = arrays::least(jobs, choice.len());
     let mut set = 0;
     let mut j = 0;
-    while j < jobs {
-        set = reach_more(pebble, allowed, place, u, j, set);
+    while j < end {
+        if set == full {
+            return set;
+        }
+        set = reach_more(choice, place, u, j, set);
         j += 1;
     }
     set
@@ -75,19 +56,18 @@ fn reach_from<'a>(
 // Job j, which is now on v, was on u.
 fn shift_reach<'a>(
     jobs: usize,
-    pebble: &'a [bool],
-    allowed: &'a [usize],
-    place: &'a [usize],
+    choice: &'a [usize],
+    place: &'a [u8],
     from: &mut [usize],
     u: usize,
     v: usize,
     j: usize,
 )
-    ensures { λ _. ⌜ ReachShifted jobs (now (pebble .entry)) (now (allowed .entry)) (now (place .entry)) (now (from .entry)) u v j (now (from .exit)) ⌝ }
+    ensures { λ _. ⌜ ReachShifted jobs (now (choice .entry)) (now (place .entry)) (now (from .entry)) u v j (now (from .exit)) ⌝ }
 {
-    let more = arrays::at(from, v) | arrays::at(allowed, j);
+    let there = reach_from(jobs, choice, place, u, arrays::at(from, u));
+    let more = arrays::at(from, v) | arrays::at(choice, j);
     arrays::put(from, v, more);
-    let there = reach_from(jobs, pebble, allowed, place, u);
     arrays::put(from, u, there);
 }
 
@@ -97,19 +77,18 @@ pub fn shifted<'a>(
     from: [usize; 64],
     jobs: usize,
     amount: &'a [usize],
-    pebble: &'a [bool],
-    allowed: &'a [usize],
-    place: &'a [usize],
+    choice: &'a [usize],
+    place: &'a [u8],
     u: usize,
     v: usize,
     j: usize,
 ) -> Kept
-    ensures { λ r. ⌜ (length own ≡ 64) × (length from ≡ 64) × (r .own ≡ shiftedOf own u v (getD (now (amount .entry)) j 0)) × ReachShifted jobs (now (pebble .entry)) (now (allowed .entry)) (now (place .entry)) from u v j (r .from) ⌝ }
+    ensures { λ r. ⌜ (length own ≡ 64) × (length from ≡ 64) × (r .own ≡ shiftedOf own u v (getD (now (amount .entry)) j 0)) × ReachShifted jobs (now (choice .entry)) (now (place .entry)) from u v j (r .from) ⌝ }
 {
     let mut loads = own;
     shift_load(&mut loads, u, v, arrays::at(amount, j));
     let mut reach = from;
-    shift_reach(jobs, pebble, allowed, place, &mut reach, u, v, j);
+    shift_reach(jobs, choice, place, &mut reach, u, v, j);
     Kept {
         own: loads,
         from: reach,

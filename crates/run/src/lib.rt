@@ -20,6 +20,7 @@ mod tables;
 pub use arrays::at;
 pub use arrays::count;
 pub use arrays::entry;
+pub use arrays::from_bytes;
 pub use arrays::has;
 pub use arrays::narrow;
 pub use arrays::times;

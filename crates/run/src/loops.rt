@@ -1,10 +1,15 @@
 // The turns of the run.
+use crate::arrays;
+use crate::explore;
 use crate::loads;
+use crate::neighbours;
 use crate::rocks::Limits;
+use crate::set_loops;
+use crate::start;
 use crate::state::State;
 ghost use mathlib.Core.Path.{_≡_};
 ghost use Rattle.algorithm.specs.Day.{Day};
-ghost use Rattle.algorithm.specs.Start.{start};
+ghost use Rattle.algorithm.specs.Start.{start as startOf};
 ghost use Rattle.algorithm.specs.Run.{budget as budgetOf};
 ghost use Rattle.run.specs.Held.{Ready, Held, Last};
 
@@ -20,22 +25,29 @@ pub fn turns<'a>(
     pebble: &'a [bool],
     allowed: &'a [usize],
 ) -> State
-    ensures { λ r. ⌜ ((d : Day) → Ready d n (now (low .entry)) (now (high .entry)) (now (weight .entry)) (now (amount .entry)) (now (pebble .entry)) (now (allowed .entry)) → Held d 0 (start d) (first .left) (first .place) → first .moves ≡ 0 → budget ≡ budgetOf d → Last d r) ⌝ }
+    ensures { λ r. ⌜ ((d : Day) → Ready d n (now (low .entry)) (now (high .entry)) (now (weight .entry)) (now (amount .entry)) (now (pebble .entry)) (now (allowed .entry)) → Held d 0 (startOf d) (first .left) (first .place) → first .moves ≡ 0 → budget ≡ budgetOf d → Last d r) ⌝ }
 {
-    let weighed = first.weigh(n, amount, pebble, allowed);
-    let mut s = weighed.orient(n, low, high, weight);
-    let mut left = budget;
+    let mut here = [0usize; 64];
+    set_loops::fill_here(n, low, high, &mut here);
+    let mut near = [0usize; 64];
+    neighbours::fill_near(low, high, &here, &mut near);
+    let all = explore::everywhere(n.benches);
+    let stony = set_loops::some(&here);
+    let mut choice = [0usize; 512];
+    start::choose(n.jobs, pebble, allowed, &mut choice);
+    let mut s = first.weigh(n, amount, pebble, allowed);
+    let mut left = arrays::plus(budget, 1);
     while 0 < left {
+        s = s.orient(n, low, high, weight, &here, &near, all, stony);
         if !loads::congested(n.benches, &s.level) {
             return s;
         }
         let before = s.moves;
-        s = s.push(n, low, high, weight, amount, pebble, allowed);
+        s = s.push(n, low, high, weight, amount, &choice);
         let after = s.moves;
         if after == before {
             return s;
         }
-        s = s.orient(n, low, high, weight);
         left -= 1;
     }
     s

@@ -4,20 +4,23 @@ use crate::rocks::Limits;
 use crate::sets;
 ghost use mathlib.Core.Path.{_≡_};
 ghost use Prim.Native.Nat.{ℕ, _<_};
-ghost use mathlib.Core.Bool.{Bool, cond, _&&_, _||_};
-ghost use lib.Dec.{eqb, ltb};
+ghost use mathlib.Core.Bool.{true, not, _&&_, _||_};
+ghost use lib.Dec.{eqb};
 ghost use lib.ListN.{getD, length, replicate};
 ghost use Rattle.sums.specs.Search.{any};
 ghost use Rattle.bits.specs.Bits.{isSet};
 ghost use Rattle.run.specs.SetArrays.{Here};
 
-// The benches that some entry of the set has.
-pub fn reach_of(from: &[usize], benches: usize) -> usize
-    ensures { λ r. ⌜ ((v : ℕ) → v < 64 → isSet 64 r v ≡ any 64 (λ u. isSet 64 benches u && isSet 64 (getD (now (from .entry)) u 0) v)) ⌝ }
+// The benches that some entry of the set has; of those that are not in `full` only some.
+pub fn reach_of(from: &[usize], benches: usize, full: usize) -> usize
+    ensures { λ r. ⌜ ((v : ℕ) → v < 64 → isSet 64 full v ≡ true → isSet 64 r v ≡ any 64 (λ u. isSet 64 benches u && isSet 64 (getD (now (from .entry)) u 0) v)) ⌝ }
 {
     let mut reach = 0;
     let mut left = benches;
     while 0 < left {
+        if sets::less(full, reach) == 0 {
+            return reach;
+        }
         let u = sets::lowest(left);
         reach = reach | arrays::at(from, u);
         left = sets::after(left, u);
@@ -25,16 +28,19 @@ pub fn reach_of(from: &[usize], benches: usize) -> usize
     reach
 }
 
-// Every entry of the set becomes i.
-pub fn put_all(t: &mut [usize], set: usize, i: usize)
-    ensures { λ _. ⌜ ((v : ℕ) → v < length (now (t .entry)) → getD (now (t .exit)) v 0 ≡ cond (ltb v 64 && isSet 64 set v) i (getD (now (t .entry)) v 0)) ⌝ }
+// The entries that are no empty sets.
+pub fn some(t: &[usize]) -> usize
+    ensures { λ r. ⌜ ((v : ℕ) → v < 64 → isSet 64 r v ≡ not (eqb (getD (now (t .entry)) v 0) 0)) ⌝ }
 {
-    let mut left = set;
-    while 0 < left {
-        let u = sets::lowest(left);
-        arrays::put(t, u, i);
-        left = sets::after(left, u);
+    let mut found = 0;
+    let mut v = 0;
+    while v < 64 {
+        if arrays::at(t, v) != 0 {
+            found = arrays::with(found, v);
+        }
+        v += 1;
     }
+    found
 }
 
 // Entry v gets r.

@@ -103,7 +103,7 @@ fn inside<'a>(low: &'a [usize], dir: &'a [usize], chosen: &'a [bool], r: usize) 
 }
 
 // How many rocks are inside.
-fn rocks_in<'a>(n: Limits, low: &'a [usize], dir: &'a [usize], chosen: &'a [bool]) -> usize
+pub fn rocks_in<'a>(n: Limits, low: &'a [usize], dir: &'a [usize], chosen: &'a [bool]) -> usize
     ensures { λ k. ⌜ k ≡ count (n .rocks) (insideAt (now (low .entry)) (now (dir .entry)) (now (chosen .entry))) ⌝ }
 {
     let mut k = 0;

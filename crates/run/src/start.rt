@@ -3,7 +3,7 @@ use crate::arrays;
 use crate::rocks;
 use crate::rocks::Limits;
 use crate::settling;
-ghost use Prim.Native.Nat.{ℕ, _≤_, _<_};
+ghost use Prim.Native.Nat.{ℕ, _+_, _≤_, _<_};
 ghost use mathlib.Core.Path.{_≡_};
 ghost use mathlib.Core.Bool.{cond, false};
 ghost use lib.ListN.{getD, set, length};
@@ -15,7 +15,7 @@ ghost use Rattle.sums.specs.Members.{members};
 ghost use Rattle.algorithm.specs.Day.{Day};
 ghost use Rattle.algorithm.specs.Start.{State};
 ghost use Rattle.algorithm.specs.Start.{component as componentOf, peel as peelOf};
-ghost use Rattle.run.specs.StartArrays.{timesOf, choicesOf, lowestOf, highestOf, heavyOf, rockOf, pebbleOf, limitsOf, filled, leftRock, leftCount, hangingOf, DayRocks, JobsOf, Cycles, Placed, balanceIn};
+ghost use Rattle.run.specs.StartArrays.{timesOf, choicesOf, lowestOf, highestOf, heavyOf, rockOf, pebbleOf, limitsOf, filled, leftRock, leftCount, hangingOf, DayRocks, JobsOf, Cycles, Placed, balanceIn, BalancesTo};
 
 // choices d j.
 fn choices(allowed: usize) -> usize
@@ -85,8 +85,9 @@ pub fn weigh(jobs: usize, q: usize, minutes: &[usize], weight: &mut [usize])
     ensures { λ _. ⌜ now (weight .exit) ≡ filled jobs (λ j. timesOf (timesOf 3 q) (getD (now (minutes .entry)) j 0)) (now (weight .entry)) ⌝ }
 {
     let scale = arrays::times(3, q);
+    let end = arrays::least(jobs, weight.len());
     let mut j = 0;
-    while j < jobs {
+    while j < end {
         arrays::put(weight, j, arrays::times(scale, arrays::at(minutes, j)));
         j += 1;
     }
@@ -104,8 +105,9 @@ pub fn mark_rocks<'a>(
 )
     ensures { λ _. ⌜ now (rock .exit) ≡ filled jobs (λ j. rockOf p q target (getD (now (minutes .entry)) j 0) (getD (now (allowed .entry)) j 0)) (now (rock .entry)) ⌝ }
 {
+    let end = arrays::least(jobs, rock.len());
     let mut j = 0;
-    while j < jobs {
+    while j < end {
         let kind = is_rock(p, q, target, arrays::at(minutes, j), arrays::at(allowed, j));
         arrays::mark(rock, j, kind);
         j += 1;
@@ -124,10 +126,34 @@ pub fn mark_pebbles<'a>(
 )
     ensures { λ _. ⌜ now (pebble .exit) ≡ filled jobs (λ j. pebbleOf p q target (getD (now (minutes .entry)) j 0) (getD (now (allowed .entry)) j 0)) (now (pebble .entry)) ⌝ }
 {
+    let end = arrays::least(jobs, pebble.len());
     let mut j = 0;
-    while j < jobs {
+    while j < end {
         let kind = is_pebble(p, q, target, arrays::at(minutes, j), arrays::at(allowed, j));
         arrays::mark(pebble, j, kind);
+        j += 1;
+    }
+}
+
+// x where entry v is marked, and else y.
+fn where_marked(set: &[bool], v: usize, x: usize, y: usize) -> usize
+    ensures { λ r. ⌜ r ≡ cond (getD (now (set .entry)) v false) x y ⌝ }
+{
+    if arrays::holds(set, v) { x } else { y }
+}
+
+// Entry j: the benches that job j allows where it is a pebble, and else none.
+pub fn choose<'a>(jobs: usize, pebble: &'a [bool], allowed: &'a [usize], choices: &mut [usize])
+    ensures { λ _. ⌜ now (choices .exit) ≡ filled jobs (λ j. cond (getD (now (pebble .entry)) j false) (getD (now (allowed .entry)) j 0) 0) (now (choices .entry)) ⌝ }
+{
+    let end = arrays::least(jobs, choices.len());
+    let mut j = 0;
+    while j < end {
+        arrays::put(
+            choices,
+            j,
+            where_marked(pebble, j, arrays::at(allowed, j), 0),
+        );
         j += 1;
     }
 }
@@ -136,8 +162,9 @@ pub fn mark_pebbles<'a>(
 pub fn place_lowest(jobs: usize, allowed: &[usize], place: &mut [usize])
     ensures { λ _. ⌜ now (place .exit) ≡ filled jobs (λ j. lowestOf (getD (now (allowed .entry)) j 0)) (now (place .entry)) ⌝ }
 {
+    let end = arrays::least(jobs, place.len());
     let mut j = 0;
-    while j < jobs {
+    while j < end {
         arrays::put(place, j, lowest(arrays::at(allowed, j)));
         j += 1;
     }
@@ -194,25 +221,50 @@ pub fn component<'a>(n: Limits, low: &'a [usize], high: &'a [usize], v: usize, s
     settling::spread(n, low, high, &neutral, set);
 }
 
-// 0, 1 or 2: neither, oneCycle d v, crowded d v.
-fn balance_at<'a>(n: Limits, low: &'a [usize], high: &'a [usize], v: usize) -> usize
-    ensures { λ r. ⌜ ((d : Day) → DayRocks d n (now (low .entry)) (now (high .entry)) → v < d .benches → r ≡ balanceIn d v) ⌝ }
-{
-    let neutral = [0usize; 512];
-    let mut set = [false; 64];
-    arrays::mark(&mut set, v, true);
-    settling::spread(n, low, high, &neutral, &mut set);
-    settling::balance(n, low, &neutral, &set)
-}
-
-// Entry v: balance_at v.
-pub fn balances<'a>(n: Limits, low: &'a [usize], high: &'a [usize], balance: &mut [usize])
-    ensures { λ _. ⌜ ((d : Day) → DayRocks d n (now (low .entry)) (now (high .entry)) → d .benches ≤ length (now (balance .entry)) → (v : ℕ) → v < d .benches → getD (now (balance .exit)) v 0 ≡ balanceIn d v) ⌝ }
+// Every marked entry below n becomes x.
+fn put_where(n: usize, set: &[bool], x: usize, to: &mut [usize])
+    ensures { λ _. ⌜ now (to .exit) ≡ filled n (λ v. cond (getD (now (set .entry)) v false) x (getD (now (to .entry)) v 0)) (now (to .entry)) ⌝ }
 {
     let mut v = 0;
+    while v < n {
+        arrays::put(to, v, where_marked(set, v, x, arrays::at(to, v)));
+        v += 1;
+    }
+}
+
+// Where entry v is not known yet, the benches of the component of v get its balance.
+fn balance_from<'a>(
+    n: Limits,
+    low: &'a [usize],
+    high: &'a [usize],
+    neutral: &'a [usize],
+    balance: &mut [usize],
+    v: usize,
+)
+    ensures { λ _. ⌜ ((d : Day) → DayRocks d n (now (low .entry)) (now (high .entry)) → ((i : ℕ) → getD (now (neutral .entry)) i 0 ≡ 0) → v < d .benches → BalancesTo d v (now (balance .entry)) → BalancesTo d (v + 1) (now (balance .exit))) ⌝ }
+{
+    if arrays::at(balance, v) != 3 {
+        return;
+    }
+    let mut set = [false; 64];
+    arrays::mark(&mut set, v, true);
+    settling::spread(n, low, high, neutral, &mut set);
+    if settling::rocks_in(n, low, neutral, &set) == 0 {
+        arrays::put(balance, v, 0);
+        return;
+    }
+    let b = settling::balance(n, low, neutral, &set);
+    put_where(n.benches, &set, b, balance);
+}
+
+// Entry v: 0, 1 or 2: neither, oneCycle d v, crowded d v. An entry is 3 until it is known.
+pub fn balances<'a>(n: Limits, low: &'a [usize], high: &'a [usize], balance: &mut [usize])
+    ensures { λ _. ⌜ ((d : Day) → DayRocks d n (now (low .entry)) (now (high .entry)) → d .benches ≤ length (now (balance .entry)) → ((v : ℕ) → v < d .benches → getD (now (balance .entry)) v 0 ≡ 3) → (v : ℕ) → v < d .benches → getD (now (balance .exit)) v 0 ≡ balanceIn d v) ⌝ }
+{
+    let neutral = [0usize; 512];
+    let mut v = 0;
     while v < n.benches {
-        let b = balance_at(n, low, high, v);
-        arrays::put(balance, v, b);
+        balance_from(n, low, high, &neutral, balance, v);
         v += 1;
     }
 }

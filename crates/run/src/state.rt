@@ -16,13 +16,15 @@ ghost use Rattle.algorithm.specs.Start.{State as RunState, start as startOf};
 ghost use Rattle.algorithm.specs.Run.{boardOf, explored};
 ghost use Rattle.run.specs.Arrays.{Owned};
 ghost use Rattle.run.specs.ExploreArrays.{Reaches};
+ghost use Rattle.run.specs.SetArrays.{Mapped};
+ghost use Rattle.run.specs.KeptArrays.{Chosen};
 ghost use Rattle.run.specs.Shown.{Shown};
 ghost use Rattle.run.specs.Held.{Ready, Held, Pushed};
 ghost use Rattle.run.specs.StartArrays.{Fields, DayRocks, JobsOf, Cycles, Placed};
 
 pub struct State {
     pub left: [bool; 512],
-    pub place: [usize; 512],
+    pub place: [u8; 512],
     pub moves: usize,
     // The load of each bench besides its rocks, and the benches that the pebbles on it allow.
     pub own: [usize; 64],
@@ -51,10 +53,12 @@ impl State {
         let mut place = [0usize; 512];
         start::place_lowest(n.jobs, allowed, &mut place);
         start::peel(n, job, low, high, balance, &mut left, &mut place);
+        let mut places = [0u8; 512];
+        arrays::to_bytes(n.jobs, &place, &mut places);
         let none = [0usize; 64];
         State {
             left,
-            place,
+            place: places,
             moves: 0,
             own: none,
             from: none,
@@ -75,10 +79,12 @@ impl State {
     ) -> State
         ensures { λ r. ⌜ (r .left ≡ self .left) × (r .place ≡ self .place) × (r .moves ≡ self .moves) × ((d : Day) → (m : ℕ) → (s : RunState) → (low : List ℕ) → (high : List ℕ) → (weight : List ℕ) → Ready d n low high weight (now (amount .entry)) (now (pebble .entry)) (now (allowed .entry)) → Held d m s (self .left) (self .place) → Owned (boardOf d s) (r .own) × Reaches (boardOf d s) (r .from)) ⌝ }
     {
+        let mut place = [0usize; 512];
+        arrays::from_bytes(n.jobs, &self.place, &mut place);
         let mut own = [0usize; 64];
-        loads::own_loads(n.jobs, amount, &self.left, &self.place, &mut own);
+        loads::own_loads(n.jobs, amount, &self.left, &place, &mut own);
         let mut from = [0usize; 64];
-        explore::fill_from(n, pebble, allowed, &self.place, &mut from);
+        explore::fill_from(n, pebble, allowed, &place, &mut from);
         self.own = own;
         self.from = from;
         self
@@ -91,8 +97,12 @@ impl State {
         low: &'a [usize],
         high: &'a [usize],
         weight: &'a [usize],
+        here: &'a [usize],
+        near: &'a [usize],
+        all: usize,
+        stony: usize,
     ) -> State
-        ensures { λ r. ⌜ (r .left ≡ self .left) × (r .place ≡ self .place) × (r .moves ≡ self .moves) × (r .own ≡ self .own) × (r .from ≡ self .from) × ((d : Day) → (m : ℕ) → (s : RunState) → (amount : List ℕ) → (pebble : List Bool) → (allowed : List ℕ) → Ready d n (now (low .entry)) (now (high .entry)) (now (weight .entry)) amount pebble allowed → Held d m s (self .left) (self .place) → Owned (boardOf d s) (self .own) → Reaches (boardOf d s) (self .from) → Shown (boardOf d s) (explored d s) (r .dir) (r .load) (r .joined) (r .level)) ⌝ }
+        ensures { λ r. ⌜ (r .left ≡ self .left) × (r .place ≡ self .place) × (r .moves ≡ self .moves) × (r .own ≡ self .own) × (r .from ≡ self .from) × ((d : Day) → (m : ℕ) → (s : RunState) → (amount : List ℕ) → (pebble : List Bool) → (allowed : List ℕ) → Ready d n (now (low .entry)) (now (high .entry)) (now (weight .entry)) amount pebble allowed → Mapped n (now (low .entry)) (now (high .entry)) (now (here .entry)) (now (near .entry)) all stony → Held d m s (self .left) (self .place) → Owned (boardOf d s) (self .own) → Reaches (boardOf d s) (self .from) → Shown (boardOf d s) (explored d s) (r .dir) (r .load) (r .joined) (r .level)) ⌝ }
     {
         let own = self.own;
         let never = arrays::plus(n.benches, 1);
@@ -105,6 +115,10 @@ impl State {
             low,
             high,
             weight,
+            here,
+            near,
+            all,
+            stony,
             &own,
             &self.from,
             &mut dir,
@@ -127,13 +141,12 @@ impl State {
         high: &'a [usize],
         weight: &'a [usize],
         amount: &'a [usize],
-        pebble: &'a [bool],
-        allowed: &'a [usize],
+        choice: &'a [usize],
     ) -> State
-        ensures { λ r. ⌜ ((d : Day) → (m : ℕ) → (s : RunState) → Ready d n (now (low .entry)) (now (high .entry)) (now (weight .entry)) (now (amount .entry)) (now (pebble .entry)) (now (allowed .entry)) → Held d m s (self .left) (self .place) → Owned (boardOf d s) (self .own) → Reaches (boardOf d s) (self .from) → Shown (boardOf d s) (explored d s) (self .dir) (self .load) (self .joined) (self .level) → self .moves ≡ m → Pushed d m s self r) ⌝ }
+        ensures { λ r. ⌜ ((d : Day) → (m : ℕ) → (s : RunState) → (pebble : List Bool) → (allowed : List ℕ) → Ready d n (now (low .entry)) (now (high .entry)) (now (weight .entry)) (now (amount .entry)) pebble allowed → Chosen (n .jobs) pebble allowed (now (choice .entry)) → Held d m s (self .left) (self .place) → Owned (boardOf d s) (self .own) → Reaches (boardOf d s) (self .from) → Shown (boardOf d s) (explored d s) (self .dir) (self .load) (self .joined) (self .level) → self .moves ≡ m → Pushed d m s self r) ⌝ }
     {
-        let mut open = [false; 64];
-        push::receivers(
+        let mut wanted = [0usize; 66];
+        push::mark_levels(
             n,
             low,
             high,
@@ -143,17 +156,17 @@ impl State {
             &self.load,
             &self.joined,
             &self.level,
-            &mut open,
+            &mut wanted,
         );
-        let mut wanted = [0usize; 66];
-        push::mark_levels(n, &self.level, &open, &mut wanted);
-        let m = push::first_push(n, pebble, allowed, &self.place, &self.level, &open, &wanted);
+        let mut goals = [0usize; 64];
+        push::fill_goals(n, &self.level, &wanted, &mut goals);
+        let m = push::first_push(n, choice, &self.place, &goals);
         let job = m.job;
         let bench = m.bench;
         if job < n.jobs {
             if job < 512 {
-                let before = self.place[job];
-                self.place[job] = bench;
+                let before = arrays::byte(&self.place, job);
+                self.place[job] = (bench % 256) as u8;
                 let own = self.own;
                 let from = self.from;
                 let k = kept::shifted(
@@ -161,8 +174,7 @@ impl State {
                     from,
                     n.jobs,
                     amount,
-                    pebble,
-                    allowed,
+                    choice,
                     &self.place,
                     before,
                     bench,

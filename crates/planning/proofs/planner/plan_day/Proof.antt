@@ -3,7 +3,7 @@ use mathlib.Core.Path.{refl, sym, subst, _∙_}
 use Prim.Native.Nat.{ℕ}
 use mathlib.Core.Bool.{Bool, false}
 use native.Mathlib.Omega.{arith}
-use lib.ListN.{replicate, length-replicate}
+use lib.ListN.{replicate, length-replicate, getD-replicate}
 use Rattle.planning.proofs.DayRun.{long-answer, not-long, crowded-answer, not-crowded, marks-are, pebble-marks, weighed, limit-benches, limit-jobs, limit-bound, limit-small, limit-limit, jobs-gathered, rocks-gathered}
 use Rattle.run.specs.StartArrays.{Fields}
 use borrow.Author.Needs.{needs}
@@ -68,7 +68,7 @@ crowded-requires : tie.Need-crowded-requires
 crowded-requires c κs = search needs
 
 returns-2 : tie.Need-returns-2
-returns-2 c = λ d F unbooked eb ep eq et sound rp rl. let at-args = c .before .before .before .before .before .before .before .before .before .before .before .before .before .before .before .before .before .before .before .before .before .before .before .before .before .before .before .before .before .before .args in let at-mark-rocks = c .before .before .before .before .before .before .before .before .before .before .before .before .before .before .before .before .before .before .before .before .before .before .mark-rocks in let at-limits = c .before .before .before .before .before .before .before .before .before .before .before .before .limits in let at-gather = c .before .before .before .before .before .before .before .before .before .before .before .before .before .before .before .before .gather in let at-balances = c .before .before .before .before .before .before .before .before .balances in let at-if2 = c .before .before .before .if2 in let short = not-long d (at-args .jobs) (at-args .minutes .now) (at-args .allowed .now) F (at-args .h .target) et (c .before .before .before .before .before .before .before .before .before .before .before .before .before .before .before .before .before .before .before .before .before .before .before .before .before .long-job .ensures) (omega (arith, c .before .before .before .before .before .before .before .before .before .before .before .before .before .before .before .before .before .before .before .before .before .before .before .before .if1 .left)) in let marks = marks-are d (at-args .h .benches) (at-args .jobs) (at-args .h .p) (at-args .h .q) (at-args .h .target) (at-args .minutes .now) (at-args .allowed .now) F eb ep eq et (replicate 512 false) (omega (arith, length-replicate {A = Bool} 512 false)) (at-mark-rocks .ensures) in let n = at-limits .result in let e = at-limits .ensures in let nb = limit-benches d (at-args .h .benches) (at-args .jobs) (at-args .h .p) (at-args .h .q) (at-args .h .target) (at-args .minutes .now) (at-args .allowed .now) F eb ep eq et n e in let nj = limit-jobs d (at-args .h .benches) (at-args .jobs) (at-args .h .p) (at-args .h .q) (at-args .h .target) (at-args .minutes .now) (at-args .allowed .now) F eb ep eq et n e in let G = rocks-gathered d (at-args .h .benches) (at-args .jobs) (at-args .h .p) (at-args .h .q) (at-args .h .target) (at-args .minutes .now) (at-args .allowed .now) F eb ep eq et (sound short) (at-mark-rocks .last .1 .1 .1 .1 .1 .1 .0) marks (at-gather .ensures .0) _ (replicate 512 0) (replicate 512 0) nb nj refl (omega (arith, length-replicate {A = ℕ} 512 0)) (omega (arith, length-replicate {A = ℕ} 512 0)) (at-gather .ensures .2) (at-gather .ensures .3) in let balance-is = at-balances .ensures d G (omega (arith, length-replicate {A = ℕ} 64 0, F .bounded .few-benches)) in let found = c .before .before .before .before .before .crowded-bench .ensures in crowded-answer d (n .benches) (at-balances .last .1 .1 .1 .0) short nb balance-is found (omega (arith, at-if2 .taken)) (c .crowded .ensures d G (omega (arith, nb, at-if2 .taken))) (at-args .places .now) (at-args .loads .now)
+returns-2 c = λ d F unbooked eb ep eq et sound rp rl. let at-args = c .before .before .before .before .before .before .before .before .before .before .before .before .before .before .before .before .before .before .before .before .before .before .before .before .before .before .before .before .before .before .args in let at-mark-rocks = c .before .before .before .before .before .before .before .before .before .before .before .before .before .before .before .before .before .before .before .before .before .before .mark-rocks in let at-limits = c .before .before .before .before .before .before .before .before .before .before .before .before .limits in let at-gather = c .before .before .before .before .before .before .before .before .before .before .before .before .before .before .before .before .gather in let at-balances = c .before .before .before .before .before .before .before .before .balances in let at-if2 = c .before .before .before .if2 in let short = not-long d (at-args .jobs) (at-args .minutes .now) (at-args .allowed .now) F (at-args .h .target) et (c .before .before .before .before .before .before .before .before .before .before .before .before .before .before .before .before .before .before .before .before .before .before .before .before .before .long-job .ensures) (omega (arith, c .before .before .before .before .before .before .before .before .before .before .before .before .before .before .before .before .before .before .before .before .before .before .before .before .if1 .left)) in let marks = marks-are d (at-args .h .benches) (at-args .jobs) (at-args .h .p) (at-args .h .q) (at-args .h .target) (at-args .minutes .now) (at-args .allowed .now) F eb ep eq et (replicate 512 false) (omega (arith, length-replicate {A = Bool} 512 false)) (at-mark-rocks .ensures) in let n = at-limits .result in let e = at-limits .ensures in let nb = limit-benches d (at-args .h .benches) (at-args .jobs) (at-args .h .p) (at-args .h .q) (at-args .h .target) (at-args .minutes .now) (at-args .allowed .now) F eb ep eq et n e in let nj = limit-jobs d (at-args .h .benches) (at-args .jobs) (at-args .h .p) (at-args .h .q) (at-args .h .target) (at-args .minutes .now) (at-args .allowed .now) F eb ep eq et n e in let G = rocks-gathered d (at-args .h .benches) (at-args .jobs) (at-args .h .p) (at-args .h .q) (at-args .h .target) (at-args .minutes .now) (at-args .allowed .now) F eb ep eq et (sound short) (at-mark-rocks .last .1 .1 .1 .1 .1 .1 .0) marks (at-gather .ensures .0) _ (replicate 512 0) (replicate 512 0) nb nj refl (omega (arith, length-replicate {A = ℕ} 512 0)) (omega (arith, length-replicate {A = ℕ} 512 0)) (at-gather .ensures .2) (at-gather .ensures .3) in let balance-is = at-balances .ensures d G (omega (arith, length-replicate {A = ℕ} 64 3, F .bounded .few-benches)) (λ v h. getD-replicate {A = ℕ} 64 v 3 0 (omega (arith, F .bounded .few-benches))) in let found = c .before .before .before .before .before .crowded-bench .ensures in crowded-answer d (n .benches) (at-balances .last .1 .1 .1 .0) short nb balance-is found (omega (arith, at-if2 .taken)) (c .crowded .ensures d G (omega (arith, nb, at-if2 .taken))) (at-args .places .now) (at-args .loads .now)
 
 slice-aggregate-weigh : tie.Need-slice-aggregate-weigh
 slice-aggregate-weigh c = search needs
@@ -110,7 +110,7 @@ same-length-2 : tie.Need-same-length-2
 same-length-2 c = search needs
 
 returns-3 : tie.Need-returns-3
-returns-3 c = λ d F unbooked eb ep eq et sound rp rl. let at-args = c .before .before .before .before .before .before .before .before .before .before .before .before .before .before .before .before .before .before .before .before .before .before .before .before .before .before .before .before .before .before .before .before .before .before .before .before .before .before .before .before .before .before .before .before .before .before .args in let at-mark-rocks = c .before .before .before .before .before .before .before .before .before .before .before .before .before .before .before .before .before .before .before .before .before .before .before .before .before .before .before .before .before .before .before .before .before .before .before .before .before .before .mark-rocks in let at-limits = c .before .before .before .before .before .before .before .before .before .before .before .before .before .before .before .before .before .before .before .before .before .before .before .before .before .before .before .before .limits in let at-gather = c .before .before .before .before .before .before .before .before .before .before .before .before .before .before .before .before .before .before .before .before .before .before .before .before .before .before .before .before .before .before .before .before .gather in let at-balances = c .before .before .before .before .before .before .before .before .before .before .before .before .before .before .before .before .before .before .before .before .before .before .before .before .balances in let short = not-long d (at-args .jobs) (at-args .minutes .now) (at-args .allowed .now) F (at-args .h .target) et (c .before .before .before .before .before .before .before .before .before .before .before .before .before .before .before .before .before .before .before .before .before .before .before .before .before .before .before .before .before .before .before .before .before .before .before .before .before .before .before .before .before .long-job .ensures) (omega (arith, c .before .before .before .before .before .before .before .before .before .before .before .before .before .before .before .before .before .before .before .before .before .before .before .before .before .before .before .before .before .before .before .before .before .before .before .before .before .before .before .before .if1 .left)) in let marks = marks-are d (at-args .h .benches) (at-args .jobs) (at-args .h .p) (at-args .h .q) (at-args .h .target) (at-args .minutes .now) (at-args .allowed .now) F eb ep eq et (replicate 512 false) (omega (arith, length-replicate {A = Bool} 512 false)) (at-mark-rocks .ensures) in let n = at-limits .result in let e = at-limits .ensures in let nb = limit-benches d (at-args .h .benches) (at-args .jobs) (at-args .h .p) (at-args .h .q) (at-args .h .target) (at-args .minutes .now) (at-args .allowed .now) F eb ep eq et n e in let nj = limit-jobs d (at-args .h .benches) (at-args .jobs) (at-args .h .p) (at-args .h .q) (at-args .h .target) (at-args .minutes .now) (at-args .allowed .now) F eb ep eq et n e in let G = rocks-gathered d (at-args .h .benches) (at-args .jobs) (at-args .h .p) (at-args .h .q) (at-args .h .target) (at-args .minutes .now) (at-args .allowed .now) F eb ep eq et (sound short) (at-mark-rocks .last .1 .1 .1 .1 .1 .1 .0) marks (at-gather .ensures .0) _ (replicate 512 0) (replicate 512 0) nb nj refl (omega (arith, length-replicate {A = ℕ} 512 0)) (omega (arith, length-replicate {A = ℕ} 512 0)) (at-gather .ensures .2) (at-gather .ensures .3) in let balance-is = at-balances .ensures d G (omega (arith, length-replicate {A = ℕ} 64 0, F .bounded .few-benches)) in let sparse = not-crowded d (n .benches) (at-balances .last .1 .1 .1 .0) nb balance-is (c .before .before .before .before .before .before .before .before .before .before .before .before .before .before .before .before .before .before .before .before .before .crowded-bench .ensures) (omega (arith, c .before .before .before .before .before .before .before .before .before .before .before .before .before .before .before .before .before .before .before .if2 .left)) in c .before .before .before .before .plan-run .ensures d (subst (λ (k : ℕ). Fields d k (at-args .minutes .now) (at-args .allowed .now)) (sym (nj ∙ sym (F .jobs-are))) F) unbooked G (jobs-gathered d (at-args .h .benches) (at-args .jobs) (at-args .h .p) (at-args .h .q) (at-args .h .target) (at-args .minutes .now) (at-args .allowed .now) F eb ep eq et (sound short) (at-mark-rocks .last .1 .1 .1 .1 .1 .1 .0) marks (at-gather .ensures .0) (replicate 512 0) (omega (arith, length-replicate {A = ℕ} 512 0)) (at-gather .ensures .1)) balance-is marks (weighed d (at-args .h .benches) (at-args .jobs) (at-args .h .p) (at-args .h .q) (at-args .h .target) (at-args .minutes .now) (at-args .allowed .now) F eb ep eq et (replicate 512 0) (omega (arith, length-replicate {A = ℕ} 512 0)) (c .before .before .before .before .before .before .before .before .before .before .before .before .before .before .before .before .before .weigh .ensures)) (pebble-marks d (at-args .h .benches) (at-args .jobs) (at-args .h .p) (at-args .h .q) (at-args .h .target) (at-args .minutes .now) (at-args .allowed .now) F eb ep eq et (replicate 512 false) (omega (arith, length-replicate {A = Bool} 512 false)) (c .before .before .before .before .before .before .before .before .before .before .before .before .before .before .mark-pebbles .ensures)) (limit-bound d (at-args .h .benches) (at-args .jobs) (at-args .h .p) (at-args .h .q) (at-args .h .target) (at-args .minutes .now) (at-args .allowed .now) F eb ep eq et n e) (limit-small d (at-args .h .benches) (at-args .jobs) (at-args .h .p) (at-args .h .q) (at-args .h .target) (at-args .minutes .now) (at-args .allowed .now) F eb ep eq et n e) (limit-limit d (at-args .h .benches) (at-args .jobs) (at-args .h .p) (at-args .h .q) (at-args .h .target) (at-args .minutes .now) (at-args .allowed .now) F eb ep eq et n e) short sparse rp rl
+returns-3 c = λ d F unbooked eb ep eq et sound rp rl. let at-args = c .before .before .before .before .before .before .before .before .before .before .before .before .before .before .before .before .before .before .before .before .before .before .before .before .before .before .before .before .before .before .before .before .before .before .before .before .before .before .before .before .before .before .before .before .before .before .args in let at-mark-rocks = c .before .before .before .before .before .before .before .before .before .before .before .before .before .before .before .before .before .before .before .before .before .before .before .before .before .before .before .before .before .before .before .before .before .before .before .before .before .before .mark-rocks in let at-limits = c .before .before .before .before .before .before .before .before .before .before .before .before .before .before .before .before .before .before .before .before .before .before .before .before .before .before .before .before .limits in let at-gather = c .before .before .before .before .before .before .before .before .before .before .before .before .before .before .before .before .before .before .before .before .before .before .before .before .before .before .before .before .before .before .before .before .gather in let at-balances = c .before .before .before .before .before .before .before .before .before .before .before .before .before .before .before .before .before .before .before .before .before .before .before .before .balances in let short = not-long d (at-args .jobs) (at-args .minutes .now) (at-args .allowed .now) F (at-args .h .target) et (c .before .before .before .before .before .before .before .before .before .before .before .before .before .before .before .before .before .before .before .before .before .before .before .before .before .before .before .before .before .before .before .before .before .before .before .before .before .before .before .before .before .long-job .ensures) (omega (arith, c .before .before .before .before .before .before .before .before .before .before .before .before .before .before .before .before .before .before .before .before .before .before .before .before .before .before .before .before .before .before .before .before .before .before .before .before .before .before .before .before .if1 .left)) in let marks = marks-are d (at-args .h .benches) (at-args .jobs) (at-args .h .p) (at-args .h .q) (at-args .h .target) (at-args .minutes .now) (at-args .allowed .now) F eb ep eq et (replicate 512 false) (omega (arith, length-replicate {A = Bool} 512 false)) (at-mark-rocks .ensures) in let n = at-limits .result in let e = at-limits .ensures in let nb = limit-benches d (at-args .h .benches) (at-args .jobs) (at-args .h .p) (at-args .h .q) (at-args .h .target) (at-args .minutes .now) (at-args .allowed .now) F eb ep eq et n e in let nj = limit-jobs d (at-args .h .benches) (at-args .jobs) (at-args .h .p) (at-args .h .q) (at-args .h .target) (at-args .minutes .now) (at-args .allowed .now) F eb ep eq et n e in let G = rocks-gathered d (at-args .h .benches) (at-args .jobs) (at-args .h .p) (at-args .h .q) (at-args .h .target) (at-args .minutes .now) (at-args .allowed .now) F eb ep eq et (sound short) (at-mark-rocks .last .1 .1 .1 .1 .1 .1 .0) marks (at-gather .ensures .0) _ (replicate 512 0) (replicate 512 0) nb nj refl (omega (arith, length-replicate {A = ℕ} 512 0)) (omega (arith, length-replicate {A = ℕ} 512 0)) (at-gather .ensures .2) (at-gather .ensures .3) in let balance-is = at-balances .ensures d G (omega (arith, length-replicate {A = ℕ} 64 3, F .bounded .few-benches)) (λ v h. getD-replicate {A = ℕ} 64 v 3 0 (omega (arith, F .bounded .few-benches))) in let sparse = not-crowded d (n .benches) (at-balances .last .1 .1 .1 .0) nb balance-is (c .before .before .before .before .before .before .before .before .before .before .before .before .before .before .before .before .before .before .before .before .before .crowded-bench .ensures) (omega (arith, c .before .before .before .before .before .before .before .before .before .before .before .before .before .before .before .before .before .before .before .if2 .left)) in c .before .before .before .before .plan-run .ensures d (subst (λ (k : ℕ). Fields d k (at-args .minutes .now) (at-args .allowed .now)) (sym (nj ∙ sym (F .jobs-are))) F) unbooked G (jobs-gathered d (at-args .h .benches) (at-args .jobs) (at-args .h .p) (at-args .h .q) (at-args .h .target) (at-args .minutes .now) (at-args .allowed .now) F eb ep eq et (sound short) (at-mark-rocks .last .1 .1 .1 .1 .1 .1 .0) marks (at-gather .ensures .0) (replicate 512 0) (omega (arith, length-replicate {A = ℕ} 512 0)) (at-gather .ensures .1)) balance-is marks (weighed d (at-args .h .benches) (at-args .jobs) (at-args .h .p) (at-args .h .q) (at-args .h .target) (at-args .minutes .now) (at-args .allowed .now) F eb ep eq et (replicate 512 0) (omega (arith, length-replicate {A = ℕ} 512 0)) (c .before .before .before .before .before .before .before .before .before .before .before .before .before .before .before .before .before .weigh .ensures)) (pebble-marks d (at-args .h .benches) (at-args .jobs) (at-args .h .p) (at-args .h .q) (at-args .h .target) (at-args .minutes .now) (at-args .allowed .now) F eb ep eq et (replicate 512 false) (omega (arith, length-replicate {A = Bool} 512 false)) (c .before .before .before .before .before .before .before .before .before .before .before .before .before .before .mark-pebbles .ensures)) (limit-bound d (at-args .h .benches) (at-args .jobs) (at-args .h .p) (at-args .h .q) (at-args .h .target) (at-args .minutes .now) (at-args .allowed .now) F eb ep eq et n e) (limit-small d (at-args .h .benches) (at-args .jobs) (at-args .h .p) (at-args .h .q) (at-args .h .target) (at-args .minutes .now) (at-args .allowed .now) F eb ep eq et n e) (limit-limit d (at-args .h .benches) (at-args .jobs) (at-args .h .p) (at-args .h .q) (at-args .h .target) (at-args .minutes .now) (at-args .allowed .now) F eb ep eq et n e) short sparse rp rl
 
 pub plan-day-spec : {M : Type 1} → statement M
 plan-day-spec =

@@ -4,24 +4,23 @@ use mathlib.Core.Path.{_≡_, refl, ap, _∙_}
 use mathlib.Core.List.{List}
 use native.Mathlib.Omega.{arith}
 use lib.ListN.{length, length-set}
-use Rattle.bits.specs.Bits.{isSet}
 use Rattle.algorithm.specs.Board.{Board, Directions}
 use Rattle.run.specs.Arrays.{rocksOf, Rocks, Directed, Rounds}
 use Rattle.run.specs.ExploreArrays.{joinsAt}
-use Rattle.run.specs.SetArrays.{Here, Covers}
+use Rattle.run.specs.SetArrays.{Here, Near, Covers}
 use Rattle.run.proofs.ConflictLoops.{Closes, closes-starts, closes-goes-on, closes-ends, closes-spent}
 use borrow.Author.Needs.{needs}
 use Rattle.run.proofs.conflict.close.Statement.{statement}
 use Rattle.run.proofs.conflict.close.Tie as tie
 
 abbrev Inv-loop : tie.InvT-loop
-Inv-loop n i low high here cand dir joined₀ cands₀ grown₀ turns₀ joined cands grown turns = (length joined ≡ length joined₀) × ((b : Board) (weight : List ℕ) (dirs : Directions) (xs : List ℕ) (R : Rocks b n low high weight) (few : rocksOf b ≤ 64) → i ≤ b .benches → (H : Here n low high here) → Covers n low high (joinsAt (n .benches) low high dir joined₀) cand → Directed b dirs dir → Rounds b xs joined₀ → Closes b n low high weight R few here H i dirs xs dir joined₀ turns cands grown joined)
+Inv-loop n i low high here near cand dir joined₀ cands₀ grown₀ turns₀ joined cands grown turns = (length joined ≡ length joined₀) × ((b : Board) (weight : List ℕ) (dirs : Directions) (xs : List ℕ) (R : Rocks b n low high weight) (few : rocksOf b ≤ 64) → i ≤ b .benches → (H : Here n low high here) → Near n low high near → Covers n low high (joinsAt (n .benches) low high dir joined₀) cand → Directed b dirs dir → Rounds b xs joined₀ → Closes b n low high weight R few here H i dirs xs dir joined₀ turns cands grown joined)
 
 abbrev μ-loop : tie.MeasureT-loop
-μ-loop n i low high here cand dir joined₀ cands₀ grown₀ turns₀ joined cands grown turns = turns
+μ-loop n i low high here near cand dir joined₀ cands₀ grown₀ turns₀ joined cands grown turns = turns
 
 loop-holds : tie.Need-loop-holds Inv-loop μ-loop
-loop-holds c = (refl, λ b weight dirs xs R few hi H C D X. closes-starts b (c .before .before .before .before .before .args .n) (c .before .before .before .before .before .args .low .now) (c .before .before .before .before .before .args .high .now) weight R few (c .before .before .before .before .before .args .here .now) H (c .before .before .before .before .before .args .i) dirs xs (c .before .before .before .before .before .args .dir .now) (c .before .before .before .before .before .args .joined .now) hi D X ((c .before .before .before .before .before .args .n) .benches) (c .before .before .before .before .before .args .cand) 0 refl C)
+loop-holds c = let at-args = c .before .before .before .before .before .before .args in (refl, λ b weight dirs xs R few hi H N C D X. closes-starts b (at-args .n) (at-args .low .now) (at-args .high .now) weight R few (at-args .here .now) H (at-args .i) dirs xs (at-args .dir .now) (at-args .joined .now) hi D X (at-args .n .benches) (at-args .cand) 0 refl C)
 
 first-joining-requires : tie.Need-first-joining-requires Inv-loop μ-loop
 first-joining-requires c κs = search needs
@@ -30,7 +29,7 @@ same-length : tie.Need-same-length Inv-loop μ-loop
 same-length c = c .before .before .before .before .loop .inv .0
 
 returns : tie.Need-returns Inv-loop μ-loop
-returns c = λ b weight dirs xs R few hi H C D X. closes-ends b (c .before .before .before .before .before .before .before .before .before .before .args .n) (c .before .before .before .before .before .before .before .before .before .before .args .low .now) (c .before .before .before .before .before .before .before .before .before .before .args .high .now) weight R few (c .before .before .before .before .before .before .before .before .before .before .args .here .now) H (c .before .before .before .before .before .before .before .before .before .before .args .i) dirs xs (c .before .before .before .before .before .before .before .before .before .before .args .dir .now) (c .before .before .before .before .before .before .before .before .before .before .args .joined .now) hi D X (c .before .before .before .before .loop .inv .1 b weight dirs xs R few hi H C D X) (c .before .first-joining .result) (c .before .first-joining .ensures) (omega arith)
+returns c = λ b weight dirs xs R few hi H N C D X. let at-args = c .before .before .before .before .before .before .before .before .before .before .before .args in let at-first = c .before .first-joining in closes-ends b (at-args .n) (at-args .low .now) (at-args .high .now) weight R few (at-args .here .now) H (at-args .i) dirs xs (at-args .dir .now) (at-args .joined .now) hi D X (c .before .before .before .before .loop .inv .1 b weight dirs xs R few hi H N C D X) (at-first .result) (at-first .ensures) (omega arith)
 
 put-requires : tie.Need-put-requires Inv-loop μ-loop
 put-requires c κs = search needs
@@ -38,14 +37,11 @@ put-requires c κs = search needs
 with-requires : tie.Need-with-requires Inv-loop μ-loop
 with-requires c κs = search needs
 
-at-requires : tie.Need-at-requires Inv-loop μ-loop
-at-requires c κs = search needs
-
-others-requires : tie.Need-others-requires Inv-loop μ-loop
-others-requires c κs = search needs
-
 above-requires : tie.Need-above-requires Inv-loop μ-loop
 above-requires c κs = search needs
+
+at-requires : tie.Need-at-requires Inv-loop μ-loop
+at-requires c κs = search needs
 
 sub-turns : tie.Need-sub-turns Inv-loop μ-loop
 sub-turns c = omega arith
@@ -54,13 +50,13 @@ loop-less : tie.Need-loop-less Inv-loop μ-loop
 loop-less c = omega arith
 
 loop-again : tie.Need-loop-again Inv-loop μ-loop
-loop-again c = (ap length (c .before .before .before .before .before .before .put .ensures) ∙ simp length-set (c .before .before .before .before .before .before .before .before .before .before .before .before .loop .inv .0), λ b weight dirs xs R few hi H C D X. closes-goes-on b (c .before .before .before .before .before .before .before .before .before .before .before .before .before .before .before .before .before .before .args .n) (c .before .before .before .before .before .before .before .before .before .before .before .before .before .before .before .before .before .before .args .low .now) (c .before .before .before .before .before .before .before .before .before .before .before .before .before .before .before .before .before .before .args .high .now) weight R few (c .before .before .before .before .before .before .before .before .before .before .before .before .before .before .before .before .before .before .args .here .now) H (c .before .before .before .before .before .before .before .before .before .before .before .before .before .before .before .before .before .before .args .i) dirs xs (c .before .before .before .before .before .before .before .before .before .before .before .before .before .before .before .before .before .before .args .dir .now) (c .before .before .before .before .before .before .before .before .before .before .before .before .before .before .before .before .before .before .args .joined .now) hi D X (c .before .before .before .before .before .before .before .before .before .before .before .before .loop .inv .1 b weight dirs xs R few hi H C D X) (c .before .before .before .before .before .before .before .before .before .first-joining .result) (c .before .before .before .before .before .before .before .before .before .first-joining .ensures) (omega arith) (c .before .before .before .before .before .before .before .before .before .before .before .loop-test .taken) (c .before .before .before .before .before .before .put .ensures) (c .above .result) (c .before .others .result) (c .before .before .before .with .result) (c .before .before .before .with .ensures) (c .above .ensures) (λ r h p. c .before .others .ensures r h (ap (λ (k : ℕ). isSet 64 k r) (c .before .before .at .ensures) ∙ p)))
+loop-again c = let at-args = c .before .before .before .before .before .before .before .before .before .before .before .before .before .before .before .before .before .before .args in let at-loop = c .before .before .before .before .before .before .before .before .before .before .before .loop in let at-first = c .before .before .before .before .before .before .before .before .first-joining in let at-put = c .before .before .before .before .before .put in let at-with = c .before .before .with in let at-above = c .before .above in (ap length (at-put .ensures) ∙ simp length-set (at-loop .inv .0), λ b weight dirs xs R few hi H N C D X. closes-goes-on b (at-args .n) (at-args .low .now) (at-args .high .now) weight R few (at-args .here .now) H (at-args .i) dirs xs (at-args .dir .now) (at-args .joined .now) hi D X (at-loop .inv .1 b weight dirs xs R few hi H N C D X) (at-first .result) (at-first .ensures) (at-args .near .now) N (omega arith) (c .before .before .before .before .before .before .before .before .before .before .loop-test .taken) (at-put .ensures) (at-above .result) (c .at .result) (at-with .result) (at-with .ensures) (at-above .ensures) (c .at .ensures))
 
 same-length-2 : tie.Need-same-length-2 Inv-loop μ-loop
 same-length-2 c = c .before .loop .inv .0
 
 returns-2 : tie.Need-returns-2 Inv-loop μ-loop
-returns-2 c = λ b weight dirs xs R few hi H C D X. closes-spent b (c .before .before .before .before .before .before .before .args .n) (c .before .before .before .before .before .before .before .args .low .now) (c .before .before .before .before .before .before .before .args .high .now) weight R few (c .before .before .before .before .before .before .before .args .here .now) H (c .before .before .before .before .before .before .before .args .i) dirs xs (c .before .before .before .before .before .before .before .args .dir .now) (c .before .before .before .before .before .before .before .args .joined .now) hi D X (c .before .loop .inv .1 b weight dirs xs R few hi H C D X) (omega arith)
+returns-2 c = λ b weight dirs xs R few hi H N C D X. let at-args = c .before .before .before .before .before .before .before .before .args in closes-spent b (at-args .n) (at-args .low .now) (at-args .high .now) weight R few (at-args .here .now) H (at-args .i) dirs xs (at-args .dir .now) (at-args .joined .now) hi D X (c .before .loop .inv .1 b weight dirs xs R few hi H N C D X) (omega arith)
 
 pub close-spec : {M : Type 1} → statement M
 close-spec =
@@ -74,9 +70,8 @@ close-spec =
     returns
     put-requires
     with-requires
-    at-requires
-    others-requires
     above-requires
+    at-requires
     sub-turns
     loop-less
     loop-again

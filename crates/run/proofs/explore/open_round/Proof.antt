@@ -7,9 +7,6 @@ use Rattle.run.proofs.explore.open_round.Tie as tie
 opening-requires : tie.Need-opening-requires
 opening-requires c κs = search needs
 
-put-all-requires : tie.Need-put-all-requires
-put-all-requires c κs = search needs
-
 enter-all-requires : tie.Need-enter-all-requires
 enter-all-requires c κs = search needs
 
@@ -20,15 +17,8 @@ same-length-2 : tie.Need-same-length-2
 same-length-2 c = search needs
 
 returns : tie.Need-returns
-returns c = (c .before .before .before .before .before .before .before .before .opening .ensures, c .before .before .enter-all .ensures, c .before .before .before .before .before .before .put-all .ensures)
+returns c = (c .before .before .before .before .before .before .before .opening .ensures, c .before .before .before .before .enter-all .ensures .0, c .before .before .before .before .enter-all .ensures .1)
 
 pub open-round-spec : {M : Type 1} → statement M
 open-round-spec =
-    tie.close
-    (tie.spec
-    opening-requires
-    put-all-requires
-    enter-all-requires
-    same-length
-    same-length-2
-    returns)
+    tie.close (tie.spec opening-requires enter-all-requires same-length same-length-2 returns)

@@ -1,24 +1,29 @@
--- Job by job.
-use mathlib.Core.Path.{_≡_, refl, ap, _∙_}
+-- Job by job, as long as the set may grow.
 use Prim.Native.Nat.{ℕ, _-_, _≤_, _<_}
+use mathlib.Core.Path.{_≡_}
 use native.Mathlib.Omega.{arith}
-use lib.ListN.{set}
-use Rattle.run.proofs.KeptRun.{lies-none, lies-more}
 use Rattle.sums.specs.Search.{any}
 use Rattle.bits.specs.Bits.{isSet}
 use Rattle.run.specs.KeptArrays.{liesAt}
+use Rattle.run.proofs.KeptRun.{lies-none, lies-more, lies-all, lies-full}
 use borrow.Author.Needs.{needs}
 use Rattle.run.proofs.kept.reach_from.Statement.{statement}
 use Rattle.run.proofs.kept.reach_from.Tie as tie
 
 abbrev Inv-loop : tie.InvT-loop
-Inv-loop jobs pebble allowed place u set₀ j₀ set j = (j ≤ jobs) × ((v : ℕ) → v < 64 → isSet 64 set v ≡ any j (liesAt pebble allowed place u v))
+Inv-loop jobs choice place u full end set₀ j₀ set j = (j ≤ end) × ((v : ℕ) → v < 64 → isSet 64 set v ≡ any j (liesAt choice place u v))
 
 abbrev μ-loop : tie.MeasureT-loop
-μ-loop jobs pebble allowed place u set₀ j₀ set j = jobs - j
+μ-loop jobs choice place u full end set₀ j₀ set j = end - j
+
+least-requires : tie.Need-least-requires Inv-loop μ-loop
+least-requires c κs = search needs
 
 loop-holds : tie.Need-loop-holds Inv-loop μ-loop
-loop-holds c = let at-args = c .before .before .before .args in (omega arith, λ v h. lies-none (at-args .pebble .now) (at-args .allowed .now) (at-args .place .now) (at-args .u) v)
+loop-holds c = let at-args = c .before .before .before .args in (omega arith, λ v h. lies-none (at-args .choice .now) (at-args .place .now) (at-args .u) v)
+
+returns : tie.Need-returns Inv-loop μ-loop
+returns c = let at-args = c .before .before .before .before .before .before .args in let at-loop = c .before .before .loop in let at-least = c .before .before .before .least in let at-if1 = c .if1 in λ v h had. lies-full (at-args .choice .now) (at-args .place .now) (at-args .u) (at-loop .j) (at-args .jobs) (at-loop .set) (at-args .full) v (omega (arith, at-loop .inv .0, at-least .ensures)) (at-if1 .taken) (at-loop .inv .1 v h) had
 
 reach-more-requires : tie.Need-reach-more-requires Inv-loop μ-loop
 reach-more-requires c κs = search needs
@@ -30,12 +35,10 @@ loop-less : tie.Need-loop-less Inv-loop μ-loop
 loop-less c = omega arith
 
 loop-again : tie.Need-loop-again Inv-loop μ-loop
-loop-again c = let at-args = c .before .before .before .before .before .before .args in let at-loop = c .before .before .loop in (omega arith, lies-more (at-args .pebble .now) (at-args .allowed .now) (at-args .place .now) (at-args .u) (at-loop .j) (at-loop .set) _ _ (at-loop .inv .1) refl (c .reach-more .ensures))
+loop-again c = let at-args = c .before .before .before .before .before .before .before .args in let at-loop = c .before .before .before .loop in let at-reach-more = c .reach-more in (omega arith, lies-more (at-args .choice .now) (at-args .place .now) (at-args .u) (at-loop .j) (at-loop .set) (at-reach-more .result) (at-loop .inv .1) (at-reach-more .ensures))
 
-returns : tie.Need-returns Inv-loop μ-loop
-returns c = let at-loop = c .before .loop in let at-args = c .before .before .before .before .before .args in let at-end : at-loop .j ≡ at-args .jobs = omega (arith, at-loop .inv .0) in λ v h. at-loop .inv .1 v h ∙ ap (λ (k : ℕ). any k (liesAt (at-args .pebble .now) (at-args .allowed .now) (at-args .place .now) (at-args .u) v)) at-end
+returns-2 : tie.Need-returns-2 Inv-loop μ-loop
+returns-2 c = let at-args = c .before .before .before .before .before .args in let at-loop = c .before .loop in let at-least = c .before .before .least in λ v h had. lies-all (at-args .choice .now) (at-args .place .now) (at-args .u) (at-loop .j) (at-args .jobs) _ (at-loop .set) v (omega (arith, at-loop .inv .0, at-least .ensures)) (at-least .ensures) (omega arith) (at-loop .inv .1 v h)
 
 pub reach-from-spec : {M : Type 1} → statement M
-reach-from-spec =
-    tie.close
-    (tie.spec Inv-loop μ-loop loop-holds reach-more-requires add-j loop-less loop-again returns)
+reach-from-spec = tie.close (tie.spec Inv-loop μ-loop least-requires loop-holds returns reach-more-requires add-j loop-less loop-again returns-2)

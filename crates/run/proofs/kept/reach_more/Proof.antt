@@ -1,22 +1,21 @@
--- By whether the job is a pebble on the bench.
-use Prim.Native.Nat.{_-_}
+-- By whether the job is on the bench.
 use lib.ListN.{getD}
 use Rattle.run.proofs.KeptRun.{more-on, more-off}
 use borrow.Author.Needs.{needs}
 use Rattle.run.proofs.kept.reach_more.Statement.{statement}
 use Rattle.run.proofs.kept.reach_more.Tie as tie
 
-lies-on-requires : tie.Need-lies-on-requires
-lies-on-requires c κs = search needs
+byte-requires : tie.Need-byte-requires
+byte-requires c κs = search needs
 
 at-requires : tie.Need-at-requires
 at-requires c κs = search needs
 
 returns : tie.Need-returns
-returns c = more-on (c .before .before .before .before .before .before .args .set) (c .before .before .lies-on .ensures) (c .before .if1 .taken) (c .at .ensures)
+returns c = more-on (c .before .before .before .before .before .args .set) (c .before .before .byte .ensures) (c .before .if1 .taken) (c .at .ensures)
 
 returns-2 : tie.Need-returns-2
-returns-2 c = let at-args = c .before .before .before .before .before .args in more-off (at-args .set) (getD (at-args .allowed .now) (at-args .j) 0) (c .before .lies-on .ensures) (c .if1 .left)
+returns-2 c = let at-args = c .before .before .before .before .args in more-off (at-args .set) (getD (at-args .choice .now) (at-args .j) 0) (c .before .byte .ensures) (c .if1 .left)
 
 pub reach-more-spec : {M : Type 1} → statement M
-reach-more-spec = tie.close (tie.spec lies-on-requires at-requires returns returns-2)
+reach-more-spec = tie.close (tie.spec byte-requires at-requires returns returns-2)

@@ -1,7 +1,7 @@
 -- No bench passed is activated.
 use Prim.Native.Nat.{ℕ, _≤_, _<_, _-_}
 use mathlib.Core.Path.{_≡_, sym, _∙_}
-use mathlib.Core.Bool.{true, false}
+use mathlib.Core.Bool.{false}
 use native.Mathlib.Omega.{arith}
 use Rattle.sums.proofs.SearchLaws.{any-intro, any-false}
 use Rattle.run.specs.Arrays.{withinAt}

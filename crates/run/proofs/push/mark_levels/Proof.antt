@@ -1,25 +1,26 @@
 -- The sets hold the benches passed.
-use Prim.Native.Nat.{ℕ, _-_, _≤_, _<_}
+use Prim.Native.Nat.{_-_, _≤_}
 use mathlib.Core.Path.{_≡_, refl, _∙_}
-use mathlib.Core.Bool.{false, _&&_, _||_}
-use lib.ListN.{length, getD}
-use lib.Dec.{eqb, ltb}
+use lib.ListN.{length}
 use native.Mathlib.Omega.{arith}
-use Rattle.bits.specs.Bits.{isSet}
-use Rattle.run.proofs.ReceiverLaws.{levels-none, levels-more}
+use Rattle.run.specs.PushArrays.{receivesAt}
+use Rattle.run.proofs.ReceiverLaws.{Levels, levels-none, levels-more}
 use Rattle.run.proofs.PushRun.{levels-end}
 use borrow.Author.Needs.{needs}
 use Rattle.run.proofs.push.mark_levels.Statement.{statement}
 use Rattle.run.proofs.push.mark_levels.Tie as tie
 
 abbrev Inv-loop : tie.InvT-loop
-Inv-loop n level opened wanted₀ v₀ wanted v = (v ≤ n .benches) × (length wanted ≡ length wanted₀) × ((l u : ℕ) → l < length wanted₀ → u < 64 → isSet 64 (getD wanted l 0) u ≡ (isSet 64 (getD wanted₀ l 0) u || (ltb u v && (eqb l (getD level u 0) && getD opened u false))))
+Inv-loop n low high weight own dir load joined level wanted₀ m v₀ wanted v = (v ≤ n .benches) × (length wanted ≡ length wanted₀) × Levels level (receivesAt (n .benches) (n .limit) load level (m .children) (m .heavy)) wanted₀ v wanted
 
 abbrev μ-loop : tie.MeasureT-loop
-μ-loop n level opened wanted₀ v₀ wanted v = n .benches - v
+μ-loop n low high weight own dir load joined level wanted₀ m v₀ wanted v = n .benches - v
+
+mark-all-requires : tie.Need-mark-all-requires Inv-loop μ-loop
+mark-all-requires c κs = search needs
 
 loop-holds : tie.Need-loop-holds Inv-loop μ-loop
-loop-holds c = (omega arith, refl, λ l u h k. levels-none (c .before .before .before .args .level .now) (c .before .before .before .args .opened .now) (c .before .before .before .args .wanted .now) l u)
+loop-holds c = let at-args = c .before .before .before .before .before .before .before .before .before .before .args in let at-marks = c .mark-all .result in (omega arith, refl, levels-none (at-args .level .now) (receivesAt (at-args .n .benches) (at-args .n .limit) (at-args .load .now) (at-args .level .now) (at-marks .children) (at-marks .heavy)) (at-args .wanted .now))
 
 add-receiver-requires : tie.Need-add-receiver-requires Inv-loop μ-loop
 add-receiver-requires c κs = search needs
@@ -31,13 +32,13 @@ loop-less : tie.Need-loop-less Inv-loop μ-loop
 loop-less c = omega arith
 
 loop-again : tie.Need-loop-again Inv-loop μ-loop
-loop-again c = (omega arith, c .before .before .add-receiver .kept .1 .1 .0 ∙ c .before .before .before .before .before .before .loop .inv .1, levels-more (c .before .before .before .before .before .before .before .before .before .before .args .level .now) (c .before .before .before .before .before .before .before .before .before .before .args .opened .now) (c .before .before .before .before .before .before .loop .v) (c .before .before .before .before .before .before .before .before .before .before .args .wanted .now) (c .before .before .before .before .before .before .loop .wanted) (c .before .before .add-receiver .last .1 .1 .0) (c .before .before .before .before .before .before .loop .inv .1) (c .before .before .before .before .before .before .loop .inv .2) (c .before .before .add-receiver .ensures))
+loop-again c = let at-args = c .before .before .before .before .before .before .before .before .before .before .before .before .before .before .before .before .before .args in let at-marks = c .before .before .before .before .before .before .before .mark-all .result in let at-loop = c .before .before .before .before .before .before .loop in let at-added = c .before .before .add-receiver in (omega arith, at-added .kept .1 .1 .1 .1 .0 ∙ at-loop .inv .1, levels-more (at-args .level .now) (receivesAt (at-args .n .benches) (at-args .n .limit) (at-args .load .now) (at-args .level .now) (at-marks .children) (at-marks .heavy)) (at-args .wanted .now) (at-loop .v) (at-loop .wanted) (at-added .last .1 .1 .1 .1 .0) (at-loop .inv .1) (at-loop .inv .2) (at-added .ensures))
 
 same-length : tie.Need-same-length Inv-loop μ-loop
 same-length c = c .before .before .loop .inv .1
 
 returns : tie.Need-returns Inv-loop μ-loop
-returns c = λ b x low high weight R Z O none. levels-end b (c .before .before .before .before .before .before .args .n) low high weight R x (c .before .before .before .before .before .before .args .level .now) (c .before .before .before .before .before .before .args .opened .now) Z O (c .before .before .loop .v) (c .before .before .before .before .before .before .args .wanted .now) (c .before .before .loop .wanted) (omega arith) (omega arith) none (c .before .before .loop .inv .2)
+returns c = let at-args = c .before .before .before .before .before .before .before .before .before .before .before .before .before .args in let at-marks = c .before .before .before .mark-all in let at-loop = c .before .before .loop in λ b x R O S none. levels-end b (at-args .n) (at-args .low .now) (at-args .high .now) (at-args .weight .now) R x (at-args .own .now) (at-args .dir .now) (at-args .load .now) (at-args .joined .now) (at-args .level .now) O S (at-marks .result .children) (at-marks .result .heavy) (at-marks .ensures .0) (at-marks .ensures .1) (at-loop .v) (at-args .wanted .now) (at-loop .wanted) (omega arith) none (at-loop .inv .2)
 
 pub mark-levels-spec : {M : Type 1} → statement M
 mark-levels-spec =
@@ -45,6 +46,7 @@ mark-levels-spec =
     (tie.spec
     Inv-loop
     μ-loop
+    mark-all-requires
     loop-holds
     add-receiver-requires
     add-v

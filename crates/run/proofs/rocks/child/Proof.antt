@@ -1,11 +1,9 @@
 -- By cases on the direction.
-use mathlib.Core.Path.{_≡_, ap, ap₂, _∙_}
+use mathlib.Core.Path.{ap, ap₂, _∙_}
 use Prim.Native.Nat.{ℕ}
-use mathlib.Core.Bool.{Bool}
 use lib.Dec.{eqb}
-use lib.ListN.{getD}
 use borrow.Author.Tests.{eq-eqb, ne-eqb}
-use Rattle.run.specs.Arrays.{plusOf, otherAt, withinAt}
+use Rattle.run.specs.Arrays.{otherAt, withinAt}
 use Rattle.run.proofs.ArrayLaws.{and-not, and-rest}
 use borrow.Author.Needs.{needs}
 use Rattle.run.proofs.rocks.child.Statement.{statement}

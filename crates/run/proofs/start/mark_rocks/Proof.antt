@@ -4,19 +4,22 @@ use mathlib.Core.Path.{_≡_, refl, ap, ap₂, _∙_}
 use native.Mathlib.Omega.{arith}
 use lib.ListN.{length, getD, length-set}
 use Rattle.run.specs.StartArrays.{filled, rockOf}
-use Rattle.run.proofs.StartLaws.{filled-none, filled-more, filled-end}
+use Rattle.run.proofs.FilledLaws.{filled-none, filled-more, filled-cut}
 use borrow.Author.Needs.{needs}
 use Rattle.run.proofs.start.mark_rocks.Statement.{statement}
 use Rattle.run.proofs.start.mark_rocks.Tie as tie
 
 abbrev Inv-loop : tie.InvT-loop
-Inv-loop jobs p q target minutes allowed rock₀ j₀ rock j = (length rock ≡ length rock₀) × (j ≤ jobs) × (rock ≡ filled j (λ i. rockOf p q target (getD minutes i 0) (getD allowed i 0)) rock₀)
+Inv-loop jobs p q target minutes allowed rock₀ end j₀ rock j = (length rock ≡ length rock₀) × (j ≤ end) × (rock ≡ filled j (λ i. rockOf p q target (getD minutes i 0) (getD allowed i 0)) rock₀)
 
 abbrev μ-loop : tie.MeasureT-loop
-μ-loop jobs p q target minutes allowed rock₀ j₀ rock j = jobs - j
+μ-loop jobs p q target minutes allowed rock₀ end j₀ rock j = end - j
+
+least-requires : tie.Need-least-requires Inv-loop μ-loop
+least-requires c κs = search needs
 
 loop-holds : tie.Need-loop-holds Inv-loop μ-loop
-loop-holds c = (refl, omega arith, filled-none (λ i. rockOf (c .before .before .before .args .p) (c .before .before .before .args .q) (c .before .before .before .args .target) (getD (c .before .before .before .args .minutes .now) i 0) (getD (c .before .before .before .args .allowed .now) i 0)) (c .before .before .before .args .rock .now))
+loop-holds c = let at-args = c .before .before .before .before .args in (refl, omega arith, filled-none (λ i. rockOf (at-args .p) (at-args .q) (at-args .target) (getD (at-args .minutes .now) i 0) (getD (at-args .allowed .now) i 0)) (at-args .rock .now))
 
 at-requires : tie.Need-at-requires Inv-loop μ-loop
 at-requires c κs = search needs
@@ -37,27 +40,13 @@ loop-less : tie.Need-loop-less Inv-loop μ-loop
 loop-less c = omega arith
 
 loop-again : tie.Need-loop-again Inv-loop μ-loop
-loop-again c = (ap length (c .before .before .mark .ensures) ∙ simp length-set (c .before .before .before .before .before .before .before .before .loop .inv .0), omega arith, filled-more (λ i. rockOf (c .before .before .before .before .before .before .before .before .before .before .before .before .args .p) (c .before .before .before .before .before .before .before .before .before .before .before .before .args .q) (c .before .before .before .before .before .before .before .before .before .before .before .before .args .target) (getD (c .before .before .before .before .before .before .before .before .before .before .before .before .args .minutes .now) i 0) (getD (c .before .before .before .before .before .before .before .before .before .before .before .before .args .allowed .now) i 0)) (c .before .before .before .before .before .before .before .before .loop .j) (c .before .before .before .before .before .before .before .before .before .before .before .before .args .rock .now) (c .before .before .before .before .before .before .before .before .loop .inv .2) (c .before .before .before .before .is-rock .ensures ∙ ap₂ (rockOf (c .before .before .before .before .before .before .before .before .before .before .before .before .args .p) (c .before .before .before .before .before .before .before .before .before .before .before .before .args .q) (c .before .before .before .before .before .before .before .before .before .before .before .before .args .target)) (c .before .before .before .before .before .before .at .ensures) (c .before .before .before .before .before .at2 .ensures)) (c .before .before .mark .ensures))
+loop-again c = let at-mark = c .before .before .mark in let at-loop = c .before .before .before .before .before .before .before .before .loop in let at-args = c .before .before .before .before .before .before .before .before .before .before .before .before .before .args in let at-is-rock = c .before .before .before .before .is-rock in let at-at = c .before .before .before .before .before .before .at in let at-at2 = c .before .before .before .before .before .at2 in (ap length (at-mark .ensures) ∙ simp length-set (at-loop .inv .0), omega arith, filled-more (λ i. rockOf (at-args .p) (at-args .q) (at-args .target) (getD (at-args .minutes .now) i 0) (getD (at-args .allowed .now) i 0)) (at-loop .j) (at-args .rock .now) (at-loop .inv .2) (at-is-rock .ensures ∙ ap₂ (rockOf (at-args .p) (at-args .q) (at-args .target)) (at-at .ensures) (at-at2 .ensures)) (at-mark .ensures))
 
 same-length : tie.Need-same-length Inv-loop μ-loop
-same-length c = c .before .loop .inv .0
+same-length c = let at-loop = c .before .loop in at-loop .inv .0
 
 returns : tie.Need-returns Inv-loop μ-loop
-returns c = filled-end (λ i. rockOf (c .before .before .before .before .before .args .p) (c .before .before .before .before .before .args .q) (c .before .before .before .before .before .args .target) (getD (c .before .before .before .before .before .args .minutes .now) i 0) (getD (c .before .before .before .before .before .args .allowed .now) i 0)) (c .before .before .before .before .before .args .jobs) (c .before .loop .j) (c .before .before .before .before .before .args .rock .now) (c .before .loop .inv .1) (omega arith) (c .before .loop .inv .2)
+returns c = let at-args = c .before .before .before .before .before .before .args in let at-loop = c .before .loop in let at-least = c .before .before .least in filled-cut (λ i. rockOf (at-args .p) (at-args .q) (at-args .target) (getD (at-args .minutes .now) i 0) (getD (at-args .allowed .now) i 0)) (at-args .jobs) _ (at-loop .j) (at-args .rock .now) (at-least .ensures) (at-loop .inv .1) (omega arith) (at-loop .inv .2)
 
 pub mark-rocks-spec : {M : Type 1} → statement M
-mark-rocks-spec =
-    tie.close
-    (tie.spec
-    Inv-loop
-    μ-loop
-    loop-holds
-    at-requires
-    at-requires-2
-    is-rock-requires
-    mark-requires
-    add-j
-    loop-less
-    loop-again
-    same-length
-    returns)
+mark-rocks-spec = tie.close (tie.spec Inv-loop μ-loop least-requires loop-holds at-requires at-requires-2 is-rock-requires mark-requires add-j loop-less loop-again same-length returns)

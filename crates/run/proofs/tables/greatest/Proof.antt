@@ -1,8 +1,8 @@
 -- The greatest of the entries passed.
-use Prim.Native.Nat.{ℕ, _≤_, _-_}
-use mathlib.Core.Path.{_≡_, refl, ap, _∙_}
+use Prim.Native.Nat.{_≤_, _-_}
+use mathlib.Core.Path.{_≡_, refl}
 use native.Mathlib.Omega.{arith}
-use lib.ListN.{length, getD, length-set}
+use lib.ListN.{getD}
 use Rattle.sums.specs.Sum.{largest}
 use Rattle.run.proofs.TableRun.{largest-more}
 use borrow.Author.Needs.{needs}

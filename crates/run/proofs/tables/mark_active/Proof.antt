@@ -1,10 +1,10 @@
 -- The marks of the benches passed are filled in.
-use Prim.Native.Nat.{ℕ, _≤_, _-_}
+use Prim.Native.Nat.{_≤_, _-_}
 use mathlib.Core.Path.{_≡_, refl, ap, _∙_}
 use native.Mathlib.Omega.{arith}
-use lib.ListN.{length, getD, length-set}
+use lib.ListN.{length, length-set}
 use Rattle.run.specs.StartArrays.{filled}
-use Rattle.run.proofs.StartLaws.{filled-none, filled-more, filled-end}
+use Rattle.run.proofs.FilledLaws.{filled-none, filled-more, filled-end}
 use Rattle.run.specs.Arrays.{withinAt}
 use borrow.Author.Needs.{needs}
 use Rattle.run.proofs.tables.mark_active.Statement.{statement}

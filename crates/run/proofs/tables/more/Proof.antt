@@ -1,8 +1,7 @@
 -- By cases on the mark.
-use mathlib.Core.Path.{_≡_, ap, _∙_}
-use Prim.Native.Nat.{ℕ}
+use mathlib.Core.Path.{ap, _∙_}
 use Rattle.run.specs.Arrays.{plusOf}
-use Rattle.run.proofs.TableRun.{more-yes, more-no}
+use Rattle.run.proofs.TableRun.{more-yes}
 use borrow.Author.Needs.{needs}
 use Rattle.run.proofs.tables.more.Statement.{statement}
 use Rattle.run.proofs.tables.more.Tie as tie

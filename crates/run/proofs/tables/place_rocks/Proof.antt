@@ -1,8 +1,8 @@
 -- The places of the rocks passed.
-use Prim.Native.Nat.{ℕ, _≤_, _-_}
+use Prim.Native.Nat.{_≤_, _-_}
 use mathlib.Core.Path.{_≡_, refl, ap, _∙_}
 use native.Mathlib.Omega.{arith}
-use lib.ListN.{length, getD, length-set}
+use lib.ListN.{length, length-set}
 use Rattle.run.specs.TableArrays.{placedOf}
 use Rattle.run.proofs.TableRun.{placed-none, placed-more}
 use borrow.Author.Needs.{needs}

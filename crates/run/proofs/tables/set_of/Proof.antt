@@ -1,8 +1,8 @@
 -- The set of the marked benches passed.
-use Prim.Native.Nat.{ℕ, _≤_, _-_}
-use mathlib.Core.Path.{_≡_, refl, ap, _∙_}
+use Prim.Native.Nat.{_≤_, _-_}
+use mathlib.Core.Path.{_≡_}
 use native.Mathlib.Omega.{arith}
-use lib.ListN.{length, getD, length-set}
+use lib.ListN.{getD}
 use mathlib.Core.Bool.{false}
 use Rattle.run.specs.TableArrays.{setUpTo}
 use Rattle.run.proofs.TableRun.{set-none, set-more}
