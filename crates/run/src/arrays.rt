@@ -1,7 +1,7 @@
 // Arrays read and written at any index, and sums that stop at the greatest number: none of these asks anything of its caller.
 ghost use mathlib.Core.Path.{_≡_};
 ghost use Prim.Native.Nat.{ℕ, _+_, _-_, _<_, _≤_, min};
-ghost use mathlib.Core.Bool.{false, _||_};
+ghost use mathlib.Core.Bool.{false, cond, _||_};
 ghost use lib.ListN.{getD, set, length};
 ghost use lib.Dec.{eqb, ltb};
 ghost use Rattle.sums.specs.Sum.{on, count};
@@ -61,6 +61,13 @@ pub fn exceeds(bound: usize, a: usize, w: usize) -> bool
         return true;
     }
     bound - w < a
+}
+
+// x where entry v is marked, and else y.
+pub fn where_marked(set: &[bool], v: usize, x: usize, y: usize) -> usize
+    ensures { λ r. ⌜ r ≡ cond (getD (now (set .entry)) v false) x y ⌝ }
+{
+    if holds(set, v) { x } else { y }
 }
 
 // The lower of v and u where u counts, else v.

@@ -13,7 +13,7 @@ ghost use Rattle.algorithm.specs.Start.{start as startOf};
 ghost use Rattle.algorithm.specs.Run.{budget as budgetOf};
 ghost use Rattle.run.specs.Held.{Ready, Held, Last};
 
-// Explorations and pushes one after another, until no bench is overloaded or no push is possible.
+// Explorations and pushes one after another, until no bench is overloaded or no push is possible. The tables and sets that every turn reads are made first.
 pub fn turns<'a>(
     first: State,
     budget: usize,
@@ -36,6 +36,7 @@ pub fn turns<'a>(
     let mut choice = [0usize; 512];
     start::choose(n.jobs, pebble, allowed, &mut choice);
     let mut s = first.weigh(n, amount, pebble, allowed);
+    // One exploration more than there can be moves.
     let mut left = arrays::plus(budget, 1);
     while 0 < left {
         s = s.orient(n, low, high, weight, &here, &near, all, stony);

@@ -3,6 +3,7 @@ use crate::arrays;
 use crate::explore;
 use crate::kept;
 use crate::loads;
+use crate::peeling;
 use crate::push;
 use crate::rocks::Limits;
 use crate::start;
@@ -52,7 +53,7 @@ impl State {
         let mut left = rock;
         let mut place = [0usize; 512];
         start::place_lowest(n.jobs, allowed, &mut place);
-        start::peel(n, job, low, high, balance, &mut left, &mut place);
+        peeling::peel(n, job, low, high, balance, &mut left, &mut place);
         let mut places = [0u8; 512];
         arrays::to_bytes(n.jobs, &place, &mut places);
         let none = [0usize; 64];

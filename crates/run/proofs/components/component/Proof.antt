@@ -4,8 +4,8 @@ use lib.ListN.{replicate}
 use lib.Dec.{eqb}
 use Rattle.run.proofs.ComponentRun.{within, zeros, alone-shows, component-shows}
 use borrow.Author.Needs.{needs}
-use Rattle.run.proofs.start.component.Statement.{statement}
-use Rattle.run.proofs.start.component.Tie as tie
+use Rattle.run.proofs.components.component.Statement.{statement}
+use Rattle.run.proofs.components.component.Tie as tie
 
 mark-requires : tie.Need-mark-requires
 mark-requires c κs = search needs

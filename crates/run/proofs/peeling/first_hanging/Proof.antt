@@ -6,8 +6,8 @@ use native.Mathlib.Omega.{arith}
 use Rattle.run.specs.StartArrays.{hangingOf}
 use Rattle.run.proofs.ArrayLaws.{first-found, first-more, first-none}
 use borrow.Author.Needs.{needs}
-use Rattle.run.proofs.start.first_hanging.Statement.{statement}
-use Rattle.run.proofs.start.first_hanging.Tie as tie
+use Rattle.run.proofs.peeling.first_hanging.Statement.{statement}
+use Rattle.run.proofs.peeling.first_hanging.Tie as tie
 
 abbrev Inv-loop : tie.InvT-loop
 Inv-loop n job low high balance left v₀ v = (v ≤ n .benches) × ((i : ℕ) → i < v → (hangingOf (n .rocks) job low high balance left) i ≡ false)

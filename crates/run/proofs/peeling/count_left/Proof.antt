@@ -7,8 +7,8 @@ use Rattle.sums.specs.Sum.{count}
 use Rattle.run.specs.StartArrays.{leftRock}
 use Rattle.run.proofs.StartLaws.{count-yes, count-no}
 use borrow.Author.Needs.{needs}
-use Rattle.run.proofs.start.count_left.Statement.{statement}
-use Rattle.run.proofs.start.count_left.Tie as tie
+use Rattle.run.proofs.peeling.count_left.Statement.{statement}
+use Rattle.run.proofs.peeling.count_left.Tie as tie
 
 abbrev Inv-loop : tie.InvT-loop
 Inv-loop n job low high left v k₀ r₀ k r = (r ≤ n .rocks) × (k ≡ count r (leftRock job low high left v))

@@ -6,8 +6,8 @@ use native.Mathlib.Omega.{arith}
 use Rattle.run.specs.StartArrays.{leftRock}
 use Rattle.run.proofs.ArrayLaws.{first-found, first-more, first-none}
 use borrow.Author.Needs.{needs}
-use Rattle.run.proofs.start.hanging_rock.Statement.{statement}
-use Rattle.run.proofs.start.hanging_rock.Tie as tie
+use Rattle.run.proofs.peeling.hanging_rock.Statement.{statement}
+use Rattle.run.proofs.peeling.hanging_rock.Tie as tie
 
 abbrev Inv-loop : tie.InvT-loop
 Inv-loop n job low high left v r₀ r = (r ≤ n .rocks) × ((i : ℕ) → i < r → (leftRock job low high left v) i ≡ false)

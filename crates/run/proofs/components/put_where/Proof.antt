@@ -8,8 +8,8 @@ use Rattle.run.specs.StartArrays.{filled}
 use Rattle.run.proofs.FilledLaws.{filled-none, filled-end}
 use Rattle.run.proofs.BalanceRun.{where-more}
 use borrow.Author.Needs.{needs}
-use Rattle.run.proofs.start.put_where.Statement.{statement}
-use Rattle.run.proofs.start.put_where.Tie as tie
+use Rattle.run.proofs.components.put_where.Statement.{statement}
+use Rattle.run.proofs.components.put_where.Tie as tie
 
 abbrev Inv-loop : tie.InvT-loop
 Inv-loop n set x to₀ v₀ to v = (length to ≡ length to₀) × (v ≤ n) × (to ≡ filled v (λ u. cond (getD set u false) x (getD to₀ u 0)) to₀)

@@ -8,8 +8,8 @@ use Rattle.bools.proofs.BoolLaws.{and-false-left}
 use Rattle.run.specs.StartArrays.{leftCount}
 use Rattle.run.proofs.ArrayLaws.{and-rest}
 use borrow.Author.Needs.{needs}
-use Rattle.run.proofs.start.hanging_at.Statement.{statement}
-use Rattle.run.proofs.start.hanging_at.Tie as tie
+use Rattle.run.proofs.peeling.hanging_at.Statement.{statement}
+use Rattle.run.proofs.peeling.hanging_at.Tie as tie
 
 at-requires : tie.Need-at-requires
 at-requires c κs = search needs

@@ -2,8 +2,8 @@
 use mathlib.Core.Path.{refl, sym, _∙_}
 use Rattle.run.proofs.StartLaws.{cond-yes, cond-no}
 use borrow.Author.Needs.{needs}
-use Rattle.run.proofs.start.where_marked.Statement.{statement}
-use Rattle.run.proofs.start.where_marked.Tie as tie
+use Rattle.run.proofs.arrays.where_marked.Statement.{statement}
+use Rattle.run.proofs.arrays.where_marked.Tie as tie
 
 holds-requires : tie.Need-holds-requires
 holds-requires c κs = search needs

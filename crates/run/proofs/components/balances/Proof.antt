@@ -8,8 +8,8 @@ use Rattle.run.specs.StartArrays.{DayRocks, BalancesTo}
 use Rattle.run.proofs.ComponentRun.{zeros}
 use Rattle.run.proofs.BalanceRun.{balances-start, balances-all}
 use borrow.Author.Needs.{needs}
-use Rattle.run.proofs.start.balances.Statement.{statement}
-use Rattle.run.proofs.start.balances.Tie as tie
+use Rattle.run.proofs.components.balances.Statement.{statement}
+use Rattle.run.proofs.components.balances.Tie as tie
 
 abbrev Inv-loop : tie.InvT-loop
 Inv-loop n low high balance₀ neutral v₀ balance v = (length balance ≡ length balance₀) × (v ≤ n .benches) × ((d : Day) → DayRocks d n low high → d .benches ≤ length balance₀ → ((u : ℕ) → u < d .benches → getD balance₀ u 0 ≡ 3) → BalancesTo d v balance)

@@ -6,8 +6,8 @@ use lib.ListN.{getD}
 use Rattle.bools.proofs.BoolLaws.{not-true, not-false}
 use Rattle.run.proofs.ArrayLaws.{and-not, and-rest}
 use borrow.Author.Needs.{needs}
-use Rattle.run.proofs.start.left_at.Statement.{statement}
-use Rattle.run.proofs.start.left_at.Tie as tie
+use Rattle.run.proofs.peeling.left_at.Statement.{statement}
+use Rattle.run.proofs.peeling.left_at.Tie as tie
 
 touches-requires : tie.Need-touches-requires
 touches-requires c κs = search needs

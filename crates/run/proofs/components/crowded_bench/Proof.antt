@@ -8,8 +8,8 @@ use lib.Dec.{eqb}
 use borrow.Author.Tests.{eq-eqb, ne-eqb}
 use Rattle.run.proofs.ArrayLaws.{first-found, first-more, first-none}
 use borrow.Author.Needs.{needs}
-use Rattle.run.proofs.start.crowded_bench.Statement.{statement}
-use Rattle.run.proofs.start.crowded_bench.Tie as tie
+use Rattle.run.proofs.components.crowded_bench.Statement.{statement}
+use Rattle.run.proofs.components.crowded_bench.Tie as tie
 
 abbrev Inv-loop : tie.InvT-loop
 Inv-loop benches balance v₀ v = (v ≤ benches) × ((i : ℕ) → i < v → eqb (getD balance i 0) 2 ≡ false)

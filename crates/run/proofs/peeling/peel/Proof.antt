@@ -7,8 +7,8 @@ use Rattle.algorithm.specs.Start.{State}
 use Rattle.run.specs.StartArrays.{DayRocks, JobsOf, Cycles, Placed}
 use Rattle.run.proofs.StartRun.{Peeling, peeling-starts, peeling-goes-on, peeling-ends, peeling-spent}
 use borrow.Author.Needs.{needs}
-use Rattle.run.proofs.start.peel.Statement.{statement}
-use Rattle.run.proofs.start.peel.Tie as tie
+use Rattle.run.proofs.peeling.peel.Statement.{statement}
+use Rattle.run.proofs.peeling.peel.Tie as tie
 
 abbrev Inv-loop : tie.InvT-loop
 Inv-loop n job low high balance left₀ place₀ turns₀ left place turns = (length left ≡ length left₀) × (length place ≡ length place₀) × ((d : Day) (s : State) → DayRocks d n low high → JobsOf d job → Cycles d balance → Placed d s left₀ place₀ → Peeling d s turns left place)

@@ -3,8 +3,8 @@ use native.Mathlib.Omega.{arith}
 use Rattle.run.proofs.ComponentRun.{component-found, component-rocks, component-balance}
 use Rattle.run.proofs.BalanceRun.{balances-known, balances-alone, balances-fill}
 use borrow.Author.Needs.{needs}
-use Rattle.run.proofs.start.balance_from.Statement.{statement}
-use Rattle.run.proofs.start.balance_from.Tie as tie
+use Rattle.run.proofs.components.balance_from.Statement.{statement}
+use Rattle.run.proofs.components.balance_from.Tie as tie
 
 at-requires : tie.Need-at-requires
 at-requires c κs = search needs
