@@ -1,4 +1,5 @@
 -- Demand 3, proved of the planner's answer: specs/Claim has the claim, planning's specs/Planner the answer.
+--     named-set           the set of a none, as a number
 --     planner-claim       the claim holds of the answer to any bytes and any two tables, and of the tables after it
 --     equations-claim     so it holds of whatever is equal to these three: the three equations are what the planner's contract ensures
 use Prim.Native.Nat.{ℕ, _≤_, _<_}
@@ -90,7 +91,7 @@ module _ (h : Head) (js : List Job) where
       same-load : (v : ℕ) → loadOf js (placeIn (ps ++ drop (length ps) places)) v ≡ loadOf js (placeIn ps) v
       same-load v = sum-cong (length js) _ _ (λ j l. rw (place j l))
 
-  named-set : h .benches ≤ 64 → (benches : List ℕ) (moves : ℕ) → SoundNone h js benches moves → NamedSet h js (setOf benches) moves
+  pub named-set : h .benches ≤ 64 → (benches : List ℕ) (moves : ℕ) → SoundNone h js benches moves → NamedSet h js (setOf benches) moves
   named-set few benches moves n =
       record {
         of-64-bits = setOf-lt 0 benches (n .rising) (λ i l. omega arith) below;

@@ -1,6 +1,7 @@
 pub mod FrontSteps
 pub mod NumberSteps
 pub mod CompareSteps
+pub mod DoorDemand
 pub mod PlanLaws
 pub mod PlanSteps
 pub mod TableSteps

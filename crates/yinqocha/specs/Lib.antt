@@ -1,3 +1,4 @@
 pub mod Door
+pub mod DoorClaim
 pub mod Filled
 pub mod PlanDoor

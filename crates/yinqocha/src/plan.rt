@@ -6,6 +6,7 @@ ghost use mathlib.Core.Path.{_≡_};
 ghost use Prim.Native.Nat.{ℕ, _*_, _/_, _≤_, min};
 ghost use mathlib.Core.List.{List, [], _∷_};
 ghost use lib.ListN.{length};
+ghost use Rattle.yinqocha.specs.DoorClaim.{DoorClaim};
 ghost use Rattle.yinqocha.specs.Filled.{Filled};
 ghost use Rattle.yinqocha.specs.PlanDoor.{roomOf, putNumbers, doorAnswer, Called};
 
@@ -27,7 +28,8 @@ pub extern "C" fn yinqocha_plan(
     loads: &mut [u8],
     answer: &mut [u8],
 ) -> u64
-    ensures { λ r. ⌜ Called (doorAnswer (now (sheet .entry)) (roomOf (now (places .entry))) (roomOf (now (loads .entry))) (roomOf (now (answer .entry)))) r (now (places .entry)) (now (loads .entry)) (now (answer .entry)) (now (places .exit)) (now (loads .exit)) (now (answer .exit)) ⌝ }
+    ensures called { λ r. ⌜ Called (doorAnswer (now (sheet .entry)) (roomOf (now (places .entry))) (roomOf (now (loads .entry))) (roomOf (now (answer .entry)))) r (now (places .entry)) (now (loads .entry)) (now (answer .entry)) (now (places .exit)) (now (loads .exit)) (now (answer .exit)) ⌝ }
+    ensures demand { λ r. ⌜ DoorClaim (now (sheet .entry)) (now (places .entry)) (now (loads .entry)) (now (answer .entry)) r (now (places .exit)) (now (loads .exit)) (now (answer .exit)) ⌝ }
 {
     let mut p = [UNUSED; 512];
     let mut l = [UNUSED; 64];

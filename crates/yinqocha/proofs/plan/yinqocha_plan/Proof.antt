@@ -1,4 +1,5 @@
--- By cases on the answer (PlanSteps). The planner gets the front of each array, as long as the room for it.
+-- By cases on the answer (PlanSteps); the demand follows from the equation (DoorDemand).
+-- The planner gets the front of each array, as long as the room for it.
 use denote.Ref.{now}
 use borrow.Author.Needs.{needs}
 use Prim.Native.Nat.{ℕ, _≤_, min}
@@ -10,6 +11,7 @@ use lib.Dec.{ltb}
 use Rattle.yinqocha.specs.Filled.{unused}
 use Rattle.yinqocha.specs.PlanDoor.{roomOf}
 use lib.ListN.{length, take, replicate}
+use Rattle.yinqocha.proofs.DoorDemand.{with-claim}
 use Rattle.yinqocha.proofs.PlanSteps.{front-length, whole-length, loads-room, fault-called, long-called, none-called, plan-called}
 use Rattle.yinqocha.proofs.plan.yinqocha_plan.Statement.{statement}
 use Rattle.yinqocha.proofs.plan.yinqocha_plan.Tie as tie
@@ -113,9 +115,10 @@ returns c =
     let at-plan = at-largest .before .before .before .before in
     let j = at-plan .before .before .before in
     let a = j .before .before .before .before .before .before .args in
-    plan-called (now (a .sheet)) (now (a .places)) (now (a .loads)) (now (a .answer)) (places-handed j) (loads-handed j)
+    with-claim (now (a .sheet)) (now (a .places)) (now (a .loads)) (now (a .answer))
+    (plan-called (now (a .sheet)) (now (a .places)) (now (a .loads)) (now (a .answer)) (places-handed j) (loads-handed j)
     (at-plan .plan .ensures .0) (j .before .room .result) (j .if1 .nl) 512 64 refl refl
-    (at-largest .largest .given .1) (at-places .put-front .ensures) (at-loads .put-front2 .ensures) (at-pair .put-pair .ensures)
+    (at-largest .largest .given .1) (at-places .put-front .ensures) (at-loads .put-front2 .ensures) (at-pair .put-pair .ensures))
 
 same-length-4 : tie.Need-same-length-4
 same-length-4 c = search needs
@@ -125,8 +128,9 @@ returns-2 c =
     let m = c .before .before .before .before .before .before .before in
     let j = m .before .before .before .before .before in
     let a = j .before .before .before .before .before .before .args in
-    long-called (now (a .sheet)) (now (a .places)) (now (a .loads)) (now (a .answer)) (places-handed j) (loads-handed j)
-    (m .before .before .plan .ensures .0) (c .before .before .before .before .before .job .given .1) (c .before .before .put-pair2 .ensures)
+    with-claim (now (a .sheet)) (now (a .places)) (now (a .loads)) (now (a .answer))
+    (long-called (now (a .sheet)) (now (a .places)) (now (a .loads)) (now (a .answer)) (places-handed j) (loads-handed j)
+    (m .before .before .plan .ensures .0) (c .before .before .before .before .before .job .given .1) (c .before .before .put-pair2 .ensures))
 
 same-length-5 : tie.Need-same-length-5
 same-length-5 c = search needs
@@ -136,16 +140,18 @@ returns-3 c =
     let m = c .before .before .before .before .before .before .before in
     let j = m .before .before .before .before .before in
     let a = j .before .before .before .before .before .before .args in
-    none-called (now (a .sheet)) (now (a .places)) (now (a .loads)) (now (a .answer)) (places-handed j) (loads-handed j)
-    (m .before .before .plan .ensures .0) (c .before .before .before .before .before .set .given .1) (c .before .before .put-pair3 .ensures)
+    with-claim (now (a .sheet)) (now (a .places)) (now (a .loads)) (now (a .answer))
+    (none-called (now (a .sheet)) (now (a .places)) (now (a .loads)) (now (a .answer)) (places-handed j) (loads-handed j)
+    (m .before .before .plan .ensures .0) (c .before .before .before .before .before .set .given .1) (c .before .before .put-pair3 .ensures))
 
 returns-4 : tie.Need-returns-4
 returns-4 c =
     let m = c .before .before .before .before in
     let j = m .before .before .before .before .before in
     let a = j .before .before .before .before .before .before .args in
-    fault-called (now (a .sheet)) (now (a .places)) (now (a .loads)) (now (a .answer)) (places-handed j) (loads-handed j)
-    (m .before .before .plan .ensures .0) (c .before .before .f .given .1) (c .fault-word .ensures)
+    with-claim (now (a .sheet)) (now (a .places)) (now (a .loads)) (now (a .answer))
+    (fault-called (now (a .sheet)) (now (a .places)) (now (a .loads)) (now (a .answer)) (places-handed j) (loads-handed j)
+    (m .before .before .plan .ensures .0) (c .before .before .f .given .1) (c .fault-word .ensures))
 
 pub yinqocha-plan-spec : {M : Type 1} → statement M
 yinqocha-plan-spec =

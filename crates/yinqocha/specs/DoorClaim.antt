@@ -1,0 +1,81 @@
+-- Demand 3 as a C caller sees it: from the bytes of a sheet to the returned word and the bytes of the three tables (blocking's specs/Claim
+-- says the same of an answer and tables of numbers, the header yinqocha.h says it in words).
+--     s                            the bytes of the sheet
+--     places, loads, numbers       the bytes of the three tables before; places′, loads′ and numbers′ are the bytes after
+--     r                            the returned word: 1 plan, 2 long, 3 none, or the word of a fault
+--     entryOf t n                  entry n of a table: 8 bytes, the lowest first (specs/Door)
+--     RoomFor                      the sheet is accepted and the tables are large enough
+--     AllKept                      all three tables are as before
+--     PlanInBytes                  what holds of the three tables after a plan
+--     DoorClaim                    the claim
+use Prim.Native.Nat.{ℕ, _*_, _≤_, _<_}
+use mathlib.Core.Path.{_≡_}
+use mathlib.Core.Logic.{_⊎_}
+use mathlib.Core.Bool.{true}
+use mathlib.Core.List.{List}
+use lib.ListN.{length, drop}
+use Rattle.fields.specs.declared.fault.Fault.{Fault}
+use Rattle.fields.specs.declared.fault.Fault.the-variants.{Table}
+use Rattle.fields.specs.declared.sheet.Head.{Head}
+use Rattle.fields.specs.declared.sheet.Job.{Job}
+use Rattle.frame.specs.Reading.{accepted, refused, readSheet}
+use Rattle.blocking.specs.Demand.{Assignment, loadOf, withinBound, keepsTarget, moveBound}
+use Rattle.blocking.specs.Answers.{SoundLong, SomeOver}
+use Rattle.blocking.specs.Claim.{Untouched, NamedSet}
+use Rattle.yinqocha.specs.Door.{entryOf, faultWord}
+
+-- "Every table must have its room whatever the answer will be: places one entry for each job, loads one for each bench, answer two."
+pub record RoomFor (s places loads numbers : List ℕ) (h : Head) (js : List Job) : Type 0 where
+  pub sheet-accepted : readSheet s ≡ accepted h js
+  pub place-to-a-job : 8 * length js ≤ length places
+  pub load-to-a-bench : 8 * h .benches ≤ length loads
+  pub two-numbers : 16 ≤ length numbers
+
+-- "After a fault all three tables keep their contents."
+pub record AllKept (places loads numbers places′ loads′ numbers′ : List ℕ) : Type 0 where
+  pub both-tables : Untouched places loads places′ loads′
+  pub same-numbers : numbers′ ≡ numbers
+
+-- "Entry j is the bench of job j. Entry b is the load of bench b in minutes. Later bytes of a table keep their contents."
+-- The answer's two entries are the largest load and the moves made.
+pub record PlanInBytes (h : Head) (js : List Job) (places loads places′ loads′ numbers′ : List ℕ) : Type 0 where
+  pub assignment : Assignment h js (entryOf places′)
+  pub its-loads : (v : ℕ) → v < h .benches → entryOf loads′ v ≡ loadOf js (entryOf places′) v
+  pub within-bound : (v : ℕ) → v < h .benches → withinBound h (entryOf loads′ v) ≡ true
+  pub greatest : (v : ℕ) → v < h .benches → entryOf loads′ v ≤ entryOf numbers′ 0
+  pub one-of-them : (v : ℕ) × (v < h .benches) × (entryOf loads′ v ≡ entryOf numbers′ 0)
+  pub few-moves : entryOf numbers′ 1 ≤ moveBound h js
+  pub later-places-kept : drop (8 * length js) places′ ≡ drop (8 * length js) places
+  pub later-loads-kept : drop (8 * h .benches) loads′ ≡ drop (8 * h .benches) loads
+  pub as-many-places : length places′ ≡ length places
+  pub as-many-loads : length loads′ ≡ length loads
+
+-- The demand, of every row of bytes and any three tables.
+pub record DoorClaim (s places loads numbers : List ℕ) (r : ℕ) (places′ loads′ numbers′ : List ℕ) : Type 0 where
+  -- A fault returns its word and writes to no table. First the faults of the sheet, then fault 13.
+  pub sheet-refused : (f : Fault) → readSheet s ≡ refused f → (r ≡ faultWord f) × AllKept places loads numbers places′ loads′ numbers′
+  pub tables-short : (h : Head) (js : List Job) → readSheet s ≡ accepted h js
+      → (length places < 8 * length js) ⊎ ((length loads < 8 * h .benches) ⊎ (length numbers < 16))
+      → (r ≡ faultWord (Table 0)) × AllKept places loads numbers places′ loads′ numbers′
+  -- Else the answer is one of the three.
+  pub one-of-three : (h : Head) (js : List Job) → RoomFor s places loads numbers h js → (r ≡ 1) ⊎ ((r ≡ 2) ⊎ (r ≡ 3))
+  -- A plan is an assignment, in the tables with its loads, and every load is within the bound.
+  pub plan-right : (h : Head) (js : List Job) → RoomFor s places loads numbers h js
+      → r ≡ 1 → PlanInBytes h js places loads places′ loads′ numbers′
+  -- Long names the lowest job with more than T minutes.
+  pub long-right : (h : Head) (js : List Job) → RoomFor s places loads numbers h js
+      → r ≡ 2 → SoundLong h js (entryOf numbers′ 0) × (entryOf numbers′ 1 ≡ 0) × Untouched places loads places′ loads′
+  -- None names a blocking set.
+  pub none-right : (h : Head) (js : List Job) → RoomFor s places loads numbers h js
+      → r ≡ 3 → NamedSet h js (entryOf numbers′ 0) (entryOf numbers′ 1) × Untouched places loads places′ loads′
+  -- The answer's table keeps what is after its two entries.
+  pub later-numbers-kept : (h : Head) (js : List Job) → RoomFor s places loads numbers h js
+      → (drop 16 numbers′ ≡ drop 16 numbers) × (length numbers′ ≡ length numbers)
+  -- If any assignment at all keeps every bench within T, a plan is given.
+  pub rival-planned : (h : Head) (js : List Job) → RoomFor s places loads numbers h js
+      → (a : ℕ → ℕ) → Assignment h js a → keepsTarget h js a ≡ true → r ≡ 1
+  -- After long or none every assignment leaves some bench above T.
+  pub over-after-long : (h : Head) (js : List Job) → RoomFor s places loads numbers h js
+      → r ≡ 2 → (a : ℕ → ℕ) → Assignment h js a → SomeOver h js a
+  pub over-after-none : (h : Head) (js : List Job) → RoomFor s places loads numbers h js
+      → r ≡ 3 → (a : ℕ → ℕ) → Assignment h js a → SomeOver h js a
