@@ -16,7 +16,7 @@
  * The caller lends every buffer for the time of the call. The library keeps no pointer, takes
  * nothing from the heap, and has no state. Threads may call it at the same time as long as none
  * writes to a buffer that another is using. A buffer that a call writes must overlap no other
- * buffer of the call. A thread that plans needs about 140 KiB of stack, one that compares about
+ * buffer of the call. A thread that plans needs about 115 KiB of stack, one that compares about
  * 72 KiB, one that only writes about 20 KiB.
  *
  * A buffer is a pointer and a length in bytes, and the pointer may have any alignment. NULL with
