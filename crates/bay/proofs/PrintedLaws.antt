@@ -29,7 +29,7 @@ use Rattle.frame.proofs.Places.{read-place}
 use Rattle.algorithm.specs.Answer.{Answer, plan, tooLong, none, fault}
 use Rattle.planning.specs.declared.answer.Answer.{Answer as Given}
 use Rattle.planning.specs.Planner.{given, shortTables, answerFor, placesAfter, Answered}
-use Rattle.blocking.specs.Demand.{withinBound, moveBound, lightJob, allowed}
+use Rattle.demand.specs.Demand.{withinBound, moveBound, lightJob, allowed}
 use Rattle.blocking.specs.Answers.{SoundPlan, SoundAnswer, plan-sound, long-sound, none-sound}
 use Rattle.blocking.proofs.Theorems.{whole-claim}
 use Rattle.lines.specs.Buffer.{Front}

@@ -1,4 +1,6 @@
 -- Demand 3, proved of the planner's answer: specs/Claim has the claim, planning's specs/Planner the answer.
+--     not-both-read       no sheet is both refused and accepted
+--     same-read           a sheet is accepted as one head and one list of jobs
 --     named-set           the set of a none, as a number
 --     planner-claim       the claim holds of the answer to any bytes and any two tables, and of the tables after it
 --     equations-claim     so it holds of whatever is equal to these three: the three equations are what the planner's contract ensures
@@ -13,25 +15,62 @@ use lib.Seq.{drop-append-seam}
 use lib.Dec.{eqb, ltb}
 use borrow.Author.Tests.{lt-ltb, le-ltb, eqb-true}
 use Rattle.bools.proofs.BoolLaws.{clash, or-left, or-right, or-false}
+use Rattle.bools.proofs.OrderLaws.{lt-or-le}
 use Rattle.sums.proofs.SumLaws.{sum-cong}
 use Rattle.sums.proofs.SearchLaws.{any-elim}
 use Rattle.fields.specs.declared.fault.Fault.{Fault}
 use Rattle.fields.specs.declared.fault.Fault.the-variants.{Table}
 use Rattle.fields.specs.declared.sheet.Head.{Head}
 use Rattle.fields.specs.declared.sheet.Job.{Job}
-use Rattle.frame.specs.Reading.{accepted, refused, readSheet}
+use Rattle.frame.specs.Reading.{Read, accepted, refused, readSheet}
 use Rattle.frame.proofs.AcceptedLaws.{accepted-sound}
 use Rattle.algorithm.specs.Day.{dayOf}
 use Rattle.algorithm.specs.Answer.{Answer, plan, tooLong, none, fault, answerTo}
 use Rattle.planning.specs.declared.answer.Answer.{Answer as Given}
 use Rattle.planning.specs.declared.answer.Answer.the-variants.{Plan, Long, None, Fault as Faulty}
 use Rattle.planning.specs.Planner.{setOf, given, shortTables, answerFor, placesAfter, loadsAfter}
-use Rattle.blocking.specs.Demand.{loadOf}
-use Rattle.blocking.specs.Answers.{placeIn, oneOf, SoundPlan, SoundLong, SoundNone, SoundAnswer, plan-sound, long-sound, none-sound, isPlan, WholeClaim}
-use Rattle.blocking.specs.Claim.{Answerable, Untouched, OneOfThree, a-plan, a-long, a-none, PlanInTables, inSet, NamedSet, PlannerClaim}
+use Rattle.demand.specs.Demand.{loadOf, LongJob, EachFits}
+use Rattle.blocking.specs.Answers.{placeIn, oneOf, SoundPlan, SoundLong, SoundNone, SoundAnswer, plan-sound, long-sound, none-sound, isPlan, isLong, WholeClaim}
+use Rattle.blocking.specs.Claim.{SheetRefused, ShortFor, TablesShort, Answerable, CanAnswer, OneCase}
+use Rattle.blocking.specs.Claim.{Untouched, OneOfThree, a-plan, a-long, a-none, PlanInTables, inSet, NamedSet, PlannerClaim}
 use Rattle.blocking.proofs.ShownLaws.{blocking-cong}
 use Rattle.blocking.proofs.SetLaws.{setOf-lt, isSet-setOf}
 use Rattle.blocking.proofs.Theorems.{whole-claim}
+
+-- ── the three kinds of calls ──
+
+pub not-both-read : (s : List ℕ) {f : Fault} {h : Head} {js : List Job} → readSheet s ≡ refused f → readSheet s ≡ accepted h js → ⊥
+not-both-read s p q = let z : _≡_ {A = ℕ} 0 1 = cc in omega arith
+
+pub same-read : (s : List ℕ) {h k : Head} {js is : List Job} → readSheet s ≡ accepted h js → readSheet s ≡ accepted k is → (h ≡ k) × (js ≡ is)
+same-read s p q = (cc, cc)
+
+module _ (s places loads : List ℕ) where
+  some-case : (r : Read) → readSheet s ≡ r → SheetRefused s ⊎ (TablesShort s places loads ⊎ CanAnswer s places loads)
+  some-case (refused f) e = inl (f, e)
+  some-case (accepted h js) e = elim (lt-or-le (length places) (length js)) [
+    | inl p ↦ inr (inl (h, js, e, inl (omega arith)))
+    | inr p ↦ elim (lt-or-le (length loads) (h .benches)) [
+      | inl l ↦ inr (inl (h, js, e, inr (omega arith)))
+      | inr l ↦ inr (inr (h, js, record { sheet-accepted = e; place-to-a-job = omega arith; load-to-a-bench = omega arith }))
+    ]
+  ]
+
+  short-or-not : TablesShort s places loads → CanAnswer s places loads → ⊥
+  short-or-not (h, js, e, short) (k, is, t) =
+      let same = same-read s e (t .sheet-accepted) in
+      elim short [
+        | inl l ↦ omega (arith, t .place-to-a-job, ap length (same .1))
+        | inr l ↦ omega (arith, t .load-to-a-bench, ap (λ (x : Head). x .benches) (same .0))
+      ]
+
+  pub one-case : OneCase (SheetRefused s) (TablesShort s places loads) (CanAnswer s places loads)
+  one-case = record {
+    some = some-case (readSheet s) refl;
+    not-first-second = λ (f, p) (h, js, q, short). not-both-read s p q;
+    not-first-third = λ (f, p) (h, js, t). not-both-read s p (t .sheet-accepted);
+    not-second-third = short-or-not;
+  }
 
 -- ── the answer, by what the sheet is read as ──
 
@@ -143,6 +182,24 @@ plan-given (tooLong j) e = clash {b = false} e refl
 plan-given (none benches moves) e = clash {b = false} e refl
 plan-given (fault f) e = clash {b = false} e refl
 
+long-is : (a : Answer) → isLong a ≡ true → (j : ℕ) × (given a ≡ Long j)
+long-is (plan largest moves places loads) e = clash {b = false} e refl
+long-is (tooLong j) e = (j, refl)
+long-is (none benches moves) e = clash {b = false} e refl
+long-is (fault f) e = clash {b = false} e refl
+
+not-long-plan : (a : Answer) (largest moves : ℕ) → given a ≡ Plan largest moves → isLong a ≡ false
+not-long-plan (plan x y places loads) largest moves e = refl
+not-long-plan (tooLong i) largest moves e = cc
+not-long-plan (none benches y) largest moves e = refl
+not-long-plan (fault f) largest moves e = refl
+
+not-long-none : (a : Answer) (set moves : ℕ) → given a ≡ None set moves → isLong a ≡ false
+not-long-none (plan x y places loads) set moves e = refl
+not-long-none (tooLong i) set moves e = cc
+not-long-none (none benches y) set moves e = refl
+not-long-none (fault f) set moves e = refl
+
 no-plan-long : (a : Answer) (j : ℕ) → given a ≡ Long j → isPlan a ≡ false
 no-plan-long (plan largest moves places loads) j e = cc
 no-plan-long (tooLong i) j e = refl
@@ -176,11 +233,15 @@ module _ (s places loads : List ℕ) where
   pub planner-claim : PlannerClaim s places loads (given answer) (placesAfter answer places) (loadsAfter answer loads)
   planner-claim =
       record {
+        one-case = one-case s places loads;
         sheet-refused = λ f e. fault-after f (answer-refused s (length places) (length loads) f e);
         tables-short = λ h js e short. fault-after (Table 0) (answer-short s (length places) (length loads) h js e short);
         one-of-three = λ h js t. three h js (whole h js t .sound);
         plan-right = λ h js t. plan-after h js places loads (t .place-to-a-job) (t .load-to-a-bench) (whole h js t .sound);
         long-right = λ h js t. long-after h js places loads (whole h js t .sound);
+        long-given = λ h js t j l. long-is answer (whole h js t .long-given j l);
+        plan-fits = λ h js t largest moves e. whole h js t .else-fits (not-long-plan answer largest moves e);
+        none-fits = λ h js t set moves e. whole h js t .else-fits (not-long-none answer set moves e);
         none-right = λ h js t. none-after h js places loads (few-benches h js t) (whole h js t .sound);
         rival-planned = λ h js t a x keeps. plan-given answer (whole h js t .rival-planned a x keeps);
         over-after-long = λ h js t j e. whole h js t .else-over (no-plan-long answer j e);

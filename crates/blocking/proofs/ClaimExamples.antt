@@ -1,9 +1,15 @@
--- Example 8 of document 01, from the bytes of its sheet to both tables: the claim speaks of some sheets, and of plans in tables longer than needed.
---     answerable-8        its sheet is accepted, and the tables are large enough
+-- Example 8 of document 01, from the bytes of its sheet to both tables: the claim speaks of some calls. Once with tables longer than needed,
+-- once with tables of exactly the needed size.
+--     read-8              its sheet is accepted
+--     run-8               the run's answer to it
+--     answerable-8        the tables are large enough
 --     planned-8           the answer
 --     places-8, loads-8   both tables after it
+--     answerable-exact    tables of exactly the needed size are large enough
+--     called-exact        what a call with them answers, and what it leaves in both
 use Prim.Native.Nat.{ℕ, zero, suc, _<_, _^_}
-use mathlib.Core.Path.{_≡_, refl, ap}
+use mathlib.Core.Path.{_≡_, refl, ap, _∙_}
+use mathlib.Core.Bool.{false}
 use mathlib.Core.List.{List, [], _∷_}
 use native.Mathlib.Omega.{arith}
 use lib.ListN.{length}
@@ -27,18 +33,19 @@ use Rattle.algorithm.specs.Start.{crowdedBench, oneCycle, peel, start}
 use Rattle.algorithm.specs.Run.{ownMinutes, answerAt, turns, run}
 use Rattle.algorithm.specs.Answer.{Answer, plan, answerTo}
 use Rattle.algorithm.specs.Examples.{bay, both}
+use Rattle.planning.specs.declared.answer.Answer.{Answer as Given}
 use Rattle.planning.specs.declared.answer.Answer.the-variants.{Plan}
-use Rattle.planning.specs.Planner.{given, answerFor, placesAfter, loadsAfter}
+use Rattle.planning.specs.Planner.{given, shortTables, answerFor, placesAfter, loadsAfter, Answered}
 use Rattle.blocking.specs.Claim.{Answerable}
 
 -- Two benches, four jobs of 2 on both, T = 4.
-abbrev head8 : Head
+abbrev pub head8 : Head
 head8 = bay 2 4 7 4
 
-abbrev jobs8 : List Job
+abbrev pub jobs8 : List Job
 jobs8 = both 2 ∷ both 2 ∷ both 2 ∷ both 2 ∷ []
 
-abbrev sheet8 : List ℕ
+abbrev pub sheet8 : List ℕ
 sheet8 = sheetBytes head8 jobs8
 
 -- Five places and three loads, one of each more than needed.
@@ -59,25 +66,45 @@ fits (suc (suc zero)) h = omega arith
 fits (suc (suc (suc zero))) h = omega arith
 fits (suc (suc (suc (suc i)))) h = absurd (omega arith)
 
-read8 : readSheet sheet8 ≡ accepted head8 jobs8
-read8 = write-read head8 jobs8 taken fits
+pub read-8 : readSheet sheet8 ≡ accepted head8 jobs8
+read-8 = write-read head8 jobs8 taken fits
 
 pub answerable-8 : Answerable sheet8 places loads head8 jobs8
-answerable-8 = record { sheet-accepted = read8; place-to-a-job = omega arith; load-to-a-bench = omega arith }
+answerable-8 = record { sheet-accepted = read-8; place-to-a-job = omega arith; load-to-a-bench = omega arith }
 
-run8 : answerTo (dayOf head8 jobs8) ≡ plan 6 1 (1 ∷ 0 ∷ 0 ∷ 0 ∷ []) (6 ∷ 2 ∷ [])
+pub run-8 : answerTo (dayOf head8 jobs8) ≡ plan 6 1 (1 ∷ 0 ∷ 0 ∷ 0 ∷ []) (6 ∷ 2 ∷ [])
 unfolding isSet grow closure reach lowest highest longJob rockLoad inner outer conflictSet construct activate openRound rounds explore follow settleFrom crowdedBench oneCycle peel start ownMinutes answerAt turns run members
-run8 = refl
+run-8 = refl
 
-answer8 : answerFor sheet8 (length places) (length loads) ≡ plan 6 1 (1 ∷ 0 ∷ 0 ∷ 0 ∷ []) (6 ∷ 2 ∷ [])
+answer8 : (np nl : ℕ) → shortTables head8 jobs8 np nl ≡ false → answerFor sheet8 np nl ≡ plan 6 1 (1 ∷ 0 ∷ 0 ∷ 0 ∷ []) (6 ∷ 2 ∷ [])
 unfolding answerFor
-answer8 = rw (read8, answerFor) run8
+answer8 np nl enough = rw (read-8, enough, answerFor) run-8
 
 pub planned-8 : given (answerFor sheet8 (length places) (length loads)) ≡ Plan 6 1
-planned-8 = ap given answer8
+planned-8 = ap given (answer8 5 3 refl)
 
 pub places-8 : placesAfter (answerFor sheet8 (length places) (length loads)) places ≡ 1 ∷ 0 ∷ 0 ∷ 0 ∷ 9 ∷ []
-places-8 = ap (λ (a : Answer). placesAfter a places) answer8
+places-8 = ap (λ (a : Answer). placesAfter a places) (answer8 5 3 refl)
 
 pub loads-8 : loadsAfter (answerFor sheet8 (length places) (length loads)) loads ≡ 6 ∷ 2 ∷ 9 ∷ []
-loads-8 = ap (λ (a : Answer). loadsAfter a loads) answer8
+loads-8 = ap (λ (a : Answer). loadsAfter a loads) (answer8 5 3 refl)
+
+-- ── tables of exactly the needed size ──
+
+abbrev exactPlaces : List ℕ
+exactPlaces = 9 ∷ 9 ∷ 9 ∷ 9 ∷ []
+
+abbrev exactLoads : List ℕ
+exactLoads = 9 ∷ 9 ∷ []
+
+pub answerable-exact : Answerable sheet8 exactPlaces exactLoads head8 jobs8
+answerable-exact = record { sheet-accepted = read-8; place-to-a-job = omega arith; load-to-a-bench = omega arith }
+
+pub called-exact : {r : Given} {places′ loads′ : List ℕ} → Answered (answerFor sheet8 4 2) r exactPlaces exactLoads places′ loads′
+    → (r ≡ Plan 6 1) × (places′ ≡ 1 ∷ 0 ∷ 0 ∷ 0 ∷ []) × (loads′ ≡ 6 ∷ 2 ∷ [])
+called-exact called =
+    let answered = answer8 4 2 refl in (
+      called .answer ∙ ap given answered,
+      called .new-places ∙ ap (λ (a : Answer). placesAfter a exactPlaces) answered,
+      called .new-loads ∙ ap (λ (a : Answer). loadsAfter a exactLoads) answered,
+    )

@@ -11,7 +11,7 @@ use Rattle.sums.proofs.SearchLaws.{least-holds, least-before}
 use Rattle.fields.specs.declared.sheet.Head.{Head}
 use Rattle.fields.specs.declared.sheet.Job.{Job}
 use Rattle.algorithm.specs.Day.{dayOf, longJob}
-use Rattle.blocking.specs.Demand.{minutesOf, LongJob}
+use Rattle.demand.specs.Demand.{minutesOf, LongJob}
 
 module _ (h : Head) (js : List Job) where
   pub long-found : ltb (longJob (dayOf h js)) (length js) ≡ true

@@ -48,7 +48,7 @@ use Rattle.algorithm.specs.Properties.{JoinedBy}
 use Rattle.algorithm.specs.Push.{canPush, pushJob}
 use Rattle.algorithm.specs.Start.{State, joined, component, crowded}
 use Rattle.algorithm.specs.Run.{ownMinutes, boardOf, explored, congested, canMove}
-use Rattle.blocking.specs.Demand.{Placement as SheetPlacement, Blocking}
+use Rattle.demand.specs.Demand.{Placement as SheetPlacement, Blocking}
 use Rattle.blocking.specs.Exploration.{Placement, inside}
 use Rattle.blocking.specs.RunFacts.{SoundState, DayPlacement, PeeledPlaced, CrowdedUnplaceable}
 use Rattle.blocking.proofs.ExplorationLaws.{inside-rock}

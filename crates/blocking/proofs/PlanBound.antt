@@ -39,7 +39,7 @@ use Rattle.algorithm.specs.Properties.{SoundBoard, Facts, lev}
 use Rattle.algorithm.specs.Settle.{settle}
 use Rattle.algorithm.specs.Start.{State}
 use Rattle.algorithm.specs.Run.{ownMinutes, boardOf, placesOf, explored, congested}
-use Rattle.blocking.specs.Demand.{Assignment, loadOf, withinBound, keepsBound}
+use Rattle.demand.specs.Demand.{Assignment, loadOf, withinBound, keepsBound}
 use Rattle.blocking.specs.RunFacts.{SoundState, Settled}
 use Rattle.algorithm.proofs.RockLaws.{low-allowed, high-allowed}
 

@@ -31,7 +31,7 @@ use Rattle.fields.specs.declared.sheet.Job.{Job}
 use Rattle.fields.specs.Format.{allows}
 use Rattle.fields.specs.Tests.{jobAt}
 use Rattle.frame.specs.Sound.{SoundHead}
-use Rattle.blocking.specs.Demand.{minutesOf, allowed, heavyJob, lightJob, isAssignment, Assignment, loadOf, withinTarget, keepsTarget, Placement, keptInside, liesInside, weightInside, Blocking, LongJob}
+use Rattle.demand.specs.Demand.{minutesOf, allowed, heavyJob, lightJob, isAssignment, Assignment, loadOf, withinTarget, keepsTarget, Placement, keptInside, liesInside, weightInside, Blocking, LongJob}
 
 pub assignment-tested : (h : Head) (js : List Job) (a : ℕ → ℕ) → Assignment h js a → isAssignment h js a ≡ true
 assignment-tested h js a assigned = all-intro (length js) (λ j. allowed h js j (a j)) (assigned .on-allowed)

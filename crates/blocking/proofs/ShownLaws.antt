@@ -28,7 +28,7 @@ use Rattle.fields.specs.Format.{allows}
 use Rattle.fields.specs.Tests.{jobAt}
 use Rattle.algorithm.specs.Day.{dayOf}
 use Rattle.algorithm.specs.Answer.{loadOf as dayLoad, loadsOf, largestOf}
-use Rattle.blocking.specs.Demand.{Assignment, loadOf, withinBound, keepsBound, Placement, heavyJob, lightJob, keptInside, liesInside, minutesOf, Blocking, moveBound}
+use Rattle.demand.specs.Demand.{Assignment, loadOf, withinBound, keepsBound, Placement, heavyJob, lightJob, keptInside, liesInside, minutesOf, Blocking, moveBound}
 use Rattle.blocking.specs.Answers.{placeIn, oneOf, SoundPlan, SoundNone}
 
 -- ── the list of a set's benches ──

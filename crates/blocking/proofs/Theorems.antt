@@ -7,6 +7,7 @@
 --                         job; none names a blocking set, its benches rising
 --     rival-planned       if an assignment keeps every bench within the target, the answer is a plan
 --     else-over           if the answer is no plan, every assignment leaves some bench above the target
+--     long-given, else-fits   a job above the target gives long; after any other answer every job is at most the target
 --     whole-claim         demand 3
 --     reached-visited     the run comes by every state that it reaches, and goes on from there
 --     levels-never-fall   Lemma 4.4.5
@@ -42,8 +43,8 @@ use Rattle.algorithm.proofs.Levels.{levels-kept}
 use Rattle.algorithm.proofs.SpreadLaws.{spreadOf}
 use Rattle.algorithm.proofs.Budget.{TurnsEnd, run-turns, movesOf, moves-bound, next-good}
 use Rattle.algorithm.proofs.DayFacts.{good-sound, good-facts, good-spread, reached-good, reached-run, run-ends}
-use Rattle.blocking.specs.Demand.{Assignment, keepsTarget, withinTarget, loadOf}
-use Rattle.blocking.specs.Answers.{SoundAnswer, plan-sound, long-sound, none-sound, isPlan, SomeOver, WholeClaim, RunEnd, long-job, crowded-component, no-move-left}
+use Rattle.demand.specs.Demand.{Assignment, keepsTarget, withinTarget, loadOf, minutesOf, SomeOver, LongJob, EachFits}
+use Rattle.blocking.specs.Answers.{SoundAnswer, plan-sound, long-sound, none-sound, isPlan, isLong, WholeClaim, RunEnd, long-job, crowded-component, no-move-left}
 use Rattle.planning.proofs.SheetDay.{sound-day, none-long}
 use Rattle.blocking.proofs.LongFound.{long-found}
 use Rattle.blocking.proofs.Rival.{blocking-overloads, long-overloads}
@@ -161,8 +162,30 @@ module _ (s : List ℕ) (h : Head) (js : List Job) (taken : readSheet s ≡ acce
       absurd (omega (arith, over .2, leb-true (loadOf js r (over .0)) (h .target) within)))
       (split (isPlan (answerTo day)))
 
+  -- ── long ──
+
+  answer-long : ltb (longJob day) (length js) ≡ true → isLong (answerTo day) ≡ true
+  answer-long e = rw (run-long day e)
+
+  -- "Long: the lowest job with more than T minutes. Tried before the run."
+  pub long-given : (j : ℕ) → LongJob h js j → isLong (answerTo day) ≡ true
+  long-given j l =
+      ⊎-elim answer-long
+      (λ short. absurd (omega (arith, ltb-true (h .target) (minutesOf js j) (l .longer), none-long h js short j (l .is-job))))
+      (split (ltb (longJob day) (length js)))
+
+  pub else-fits : isLong (answerTo day) ≡ false → EachFits h js
+  else-fits other =
+      ⊎-elim (λ e. clash (answer-long e) other) (none-long h js) (split (ltb (longJob day) (length js)))
+
   pub whole-claim : WholeClaim h js (answerTo day)
-  whole-claim = record { sound = answer-sound; rival-planned = rival-planned; else-over = else-over }
+  whole-claim = record {
+    sound = answer-sound;
+    long-given = long-given;
+    else-fits = else-fits;
+    rival-planned = rival-planned;
+    else-over = else-over;
+  }
 
   -- ── the states of the run ──
 

@@ -3,8 +3,7 @@
 --     oneOf benches           the set of the benches that a list names
 --     SoundPlan, SoundLong, SoundNone     what holds of a plan, of a long job and of a none
 --     SoundAnswer h js a      a is one of the three answers, and right for the sheet with the head h and the jobs js
---     isPlan a                the answer is a plan
---     SomeOver h js r         the assignment r leaves some bench above the target
+--     isPlan a, isLong a      the answer is a plan; it is long
 --     WholeClaim h js a       demand 3
 --     RunEnd d o              how a run comes to its outcome
 use Prim.Native.Nat.{ℕ, _≤_, _<_}
@@ -21,7 +20,8 @@ use Rattle.algorithm.specs.Start.{State, component, crowded}
 use Rattle.algorithm.specs.Run.{Outcome, long, blocked, canMove, answerAt, budget}
 use Rattle.algorithm.specs.States.{Reached}
 use Rattle.algorithm.specs.Answer.{Answer, plan, tooLong, none, fault}
-use Rattle.blocking.specs.Demand.{Assignment, loadOf, withinBound, keepsTarget, Blocking, LongJob, minutesOf, moveBound}
+use Rattle.demand.specs.Demand.{minutesOf, Assignment, loadOf, withinBound, keepsTarget, SomeOver, Blocking, LongJob, EachFits}
+use Rattle.demand.specs.Demand.{moveBound}
 
 -- "Entry j of the first table is job j's bench"
 abbrev pub placeIn : List ℕ → ℕ → ℕ
@@ -71,12 +71,18 @@ isPlan (tooLong j) = false
 isPlan (none benches moves) = false
 isPlan (fault f) = false
 
-abbrev pub SomeOver : Head → List Job → (ℕ → ℕ) → Type 0
-SomeOver h js r = (v : ℕ) × (v < h .benches) × (h .target < loadOf js r v)
+abbrev pub isLong : Answer → Bool
+isLong (plan largest moves places loads) = false
+isLong (tooLong j) = true
+isLong (none benches moves) = false
+isLong (fault f) = false
 
 -- "The rival may try every assignment; it is not held to placements or to the run."
 pub record WholeClaim (h : Head) (js : List Job) (a : Answer) : Type 0 where
   pub sound : SoundAnswer h js a
+  -- A job above T gives long; after any other answer every job is at most T.
+  pub long-given : (j : ℕ) → LongJob h js j → isLong a ≡ true
+  pub else-fits : isLong a ≡ false → EachFits h js
   -- If any assignment at all keeps every bench within T, a plan is given.
   pub rival-planned : (r : ℕ → ℕ) → Assignment h js r → keepsTarget h js r ≡ true → isPlan a ≡ true
   -- After long or none every assignment leaves some bench above T.

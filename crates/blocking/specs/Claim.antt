@@ -2,7 +2,10 @@
 --     s                        the bytes of the sheet
 --     places, loads            the two tables before; places′ and loads′ are the tables after
 --     r                        the planner's answer
---     Answerable               the sheet is accepted and the tables are large enough
+--     SheetRefused             the sheet has a fault
+--     ShortFor, TablesShort    the sheet is accepted, and a table is too short for it
+--     Answerable, CanAnswer    the sheet is accepted, and the tables are large enough
+--     OneCase A B C            one of three holds, and no two of them do
 --     Untouched                both tables are as before
 --     OneOfThree r             the answer is one of the three
 --     inSet set v              bench v is in the set that a none names
@@ -23,14 +26,39 @@ use Rattle.fields.specs.declared.sheet.Job.{Job}
 use Rattle.frame.specs.Reading.{accepted, refused, readSheet}
 use Rattle.planning.specs.declared.answer.Answer.{Answer}
 use Rattle.planning.specs.declared.answer.Answer.the-variants.{Plan, Long, None, Fault as Faulty}
-use Rattle.blocking.specs.Demand.{Assignment, loadOf, withinBound, keepsTarget, Blocking, moveBound}
-use Rattle.blocking.specs.Answers.{placeIn, SoundLong, SomeOver}
+use Rattle.demand.specs.Demand.{Assignment, loadOf, withinBound, keepsTarget, SomeOver, Blocking, LongJob, EachFits, moveBound}
+use Rattle.blocking.specs.Answers.{placeIn, SoundLong}
+
+-- ── the three kinds of calls ──
+
+-- A sheet with a fault.
+abbrev pub SheetRefused : List ℕ → Type 0
+SheetRefused s = (f : Fault) × (readSheet s ≡ refused f)
+
+-- "The table of places is shorter than the jobs, or the table of loads shorter than the benches"
+abbrev pub ShortFor : Head → List Job → List ℕ → List ℕ → Type 0
+ShortFor h js places loads = (length places < length js) ⊎ (length loads < h .benches)
+
+abbrev pub TablesShort : List ℕ → List ℕ → List ℕ → Type 0
+TablesShort s places loads =
+    (h : Head) × (js : List Job) × (readSheet s ≡ accepted h js) × ShortFor h js places loads
 
 -- "A sheet is accepted if it has none of the sheet's faults; tables are large enough if fault 13 is not there either."
 pub record Answerable (s places loads : List ℕ) (h : Head) (js : List Job) : Type 0 where
   pub sheet-accepted : readSheet s ≡ accepted h js
   pub place-to-a-job : length js ≤ length places
   pub load-to-a-bench : h .benches ≤ length loads
+
+abbrev pub CanAnswer : List ℕ → List ℕ → List ℕ → Type 0
+CanAnswer s places loads = (h : Head) × (js : List Job) × Answerable s places loads h js
+
+pub record OneCase (A B C : Type 0) : Type 0 where
+  pub some : A ⊎ (B ⊎ C)
+  pub not-first-second : A → B → ⊥
+  pub not-first-third : A → C → ⊥
+  pub not-second-third : B → C → ⊥
+
+-- ── the answers and the tables ──
 
 -- "Tables untouched."
 pub record Untouched (places loads places′ loads′ : List ℕ) : Type 0 where
@@ -70,9 +98,11 @@ pub record NamedSet (h : Head) (js : List Job) (set moves : ℕ) : Type 0 where
 
 -- The demand, of every row of bytes and any two tables.
 pub record PlannerClaim (s places loads : List ℕ) (r : Answer) (places′ loads′ : List ℕ) : Type 0 where
+  -- Every call is one of three: the sheet is refused, the tables are short, or the sheet can be answered.
+  pub one-case : OneCase (SheetRefused s) (TablesShort s places loads) (CanAnswer s places loads)
   -- "A fault returns its number and place and writes to no table." First the faults of the sheet, then fault 13.
   pub sheet-refused : (f : Fault) → readSheet s ≡ refused f → (r ≡ Faulty f) × Untouched places loads places′ loads′
-  pub tables-short : (h : Head) (js : List Job) → readSheet s ≡ accepted h js → (length places < length js) ⊎ (length loads < h .benches)
+  pub tables-short : (h : Head) (js : List Job) → readSheet s ≡ accepted h js → ShortFor h js places loads
       → (r ≡ Faulty (Table 0)) × Untouched places loads places′ loads′
   -- Else the answer is one of the three.
   pub one-of-three : (h : Head) (js : List Job) → Answerable s places loads h js → OneOfThree r
@@ -82,6 +112,13 @@ pub record PlannerClaim (s places loads : List ℕ) (r : Answer) (places′ load
   -- Long names the lowest job with more than T minutes.
   pub long-right : (h : Head) (js : List Job) → Answerable s places loads h js
       → (j : ℕ) → r ≡ Long j → SoundLong h js j × Untouched places loads places′ loads′
+  -- A job above T gives long; after a plan or a none every job is at most T.
+  pub long-given : (h : Head) (js : List Job) → Answerable s places loads h js
+      → (j : ℕ) → LongJob h js j → (i : ℕ) × (r ≡ Long i)
+  pub plan-fits : (h : Head) (js : List Job) → Answerable s places loads h js
+      → (largest moves : ℕ) → r ≡ Plan largest moves → EachFits h js
+  pub none-fits : (h : Head) (js : List Job) → Answerable s places loads h js
+      → (set moves : ℕ) → r ≡ None set moves → EachFits h js
   -- None names a blocking set.
   pub none-right : (h : Head) (js : List Job) → Answerable s places loads h js
       → (set moves : ℕ) → r ≡ None set moves → NamedSet h js set moves × Untouched places loads places′ loads′

@@ -1,4 +1,4 @@
 // The planner, with the demand as its promise; the argument for blocking sets is in specs/ and proofs/.
-mod demand;
+mod planner;
 
-pub use demand::plan;
+pub use planner::plan;

@@ -23,7 +23,7 @@ use Rattle.frame.specs.Reading.{accepted, readSheet}
 use Rattle.frame.proofs.AcceptedLaws.{accepted-sound}
 use Rattle.algorithm.specs.Answer.{Answer, plan, tooLong, none, fault}
 use Rattle.planning.specs.Planner.{setOf, shortTables}
-use Rattle.blocking.specs.Demand.{loadOf}
+use Rattle.demand.specs.Demand.{loadOf}
 use Rattle.blocking.specs.Answers.{placeIn, SoundPlan, SoundLong, SoundAnswer, plan-sound, long-sound, none-sound, isPlan, WholeClaim}
 use Rattle.blocking.specs.Claim.{Untouched, NamedSet}
 use Rattle.blocking.proofs.Claim.{named-set}

@@ -31,7 +31,7 @@ use Rattle.frame.proofs.AcceptedLaws.{accepted-sound}
 use Rattle.frame.proofs.Places.{read-place}
 use Rattle.algorithm.specs.Answer.{Answer, plan, tooLong, none, fault}
 use Rattle.planning.specs.Planner.{shortTables}
-use Rattle.blocking.specs.Demand.{lightJob, allowed, moveBound}
+use Rattle.demand.specs.Demand.{lightJob, allowed, moveBound}
 use Rattle.blocking.specs.Answers.{SoundPlan, SoundAnswer, plan-sound, long-sound, none-sound}
 use Rattle.blocking.proofs.SetLaws.{setOf-lt}
 use Rattle.blocking.proofs.Theorems.{whole-claim}

@@ -39,7 +39,7 @@ use Rattle.algorithm.specs.Answer.{Answer, plan, tooLong, none, fault, answerTo
 use Rattle.planning.specs.declared.answer.Answer.{Answer as Given}
 use Rattle.planning.specs.declared.answer.Answer.the-variants.{Plan, Long, None, Fault as GivenFault}
 use Rattle.planning.specs.Planner.{setOf, given, shortTables, answerFor, placesAfter, loadsAfter, Answered}
-use Rattle.blocking.specs.Demand.{loadOf, minutesOf}
+use Rattle.demand.specs.Demand.{loadOf, minutesOf}
 use Rattle.blocking.specs.Answers.{placeIn, SoundPlan, SoundAnswer, plan-sound, long-sound, none-sound}
 use Rattle.blocking.proofs.Theorems.{whole-claim}
 use Rattle.yinqocha.specs.Door.{faultWord}

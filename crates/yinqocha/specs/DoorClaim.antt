@@ -19,7 +19,7 @@ use Rattle.fields.specs.declared.fault.Fault.the-variants.{Table}
 use Rattle.fields.specs.declared.sheet.Head.{Head}
 use Rattle.fields.specs.declared.sheet.Job.{Job}
 use Rattle.frame.specs.Reading.{accepted, refused, readSheet}
-use Rattle.blocking.specs.Demand.{Assignment, loadOf, withinBound, keepsTarget, moveBound}
+use Rattle.demand.specs.Demand.{Assignment, loadOf, withinBound, keepsTarget, moveBound}
 use Rattle.blocking.specs.Answers.{SoundLong, SomeOver}
 use Rattle.blocking.specs.Claim.{Untouched, NamedSet}
 use Rattle.yinqocha.specs.Door.{entryOf, faultWord}

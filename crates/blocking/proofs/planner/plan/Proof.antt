@@ -1,8 +1,8 @@
 -- The equations of the planning crate, and what follows from them (Claim).
 use Rattle.blocking.proofs.Claim.{equations-claim}
 use borrow.Author.Needs.{needs}
-use Rattle.blocking.proofs.demand.plan.Statement.{statement}
-use Rattle.blocking.proofs.demand.plan.Tie as tie
+use Rattle.blocking.proofs.planner.plan.Statement.{statement}
+use Rattle.blocking.proofs.planner.plan.Tie as tie
 
 plan-requires : tie.Need-plan-requires
 plan-requires c κs = search needs

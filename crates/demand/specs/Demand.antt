@@ -13,8 +13,10 @@
 --     weightInside            what weighs inside a set, for a placement
 --     Blocking                the blocking sets
 --     tooLong, LongJob        a job longer than the target: as a test, and as a fact
+--     EachFits                no job is longer than the target
+--     SomeOver h js a         the assignment a leaves some bench above the target
 --     moveBound               benches × light jobs that have a choice
-use Prim.Native.Nat.{ℕ, _+_, _*_, _<_}
+use Prim.Native.Nat.{ℕ, _+_, _*_, _≤_, _<_}
 use mathlib.Core.Path.{_≡_}
 use mathlib.Core.Bool.{Bool, true, not, _&&_, _||_}
 use mathlib.Core.List.{List}
@@ -72,12 +74,17 @@ keepsTarget h js a = all (h .benches) (λ v. withinTarget h (loadOf js a v))
 abbrev pub keepsBound : Head → List Job → (ℕ → ℕ) → Bool
 keepsBound h js a = all (h .benches) (λ v. withinBound h (loadOf js a v))
 
+-- "every assignment leaves some bench above T"
+abbrev pub SomeOver : Head → List Job → (ℕ → ℕ) → Type 0
+SomeOver h js a = (v : ℕ) × (v < h .benches) × (h .target < loadOf js a v)
+
 -- ── placements and blocking sets ──
 
 -- "A placement puts each heavy job on an allowed bench, no bench taking two."
 pub record Placement (h : Head) (js : List Job) (place : ℕ → ℕ) : Type 0 where
   pub on-allowed : (j : ℕ) → j < length js → heavyJob h js j ≡ true → allowed h js j (place j) ≡ true
-  pub one-to-a-bench : (e f : ℕ) → e < length js → f < length js → heavyJob h js e ≡ true → heavyJob h js f ≡ true → place e ≡ place f → e ≡ f
+  pub one-to-a-bench : (e f : ℕ) → e < length js → f < length js
+      → heavyJob h js e ≡ true → heavyJob h js f ≡ true → place e ≡ place f → e ≡ f
 
 -- Job j may not go to bench v, or v is inside.
 abbrev pub keptInside : Head → List Job → (ℕ → Bool) → ℕ → ℕ → Bool
@@ -93,11 +100,12 @@ weightInside h js place set =
     sum (length js) (λ j. on (heavyJob h js j && set (place j)) (minutesOf js j))
     + sum (length js) (λ j. on (lightJob h js j && liesInside h js set j) (minutesOf js j))
 
--- "A non-empty set of k benches is blocking if in every placement the heavy jobs placed inside it, plus all light jobs whose benches all lie
--- inside it, weigh more than k × T. Where no placement exists every non-empty set is blocking."
+-- "A non-empty set of k benches is blocking if in every placement the heavy jobs placed inside it, plus all light jobs
+-- whose benches all lie inside it, weigh more than k × T. Where no placement exists every non-empty set is blocking."
 pub record Blocking (h : Head) (js : List Job) (set : ℕ → Bool) : Type 0 where
   pub some-bench : 0 < count (h .benches) set
-  pub heavier : (place : ℕ → ℕ) → Placement h js place → count (h .benches) set * h .target < weightInside h js place set
+  pub heavier : (place : ℕ → ℕ) → Placement h js place
+      → count (h .benches) set * h .target < weightInside h js place set
 
 -- ── long jobs ──
 
@@ -109,8 +117,13 @@ pub record LongJob (h : Head) (js : List Job) (j : ℕ) : Type 0 where
   pub is-job : j < length js
   pub longer : tooLong h js j ≡ true
 
+-- "With every job at most T"
+abbrev pub EachFits : Head → List Job → Type 0
+EachFits h js = (j : ℕ) → j < length js → minutesOf js j ≤ h .target
+
 -- ── moves ──
 
 -- Benches × light jobs that have a choice.
 abbrev pub moveBound : Head → List Job → ℕ
-moveBound h js = h .benches * count (length js) (λ j. lightJob h js j && leb 2 (count (h .benches) (allowed h js j)))
+moveBound h js =
+    h .benches * count (length js) (λ j. lightJob h js j && leb 2 (count (h .benches) (allowed h js j)))
