@@ -33,7 +33,7 @@ use Rattle.frame.proofs.WriterSteps.{written, written-after}
 use Rattle.frame.proofs.SheetArrays.{length-padded, table-padded}
 use Rattle.frame.proofs.Places.{read-jobs}
 use Rattle.frame.proofs.Stored.{verdict-refused, verdict-accepted}
-use Rattle.yinqocha.specs.Door.{faultWord}
+use Rattle.tables.specs.Words.{faultWord}
 use Rattle.inspect.specs.Inspect.{jobNumbers, numbersRead, sizeRead, inspectWord, inspectTable}
 
 -- ── numbers in the table ──

@@ -12,7 +12,7 @@ use Rattle.fields.specs.declared.sheet.Head.{Head}
 use Rattle.fields.specs.declared.sheet.Job.{Job}
 use Rattle.fields.specs.declared.fault.Fault.the-variants.{Table}
 use Rattle.frame.specs.Reading.{Read, accepted, refused}
-use Rattle.yinqocha.specs.Door.{faultWord}
+use Rattle.tables.specs.Words.{faultWord}
 
 unfoldable pub jobNumbers : List Job → List ℕ
 jobNumbers [] = []

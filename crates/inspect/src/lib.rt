@@ -19,13 +19,13 @@ pub extern "C" fn yinqocha_inspect(sheet: &[u8], table: &mut [u8]) -> u64
     let reading = frame::read(sheet);
     let verdict = reading.verdict;
     match verdict {
-        Verdict::Refused(f) => yinqocha::fault_word(f),
+        Verdict::Refused(f) => tables::fault_word(f),
         Verdict::Accepted => {
             let s = reading.sheet;
             let h = s.head;
             let n = s.count;
             if table.len() < 32 + 16 * n {
-                return yinqocha::fault_word(Fault::Table(0));
+                return tables::fault_word(Fault::Table(0));
             }
             put_head(h, table);
             put_jobs(n, &s.minutes, &s.allowed, table);
@@ -38,10 +38,10 @@ fn put_head(h: Head, table: &mut [u8])
     requires { ⌜ 32 ≤ length (now table) ⌝ }
     ensures { λ _. ⌜ now (table .exit) ≡ littleAll 8 (numbersRead h []) ++ drop 32 (now (table .entry)) ⌝ }
 {
-    yinqocha::put(table, 0, h.benches);
-    yinqocha::put(table, 1, h.p);
-    yinqocha::put(table, 2, h.q);
-    yinqocha::put(table, 3, h.target);
+    tables::put(table, 0, h.benches);
+    tables::put(table, 1, h.p);
+    tables::put(table, 2, h.q);
+    tables::put(table, 3, h.target);
 }
 
 fn put_jobs<'a>(n: usize, minutes: &'a [u64], allowed: &'a [u64], table: &mut [u8])
@@ -50,8 +50,8 @@ fn put_jobs<'a>(n: usize, minutes: &'a [u64], allowed: &'a [u64], table: &mut [u
 {
     let mut i = 0;
     while i < n {
-        yinqocha::put(table, 4 + 2 * i, minutes[i]);
-        yinqocha::put(table, 5 + 2 * i, allowed[i]);
+        tables::put(table, 4 + 2 * i, minutes[i]);
+        tables::put(table, 5 + 2 * i, allowed[i]);
         i += 1;
     }
 }

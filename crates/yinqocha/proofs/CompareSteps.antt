@@ -24,7 +24,8 @@ use Rattle.planning.specs.declared.answer.Compared.{Compared}
 use Rattle.planning.specs.declared.answer.Compared.the-variants.{Same, Different, Fault as ComparedFault}
 use Rattle.planning.specs.Planner.{givesEach, comparePlans}
 use Rattle.planning.specs.CompareArrays.{comparedOf}
-use Rattle.yinqocha.specs.Door.{numbersOf, faultWord}
+use Rattle.tables.specs.Tables.{numbersOf}
+use Rattle.tables.specs.Words.{faultWord}
 use Rattle.yinqocha.specs.PlanDoor.{comparedWord}
 
 pub read-cases : (r : Read) → ((f : Fault) × (r ≡ refused f)) ⊎ ((h : Head) × (js : List Job) × (r ≡ accepted h js))

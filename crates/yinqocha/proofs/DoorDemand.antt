@@ -8,13 +8,10 @@ use mathlib.Core.Logic.{_⊎_, inl, inr}
 use mathlib.Core.Bool.{true, false, _||_}
 use mathlib.Core.List.{List, [], _∷_}
 use lib.ListN.{length, getD, drop}
-use lib.Seq.{drop-at}
 use lib.Dec.{ltb}
 use borrow.Author.Tests.{lt-ltb, le-ltb}
 use Rattle.bools.proofs.BoolLaws.{clash, or-left, or-right, or-false}
 use Rattle.sums.proofs.SumLaws.{sum-cong}
-use Rattle.bits.specs.Little.{littleAll}
-use Rattle.bits.proofs.LittleLaws.{length-littleAll}
 use Rattle.fields.specs.declared.fault.Fault.{Fault}
 use Rattle.fields.specs.declared.fault.Fault.the-variants.{Table}
 use Rattle.fields.specs.declared.sheet.Head.{Head}
@@ -28,18 +25,14 @@ use Rattle.blocking.specs.Answers.{placeIn, SoundPlan, SoundLong, SoundAnswer, 
 use Rattle.blocking.specs.Claim.{Untouched, NamedSet}
 use Rattle.blocking.proofs.Claim.{named-set}
 use Rattle.blocking.proofs.Theorems.{whole-claim}
-use Rattle.yinqocha.specs.Door.{entryOf, faultWord}
+use Rattle.tables.specs.Tables.{entryOf, roomOf, putNumbers}
+use Rattle.tables.specs.Words.{faultWord}
+use Rattle.tables.proofs.EntryLaws.{entry-put, later-kept}
+use Rattle.tables.proofs.NumberSteps.{length-putNumbers, put-nothing}
 use Rattle.yinqocha.specs.DoorClaim.{RoomFor, AllKept, PlanInBytes, DoorClaim}
-use Rattle.yinqocha.specs.PlanDoor.{roomOf, doorAnswer, planWord, answerNumbers, placesIn, loadsIn, putNumbers, Called}
-use Rattle.yinqocha.proofs.NumberSteps.{length-putNumbers, put-nothing}
-use Rattle.yinqocha.proofs.PlanLaws.{AnswerFits, entry-put, answer-fits}
+use Rattle.yinqocha.specs.PlanDoor.{doorAnswer, planWord, answerNumbers, placesIn, loadsIn, Called}
+use Rattle.yinqocha.proofs.PlanLaws.{AnswerFits, answer-fits}
 use Rattle.yinqocha.proofs.PlanSteps.{door-refused, door-read, verdictOn}
-
--- Every byte after the numbers is as before.
-later-kept : (ns t : List ℕ) (n : ℕ) → length ns ≡ n → drop (8 * n) (putNumbers ns t) ≡ drop (8 * n) t
-unfolding putNumbers
-later-kept ns t n e =
-    drop-at (littleAll 8 ns) (drop (8 * length ns) t) (8 * n) (omega (arith, length-littleAll 8 ns, e)) ∙ ap (λ (k : ℕ). drop (8 * k) t) e
 
 -- ── the three answers, with the tables after them ──
 

@@ -1,9 +1,6 @@
-pub mod FrontSteps
-pub mod NumberSteps
 pub mod CompareSteps
 pub mod DoorDemand
 pub mod PlanLaws
 pub mod PlanSteps
-pub mod TableSteps
 pub mod WordLaws
 pub mod WriteSteps

@@ -1,25 +1,20 @@
 -- What a caller of planning reads: the entries of the tables are the answer's numbers, none of them cut to its 8 bytes.
---     Fit ns                every number of the list has at most 8 bytes
---     entry-put             an entry that was put, if its number has at most 8 bytes
 --     AnswerFits, answer-fits     the numbers of every answer have at most 8 bytes
 --     entries-read          so after a call the entries of the three tables are the answer's places, loads and two numbers
 --     plan-word-value       the word of a plan, of long and of none is below 2 ^ 32
 --     plan-word-fault       the word of a fault has its number and its place
-use Prim.Native.Nat.{ℕ, zero, suc, _+_, _*_, _/_, _%_, _^_, _≤_, _<_}
+use Prim.Native.Nat.{ℕ, zero, suc, _*_, _/_, _%_, _^_, _≤_, _<_}
 use native.Mathlib.Nat.{le-trans, mul-le-mul-left}
 use native.Mathlib.Omega.{arith}
 use mathlib.Core.Path.{_≡_, refl, sym, ap, subst, _∙_}
 use mathlib.Core.Logic.{inl, inr}
 use mathlib.Core.Bool.{true, false, _&&_, _||_}
-use mathlib.Core.List.{List, [], _∷_, _++_, append-assoc}
-use lib.ListN.{length, getD, drop}
-use lib.Seq.{drop-drop, drop-at}
+use mathlib.Core.List.{List, [], _∷_}
+use lib.ListN.{length, getD}
 use lib.Dec.{ltb, leb}
 use Rattle.bools.proofs.BoolLaws.{split, clash}
 use Rattle.sums.specs.Sum.{count}
 use Rattle.sums.proofs.CountLaws.{count-le}
-use Rattle.bits.specs.Little.{little, littleOf, littleAll}
-use Rattle.bits.proofs.LittleLaws.{length-littleOf, little-append-left, little-littleOf-exact}
 use Rattle.fields.specs.declared.fault.Fault.{Fault}
 use Rattle.fields.specs.declared.fault.Fault.the-variants.{Table}
 use Rattle.fields.specs.declared.sheet.Head.{Head}
@@ -35,36 +30,12 @@ use Rattle.demand.specs.Demand.{lightJob, allowed, moveBound}
 use Rattle.blocking.specs.Answers.{SoundPlan, SoundAnswer, plan-sound, long-sound, none-sound}
 use Rattle.blocking.proofs.SetLaws.{setOf-lt}
 use Rattle.blocking.proofs.Theorems.{whole-claim}
-use Rattle.yinqocha.specs.Door.{entryOf}
-use Rattle.yinqocha.specs.PlanDoor.{doorAnswer, planWord, answerNumbers, placesIn, loadsIn, putNumbers, Called}
+use Rattle.tables.specs.Tables.{entryOf}
+use Rattle.tables.proofs.EntryLaws.{Fit, entry-put}
+use Rattle.tables.proofs.WordLaws.{fault-word-number, fault-word-place}
+use Rattle.yinqocha.specs.PlanDoor.{doorAnswer, planWord, answerNumbers, placesIn, loadsIn, Called}
 use Rattle.yinqocha.proofs.CompareSteps.{read-cases}
 use Rattle.yinqocha.proofs.PlanSteps.{door-refused, door-read, verdictOn, isFault, roomy, places-used, loads-used}
-use Rattle.yinqocha.proofs.WordLaws.{fault-word-number, fault-word-place}
-
--- ── an entry that was put ──
-
-abbrev pub Fit : List ℕ → Type 0
-Fit ns = (i : ℕ) → i < length ns → getD ns i 0 < 2 ^ 64
-
-number-at : (ns rest : List ℕ) (i : ℕ) → Fit ns → i < length ns → little (drop (8 * i) (littleAll 8 ns ++ rest)) 8 ≡ getD ns i 0
-unfolding littleAll
-number-at [] rest i fit l = absurd (omega arith)
-number-at (n ∷ ns) rest zero fit l =
-    ap (λ (xs : List ℕ). little xs 8) (append-assoc (littleOf 8 n) (littleAll 8 ns) rest)
-    ∙ little-append-left (littleOf 8 n) (littleAll 8 ns ++ rest) 8 (omega (arith, length-littleOf 8 n))
-    ∙ little-littleOf-exact 8 n (fit 0 (omega arith))
-number-at (n ∷ ns) rest (suc i) fit l =
-    let here : 8 * suc i ≡ 8 + 8 * i = omega arith in
-    ap (λ (k : ℕ). little (drop k (littleAll 8 (n ∷ ns) ++ rest)) 8) here
-    ∙ ap (λ (xs : List ℕ). little xs 8)
-    (sym (drop-drop (8 * i) 8 (littleAll 8 (n ∷ ns) ++ rest))
-    ∙ ap (λ (xs : List ℕ). drop (8 * i) (drop 8 xs)) (append-assoc (littleOf 8 n) (littleAll 8 ns) rest)
-    ∙ ap (drop (8 * i)) (drop-at (littleOf 8 n) (littleAll 8 ns ++ rest) 8 (length-littleOf 8 n)))
-    ∙ number-at ns rest i (λ k h. fit (suc k) (omega arith)) (omega arith)
-
-pub entry-put : (ns t : List ℕ) (i : ℕ) → Fit ns → i < length ns → entryOf (putNumbers ns t) i ≡ getD ns i 0
-unfolding entryOf putNumbers
-entry-put ns t i fit l = number-at ns (drop (8 * length ns) t) i fit l
 
 -- ── the numbers of an answer ──
 

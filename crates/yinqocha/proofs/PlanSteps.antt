@@ -42,12 +42,13 @@ use Rattle.planning.specs.Planner.{setOf, given, shortTables, answerFor, places
 use Rattle.demand.specs.Demand.{loadOf, minutesOf}
 use Rattle.blocking.specs.Answers.{placeIn, SoundPlan, SoundAnswer, plan-sound, long-sound, none-sound}
 use Rattle.blocking.proofs.Theorems.{whole-claim}
-use Rattle.yinqocha.specs.Door.{faultWord}
-use Rattle.yinqocha.specs.Filled.{unused, Used, Filled}
-use Rattle.yinqocha.specs.PlanDoor.{roomOf, doorAnswer, putNumbers, Called}
+use Rattle.tables.specs.Tables.{roomOf, putFitting}
+use Rattle.tables.specs.Unused.{unused, Used, usedOf}
+use Rattle.tables.specs.Words.{faultWord}
+use Rattle.tables.proofs.FrontSteps.{front-put}
+use Rattle.tables.proofs.NumberSteps.{put-nothing, fitting-all}
+use Rattle.yinqocha.specs.PlanDoor.{doorAnswer, Called}
 use Rattle.yinqocha.proofs.CompareSteps.{read-cases}
-use Rattle.yinqocha.proofs.FrontSteps.{front-filled}
-use Rattle.yinqocha.proofs.NumberSteps.{put-nothing}
 
 -- ── the arrays ──
 
@@ -239,14 +240,14 @@ module _ (s places loads numbers : List ℕ) {np nl : ℕ}
       subst (λ (a : Answer). Called a word places loads numbers places loads numbers) (sym is)
       (record { word = w; new-places = sym (put-nothing places); new-loads = sym (put-nothing loads); new-numbers = sym (put-nothing numbers) })
 
-  pub long-called : {j : ℕ} {numbers′ : List ℕ} → r ≡ Long j → (16 ≤ length numbers → numbers′ ≡ putNumbers (j ∷ 0 ∷ []) numbers)
+  pub long-called : {j : ℕ} {numbers′ : List ℕ} → r ≡ Long j → numbers′ ≡ putFitting (j ∷ 0 ∷ []) numbers
       → Called door 2 places loads numbers places loads numbers′
   long-called {j} {numbers′} e put =
       let is : door ≡ tooLong j = sym answer-is ∙ long-is (answerFor s np nl) j (sym (answered .answer) ∙ e) in
       subst (λ (a : Answer). Called a 2 places loads numbers places loads numbers′) (sym is)
-      (record { word = refl; new-places = sym (put-nothing places); new-loads = sym (put-nothing loads); new-numbers = put (numbers-room (ap isFault is)) })
+      (record { word = refl; new-places = sym (put-nothing places); new-loads = sym (put-nothing loads); new-numbers = put ∙ fitting-all (j ∷ 0 ∷ []) numbers (numbers-room (ap isFault is)) })
 
-  pub none-called : {set moves : ℕ} {numbers′ : List ℕ} → r ≡ None set moves → (16 ≤ length numbers → numbers′ ≡ putNumbers (set ∷ moves ∷ []) numbers)
+  pub none-called : {set moves : ℕ} {numbers′ : List ℕ} → r ≡ None set moves → numbers′ ≡ putFitting (set ∷ moves ∷ []) numbers
       → Called door 3 places loads numbers places loads numbers′
   none-called {set} {moves} {numbers′} e put =
       let (bs, set-is, named) = none-is (answerFor s np nl) set moves (sym (answered .answer) ∙ e) in
@@ -256,15 +257,15 @@ module _ (s places loads numbers : List ℕ) {np nl : ℕ}
         word = refl;
         new-places = sym (put-nothing places);
         new-loads = sym (put-nothing loads);
-        new-numbers = put (numbers-room (ap isFault is)) ∙ ap (λ (k : ℕ). putNumbers (k ∷ moves ∷ []) numbers) (sym set-is);
+        new-numbers = rw set-is (put ∙ fitting-all (set ∷ moves ∷ []) numbers (numbers-room (ap isFault is)));
       })
 
   -- The planner's arrays are parts of two arrays of unused entries.
   pub plan-called : {largest moves : ℕ} (kp kl m n : ℕ) {places′ loads′ numbers′ : List ℕ}
       → p₀ ≡ take kp (replicate m unused) → l₀ ≡ take kl (replicate n unused) → r ≡ Plan largest moves
-      → ((ns : List ℕ) → Filled ns (p ++ drop kp (replicate m unused)) → 8 * length ns ≤ length places → places′ ≡ putNumbers ns places)
-      → ((ns : List ℕ) → Filled ns (l ++ drop kl (replicate n unused)) → 8 * length ns ≤ length loads → loads′ ≡ putNumbers ns loads)
-      → (16 ≤ length numbers → numbers′ ≡ putNumbers (largest ∷ moves ∷ []) numbers)
+      → places′ ≡ putFitting (usedOf (p ++ drop kp (replicate m unused))) places
+      → loads′ ≡ putFitting (usedOf (l ++ drop kl (replicate n unused))) loads
+      → numbers′ ≡ putFitting (largest ∷ moves ∷ []) numbers
       → Called door 1 places loads numbers places′ loads′ numbers′
   plan-called {largest} {moves} kp kl m n {places′} {loads′} {numbers′} from-p from-l e put-p put-l put =
       let (ps, ls, planned) = plan-is (answerFor s np nl) largest moves (sym (answered .answer) ∙ e) in
@@ -283,7 +284,7 @@ module _ (s places loads numbers : List ℕ) {np nl : ℕ}
       subst (λ (a : Answer). Called a 1 places loads numbers places′ loads′ numbers′) (sym is)
       (record {
         word = refl;
-        new-places = put-p ps (front-filled ps kp m (places-used h js sheet right) new-p) (omega (arith, right .one-to-a-job));
-        new-loads = put-l ls (front-filled ls kl n (loads-used h js sheet right) new-l) (omega (arith, right .one-to-a-bench));
-        new-numbers = put (numbers-room (ap isFault is));
+        new-places = front-put ps places kp m (places-used h js sheet right) (omega (arith, right .one-to-a-job)) new-p put-p;
+        new-loads = front-put ls loads kl n (loads-used h js sheet right) (omega (arith, right .one-to-a-bench)) new-l put-l;
+        new-numbers = put ∙ fitting-all (largest ∷ moves ∷ []) numbers (numbers-room (ap isFault is));
       })

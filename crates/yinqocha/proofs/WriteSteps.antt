@@ -1,35 +1,18 @@
 -- What writing through the door gives, from what the two loads and the writer ensure: 513 entries of each table are enough.
---     length-numbersOf            a table has as many numbers as entries
---     loaded-length, loaded-fits  what was loaded has the length that the load returns, and stands inside the array
 --     sheet-length, sheet-fault   the answer and the output, where the writer gives a length, and where it refuses
-use Prim.Native.Nat.{ℕ, _≤_, min}
-use native.Mathlib.Omega.{arith}
+use Prim.Native.Nat.{ℕ}
 use mathlib.Core.Path.{_≡_, sym, ap, _∙_}
 use mathlib.Core.List.{List}
-use lib.ListN.{length, take, length-take}
-use Rattle.sums.proofs.TableLaws.{length-table}
+use lib.ListN.{length, take}
 use Rattle.fields.specs.declared.sheet.Head.{Head}
 use Rattle.fields.specs.declared.fault.Fault.{Fault}
 use Rattle.frame.specs.declared.writer.Written.{Written}
 use Rattle.frame.specs.declared.writer.Written.the-variants.{Length, Refusal}
 use Rattle.frame.specs.Writing.{jobsOf, writeSheet, output}
 use Rattle.frame.proofs.EnoughJobs.{jobs-enough, output-jobs-enough}
-use Rattle.yinqocha.specs.Door.{entriesOf, entryOf, numbersOf, jobsIn, faultWord, writtenWord}
-
--- ── what was loaded ──
-
-pub length-numbersOf : (t : List ℕ) → length (numbersOf t) ≡ entriesOf t
-unfolding numbersOf
-length-numbersOf t = length-table (entriesOf t) (entryOf t)
-
-module _ (t into : List ℕ) (n : ℕ) (e : n ≡ min (entriesOf t) 513) (l : take n into ≡ take 513 (numbersOf t)) where
-  pub loaded-length : n ≡ length (take n into)
-  loaded-length = omega (arith, ap length l, length-take 513 (numbersOf t), length-numbersOf t)
-
-  pub loaded-fits : n ≤ length into
-  loaded-fits = omega (arith, loaded-length, length-take n into)
-
--- ── the answer and the output ──
+use Rattle.tables.specs.Tables.{numbersOf}
+use Rattle.tables.specs.Words.{faultWord}
+use Rattle.yinqocha.specs.Door.{jobsIn, writtenWord}
 
 module _ (h : Head) (minutes allowed out : List ℕ) {ms bs : List ℕ} {w : Written} {after : List ℕ}
     (p : ms ≡ take 513 (numbersOf minutes)) (q : bs ≡ take 513 (numbersOf allowed))

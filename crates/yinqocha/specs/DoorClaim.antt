@@ -3,7 +3,7 @@
 --     s                            the bytes of the sheet
 --     places, loads, numbers       the bytes of the three tables before; places′, loads′ and numbers′ are the bytes after
 --     r                            the returned word: 1 plan, 2 long, 3 none, or the word of a fault
---     entryOf t n                  entry n of a table: 8 bytes, the lowest first (specs/Door)
+--     entryOf t n                  entry n of a table: 8 bytes, the lowest first (tables' specs/Tables)
 --     RoomFor                      the sheet is accepted and the tables are large enough
 --     AllKept                      all three tables are as before
 --     PlanInBytes                  what holds of the three tables after a plan
@@ -22,7 +22,8 @@ use Rattle.frame.specs.Reading.{accepted, refused, readSheet}
 use Rattle.demand.specs.Demand.{Assignment, loadOf, withinBound, keepsTarget, moveBound}
 use Rattle.blocking.specs.Answers.{SoundLong, SomeOver}
 use Rattle.blocking.specs.Claim.{Untouched, NamedSet}
-use Rattle.yinqocha.specs.Door.{entryOf, faultWord}
+use Rattle.tables.specs.Tables.{entryOf}
+use Rattle.tables.specs.Words.{faultWord}
 
 -- "Every table must have its room whatever the answer will be: places one entry for each job, loads one for each bench, answer two."
 pub record RoomFor (s places loads numbers : List ℕ) (h : Head) (js : List Job) : Type 0 where

@@ -1,4 +1,3 @@
 pub mod Door
 pub mod DoorClaim
-pub mod Filled
 pub mod PlanDoor

@@ -1,19 +1,15 @@
 -- Planning and comparing for C (the header yinqocha.h says the same in words).
---     roomOf t              the whole entries of a table that is written
 --     doorAnswer s np nl na     the answer to the bytes s, with room for np places, nl loads and na numbers of the answer
 --     planWord a            what planning returns: 1 plan, 2 long, 3 none, or the fault
 --     answerNumbers a       the two numbers of the answer table: largest load and moves, job and 0, set and moves
 --     placesIn a, loadsIn a     the numbers of the other two tables: a plan has them, no other answer does
---     putNumbers ns t       the table with the numbers ns as its first entries; every other byte keeps its contents
 --     Called                what a call returns, and what it leaves in the three tables
 --     comparedWord c        what comparing returns: 1 same, 0 different, or the fault
-use Prim.Native.Nat.{ℕ, _*_, _/_}
+use Prim.Native.Nat.{ℕ}
 use mathlib.Core.Path.{_≡_}
 use mathlib.Core.Bool.{cond, _||_}
-use mathlib.Core.List.{List, [], _∷_, _++_}
-use lib.ListN.{length, drop}
+use mathlib.Core.List.{List, [], _∷_}
 use lib.Dec.{ltb}
-use Rattle.bits.specs.Little.{littleAll}
 use Rattle.fields.specs.declared.fault.Fault.the-variants.{Table}
 use Rattle.frame.specs.Reading.{accepted, refused, readSheet}
 use Rattle.algorithm.specs.Day.{dayOf}
@@ -21,10 +17,8 @@ use Rattle.algorithm.specs.Answer.{Answer, plan, tooLong, none, fault, answerTo
 use Rattle.planning.specs.declared.answer.Compared.{Compared}
 use Rattle.planning.specs.declared.answer.Compared.the-variants.{Same, Different, Fault as ComparedFault}
 use Rattle.planning.specs.Planner.{setOf, shortTables}
-use Rattle.yinqocha.specs.Door.{faultWord}
-
-abbrev pub roomOf : List ℕ → ℕ
-roomOf t = length t / 8
+use Rattle.tables.specs.Tables.{putNumbers}
+use Rattle.tables.specs.Words.{faultWord}
 
 -- Fault 13, after the faults of the sheet: a table is shorter than the jobs, the benches or the two numbers of an answer.
 unfoldable pub doorAnswer : List ℕ → ℕ → ℕ → ℕ → Answer
@@ -57,9 +51,6 @@ loadsIn (plan largest moves places loads) = loads
 loadsIn (tooLong j) = []
 loadsIn (none benches moves) = []
 loadsIn (fault f) = []
-
-unfoldable pub putNumbers : List ℕ → List ℕ → List ℕ
-putNumbers ns t = littleAll 8 ns ++ drop (8 * length ns) t
 
 pub record Called (a : Answer) (r : ℕ) (places loads numbers places′ loads′ numbers′ : List ℕ) : Type 0 where
   pub word : r ≡ planWord a

@@ -1,10 +1,8 @@
 // Comparing two plans of a sheet, for C.
-use crate::table;
-use crate::words;
 use planning::Compared;
 ghost use mathlib.Core.Path.{_≡_};
 ghost use Rattle.planning.specs.Planner.{comparePlans};
-ghost use Rattle.yinqocha.specs.Door.{numbersOf};
+ghost use Rattle.tables.specs.Tables.{numbersOf};
 ghost use Rattle.yinqocha.specs.PlanDoor.{comparedWord};
 
 // Whether two lists of places give every bench the same load.
@@ -13,13 +11,13 @@ pub extern "C" fn yinqocha_compare(sheet: &[u8], first: &[u8], second: &[u8]) ->
     ensures { λ r. ⌜ r ≡ comparedWord (comparePlans (now (sheet .entry)) (numbersOf (now (first .entry))) (numbersOf (now (second .entry)))) ⌝ }
 {
     // A list of 513 places is as wrong as any longer one.
-    let mut one = [0u64; 513];
-    let mut two = [0u64; 513];
-    let n = table::load(first, &mut one);
-    let m = table::load(second, &mut two);
-    match planning::compare(sheet, &one[..n], &two[..m]) {
+    let one = tables::load(first);
+    let two = tables::load(second);
+    let xs = one.numbers;
+    let ys = two.numbers;
+    match planning::compare(sheet, &xs[..one.count], &ys[..two.count]) {
         Compared::Same => 1,
         Compared::Different => 0,
-        Compared::Fault(f) => words::fault_word(f),
+        Compared::Fault(f) => tables::fault_word(f),
     }
 }

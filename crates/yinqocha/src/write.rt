@@ -1,6 +1,4 @@
 // Writing a sheet, for C.
-use crate::table;
-use crate::words;
 use frame::Head;
 use frame::Written;
 ghost use mathlib.Core.Path.{_≡_};
@@ -22,18 +20,18 @@ pub extern "C" fn yinqocha_write(
     ensures { λ r. ⌜ (r ≡ writtenWord (writeSheet (headOf benches p q target) (jobsIn (now (minutes .entry)) (now (allowed .entry))) (length (now (out .entry))))) × (now (out .exit) ≡ output (writeSheet (headOf benches p q target) (jobsIn (now (minutes .entry)) (now (allowed .entry))) (length (now (out .entry)))) (headOf benches p q target) (jobsIn (now (minutes .entry)) (now (allowed .entry))) (now (out .entry))) ⌝ }
 {
     // 513 jobs are enough to meet fault 9.
-    let mut first = [0u64; 513];
-    let mut second = [0u64; 513];
-    let n = table::load(minutes, &mut first);
-    let m = table::load(allowed, &mut second);
+    let first = tables::load(minutes);
+    let second = tables::load(allowed);
+    let ms = first.numbers;
+    let bs = second.numbers;
     let h = Head {
         benches,
         p,
         q,
         target,
     };
-    match frame::write(h, &first[..n], &second[..m], out) {
+    match frame::write(h, &ms[..first.count], &bs[..second.count], out) {
         Written::Length(k) => k as u64,
-        Written::Refusal(f) => words::fault_word(f),
+        Written::Refusal(f) => tables::fault_word(f),
     }
 }

@@ -3,7 +3,7 @@ use denote.Ref.{now}
 use borrow.Author.Needs.{needs}
 use native.Mathlib.Omega.{arith}
 use mathlib.Core.Path.{_∙_}
-use Rattle.yinqocha.proofs.TableSteps.{put-some}
+use Rattle.tables.proofs.TableSteps.{put-some}
 use Rattle.inspect.proofs.InspectSteps.{head-put}
 use Rattle.inspect.proofs.put_head.Statement.{statement}
 use Rattle.inspect.proofs.put_head.Tie as tie

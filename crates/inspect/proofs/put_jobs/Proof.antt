@@ -5,7 +5,7 @@ use mathlib.Core.Path.{_≡_, refl, _∙_}
 use lib.ListN.{length}
 use denote.Ref.{now}
 use borrow.Author.Needs.{needs}
-use Rattle.yinqocha.proofs.TableSteps.{put-some}
+use Rattle.tables.proofs.TableSteps.{put-some}
 use Rattle.bits.specs.Little.{littleAll}
 use Rattle.fields.specs.Tests.{jobTable}
 use Rattle.frame.proofs.WriterSteps.{written}

@@ -1,7 +1,7 @@
 -- The two lists that were loaded are the first 513 entries of each, and the comparison gives the same for them as for all.
 use denote.Ref.{now}
 use borrow.Author.Needs.{needs}
-use Rattle.yinqocha.proofs.WriteSteps.{loaded-fits, loaded-length}
+use Rattle.tables.proofs.TableSteps.{loaded-fits, loaded-length}
 use Rattle.yinqocha.proofs.CompareSteps.{same-word, different-word, fault-word}
 use Rattle.yinqocha.proofs.compare.yinqocha_compare.Statement.{statement}
 use Rattle.yinqocha.proofs.compare.yinqocha_compare.Tie as tie
@@ -12,25 +12,25 @@ load-requires c κs = search needs
 load-requires-2 : tie.Need-load-requires-2
 load-requires-2 c κs = search needs
 
-array-share-prefix-one : tie.Need-array-share-prefix-one
-array-share-prefix-one c =
-    let x = c .before .before .load in
-    loaded-fits _ (x .last .1 .0) (x .result) (x .ensures .0) (x .ensures .1)
+array-share-prefix-xs : tie.Need-array-share-prefix-xs
+array-share-prefix-xs c =
+    let x = c .before .before .before .load in
+    loaded-fits _ (x .result .numbers) (x .result .count) (x .ensures .0) (x .ensures .1)
 
 slice-aggregate-compare : tie.Need-slice-aggregate-compare
 slice-aggregate-compare c =
-    let x = c .before .before .before .load in
-    loaded-length _ (x .last .1 .0) (x .result) (x .ensures .0) (x .ensures .1)
+    let x = c .before .before .before .before .load in
+    loaded-length _ (x .result .numbers) (x .result .count) (x .ensures .0) (x .ensures .1)
 
-array-share-prefix-two : tie.Need-array-share-prefix-two
-array-share-prefix-two c =
-    let x = c .before .load2 in
-    loaded-fits _ (x .last .1 .0) (x .result) (x .ensures .0) (x .ensures .1)
+array-share-prefix-ys : tie.Need-array-share-prefix-ys
+array-share-prefix-ys c =
+    let x = c .before .before .before .load2 in
+    loaded-fits _ (x .result .numbers) (x .result .count) (x .ensures .0) (x .ensures .1)
 
 slice-aggregate-compare-2 : tie.Need-slice-aggregate-compare-2
 slice-aggregate-compare-2 c =
-    let x = c .before .before .load2 in
-    loaded-length _ (x .last .1 .0) (x .result) (x .ensures .0) (x .ensures .1)
+    let x = c .before .before .before .before .load2 in
+    loaded-length _ (x .result .numbers) (x .result .count) (x .ensures .0) (x .ensures .1)
 
 compare-requires : tie.Need-compare-requires
 compare-requires c κs = search needs
@@ -49,29 +49,20 @@ fault-word-requires c κs = search needs
 
 returns : tie.Need-returns
 returns c =
-    let m = c .before .before in
-    let y = m .before .before .before in
-    let x = y .before .before in
-    let a = x .before .before .before .before .before .args in
-    same-word (now (a .sheet)) (now (a .first)) (now (a .second)) (x .load .ensures .1) (y .load2 .ensures .1) (m .compare .ensures)
+    let a = c .before .before .before .before .before .before .before .before .before .before .before .before .args in
+    same-word (now (a .sheet)) (now (a .first)) (now (a .second)) (c .before .before .before .before .before .before .before .before .load .ensures .1) (c .before .before .before .before .before .before .before .load2 .ensures .1) (c .before .before .compare .ensures)
     (c .enum-told .given .1)
 
 returns-2 : tie.Need-returns-2
 returns-2 c =
-    let m = c .before .before in
-    let y = m .before .before .before in
-    let x = y .before .before in
-    let a = x .before .before .before .before .before .args in
-    different-word (now (a .sheet)) (now (a .first)) (now (a .second)) (x .load .ensures .1) (y .load2 .ensures .1) (m .compare .ensures)
+    let a = c .before .before .before .before .before .before .before .before .before .before .before .before .args in
+    different-word (now (a .sheet)) (now (a .first)) (now (a .second)) (c .before .before .before .before .before .before .before .before .load .ensures .1) (c .before .before .before .before .before .before .before .load2 .ensures .1) (c .before .before .compare .ensures)
     (c .enum-told2 .given .1)
 
 returns-3 : tie.Need-returns-3
 returns-3 c =
-    let m = c .before .before .before .before in
-    let y = m .before .before .before in
-    let x = y .before .before in
-    let a = x .before .before .before .before .before .args in
-    fault-word (now (a .sheet)) (now (a .first)) (now (a .second)) (x .load .ensures .1) (y .load2 .ensures .1) (m .compare .ensures)
+    let a = c .before .before .before .before .before .before .before .before .before .before .before .before .before .before .args in
+    fault-word (now (a .sheet)) (now (a .first)) (now (a .second)) (c .before .before .before .before .before .before .before .before .before .before .load .ensures .1) (c .before .before .before .before .before .before .before .before .before .load2 .ensures .1) (c .before .before .before .before .compare .ensures)
     (c .before .before .f .given .1) (c .fault-word .ensures)
 
 pub yinqocha-compare-spec : {M : Type 1} → statement M
@@ -80,9 +71,9 @@ yinqocha-compare-spec =
     (tie.spec
     load-requires
     load-requires-2
-    array-share-prefix-one
+    array-share-prefix-xs
     slice-aggregate-compare
-    array-share-prefix-two
+    array-share-prefix-ys
     slice-aggregate-compare-2
     compare-requires
     enum-told

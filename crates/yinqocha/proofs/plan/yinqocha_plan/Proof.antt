@@ -8,9 +8,9 @@ use mathlib.Core.Path.{_≡_, refl, sym, _∙_}
 use mathlib.Core.Logic.{⊎-elim, inl, inr}
 use mathlib.Core.Bool.{cond}
 use lib.Dec.{ltb}
-use Rattle.yinqocha.specs.Filled.{unused}
-use Rattle.yinqocha.specs.PlanDoor.{roomOf}
 use lib.ListN.{length, take, replicate}
+use Rattle.tables.specs.Tables.{roomOf}
+use Rattle.tables.specs.Unused.{unused}
 use Rattle.yinqocha.proofs.DoorDemand.{with-claim}
 use Rattle.yinqocha.proofs.PlanSteps.{front-length, whole-length, loads-room, fault-called, long-called, none-called, plan-called}
 use Rattle.yinqocha.proofs.plan.yinqocha_plan.Statement.{statement}

@@ -2,7 +2,8 @@
 use denote.Ref.{now}
 use borrow.Author.Needs.{needs}
 use Rattle.yinqocha.specs.Door.{headOf}
-use Rattle.yinqocha.proofs.WriteSteps.{loaded-fits, loaded-length, sheet-length, sheet-fault}
+use Rattle.tables.proofs.TableSteps.{loaded-fits, loaded-length}
+use Rattle.yinqocha.proofs.WriteSteps.{sheet-length, sheet-fault}
 use Rattle.yinqocha.proofs.write.yinqocha_write.Statement.{statement}
 use Rattle.yinqocha.proofs.write.yinqocha_write.Tie as tie
 
@@ -12,25 +13,25 @@ load-requires c κs = search needs
 load-requires-2 : tie.Need-load-requires-2
 load-requires-2 c κs = search needs
 
-array-share-prefix-first : tie.Need-array-share-prefix-first
-array-share-prefix-first c =
-    let x = c .before .before .load in
-    loaded-fits _ (x .last .1 .0) (x .result) (x .ensures .0) (x .ensures .1)
+array-share-prefix-ms : tie.Need-array-share-prefix-ms
+array-share-prefix-ms c =
+    let x = c .before .before .before .load in
+    loaded-fits _ (x .result .numbers) (x .result .count) (x .ensures .0) (x .ensures .1)
 
 slice-aggregate-write : tie.Need-slice-aggregate-write
 slice-aggregate-write c =
-    let x = c .before .before .before .load in
-    loaded-length _ (x .last .1 .0) (x .result) (x .ensures .0) (x .ensures .1)
+    let x = c .before .before .before .before .load in
+    loaded-length _ (x .result .numbers) (x .result .count) (x .ensures .0) (x .ensures .1)
 
-array-share-prefix-second : tie.Need-array-share-prefix-second
-array-share-prefix-second c =
-    let x = c .before .load2 in
-    loaded-fits _ (x .last .1 .0) (x .result) (x .ensures .0) (x .ensures .1)
+array-share-prefix-bs : tie.Need-array-share-prefix-bs
+array-share-prefix-bs c =
+    let x = c .before .before .before .load2 in
+    loaded-fits _ (x .result .numbers) (x .result .count) (x .ensures .0) (x .ensures .1)
 
 slice-aggregate-write-2 : tie.Need-slice-aggregate-write-2
 slice-aggregate-write-2 c =
-    let x = c .before .before .load2 in
-    loaded-length _ (x .last .1 .0) (x .result) (x .ensures .0) (x .ensures .1)
+    let x = c .before .before .before .before .load2 in
+    loaded-length _ (x .result .numbers) (x .result .count) (x .ensures .0) (x .ensures .1)
 
 write-requires : tie.Need-write-requires
 write-requires c κs = search needs
@@ -49,26 +50,22 @@ same-length c = search needs
 
 returns : tie.Need-returns
 returns c =
-    let w = c .before .before .before .before .before in
-    let y = w .before .before .before .before in
-    let x = y .before .before in
-    let a = x .before .before .before .before .before .args in
+    let a = c .before .before .before .before .before .before .before .before .before .before .before .before .before .before .before .before .args in
+    let w = c .before .before .before .before .before .write in
     let h = headOf (a .benches) (a .p) (a .q) (a .target) in
-    sheet-length h (now (a .minutes)) (now (a .allowed)) (now (a .out)) (x .load .ensures .1) (y .load2 .ensures .1)
-    (w .write .ensures .0) (w .write .ensures .1) (c .before .k .given .1)
+    sheet-length h (now (a .minutes)) (now (a .allowed)) (now (a .out)) (c .before .before .before .before .before .before .before .before .before .before .before .before .load .ensures .1) (c .before .before .before .before .before .before .before .before .before .before .before .load2 .ensures .1)
+    (w .ensures .0) (w .ensures .1) (c .before .k .given .1)
 
 same-length-2 : tie.Need-same-length-2
 same-length-2 c = search needs
 
 returns-2 : tie.Need-returns-2
 returns-2 c =
-    let w = c .before .before .before .before .before .before in
-    let y = w .before .before .before .before in
-    let x = y .before .before in
-    let a = x .before .before .before .before .before .args in
+    let a = c .before .before .before .before .before .before .before .before .before .before .before .before .before .before .before .before .before .args in
+    let w = c .before .before .before .before .before .before .write in
     let h = headOf (a .benches) (a .p) (a .q) (a .target) in
-    sheet-fault h (now (a .minutes)) (now (a .allowed)) (now (a .out)) (x .load .ensures .1) (y .load2 .ensures .1)
-    (w .write .ensures .0) (w .write .ensures .1) (c .before .before .f .given .1) (c .fault-word .ensures)
+    sheet-fault h (now (a .minutes)) (now (a .allowed)) (now (a .out)) (c .before .before .before .before .before .before .before .before .before .before .before .before .before .load .ensures .1) (c .before .before .before .before .before .before .before .before .before .before .before .before .load2 .ensures .1)
+    (w .ensures .0) (w .ensures .1) (c .before .before .f .given .1) (c .fault-word .ensures)
 
 pub yinqocha-write-spec : {M : Type 1} → statement M
 yinqocha-write-spec =
@@ -76,9 +73,9 @@ yinqocha-write-spec =
     (tie.spec
     load-requires
     load-requires-2
-    array-share-prefix-first
+    array-share-prefix-ms
     slice-aggregate-write
-    array-share-prefix-second
+    array-share-prefix-bs
     slice-aggregate-write-2
     write-requires
     enum-known-k

@@ -1,0 +1,41 @@
+-- What a caller reads in a table to whose front numbers were put.
+--     Fit ns                every number of the list has at most 8 bytes
+--     entry-put             an entry that was put, if its number has at most 8 bytes
+--     later-kept            every byte after the numbers is as before
+use Prim.Native.Nat.{ℕ, zero, suc, _+_, _*_, _^_, _<_}
+use native.Mathlib.Omega.{arith}
+use mathlib.Core.Path.{_≡_, sym, ap, _∙_}
+use mathlib.Core.List.{List, [], _∷_, _++_, append-assoc}
+use lib.ListN.{length, getD, drop}
+use lib.Seq.{drop-drop, drop-at}
+use Rattle.bits.specs.Little.{little, littleOf, littleAll}
+use Rattle.bits.proofs.LittleLaws.{length-littleOf, length-littleAll, little-append-left, little-littleOf-exact}
+use Rattle.tables.specs.Tables.{entryOf, putNumbers}
+
+abbrev pub Fit : List ℕ → Type 0
+Fit ns = (i : ℕ) → i < length ns → getD ns i 0 < 2 ^ 64
+
+number-at : (ns rest : List ℕ) (i : ℕ) → Fit ns → i < length ns → little (drop (8 * i) (littleAll 8 ns ++ rest)) 8 ≡ getD ns i 0
+unfolding littleAll
+number-at [] rest i fit l = absurd (omega arith)
+number-at (n ∷ ns) rest zero fit l =
+    ap (λ (xs : List ℕ). little xs 8) (append-assoc (littleOf 8 n) (littleAll 8 ns) rest)
+    ∙ little-append-left (littleOf 8 n) (littleAll 8 ns ++ rest) 8 (omega (arith, length-littleOf 8 n))
+    ∙ little-littleOf-exact 8 n (fit 0 (omega arith))
+number-at (n ∷ ns) rest (suc i) fit l =
+    let here : 8 * suc i ≡ 8 + 8 * i = omega arith in
+    ap (λ (k : ℕ). little (drop k (littleAll 8 (n ∷ ns) ++ rest)) 8) here
+    ∙ ap (λ (xs : List ℕ). little xs 8)
+    (sym (drop-drop (8 * i) 8 (littleAll 8 (n ∷ ns) ++ rest))
+    ∙ ap (λ (xs : List ℕ). drop (8 * i) (drop 8 xs)) (append-assoc (littleOf 8 n) (littleAll 8 ns) rest)
+    ∙ ap (drop (8 * i)) (drop-at (littleOf 8 n) (littleAll 8 ns ++ rest) 8 (length-littleOf 8 n)))
+    ∙ number-at ns rest i (λ k h. fit (suc k) (omega arith)) (omega arith)
+
+pub entry-put : (ns t : List ℕ) (i : ℕ) → Fit ns → i < length ns → entryOf (putNumbers ns t) i ≡ getD ns i 0
+unfolding entryOf putNumbers
+entry-put ns t i fit l = number-at ns (drop (8 * length ns) t) i fit l
+
+pub later-kept : (ns t : List ℕ) (n : ℕ) → length ns ≡ n → drop (8 * n) (putNumbers ns t) ≡ drop (8 * n) t
+unfolding putNumbers
+later-kept ns t n e =
+    drop-at (littleAll 8 ns) (drop (8 * length ns) t) (8 * n) (omega (arith, length-littleAll 8 ns, e)) ∙ ap (λ (k : ℕ). drop (8 * k) t) e

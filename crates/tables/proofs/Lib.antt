@@ -1,0 +1,5 @@
+pub mod EntryLaws
+pub mod FrontSteps
+pub mod NumberSteps
+pub mod TableSteps
+pub mod WordLaws

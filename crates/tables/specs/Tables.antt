@@ -1,0 +1,38 @@
+-- Tables of 8-byte numbers, the least significant byte first (the header yinqocha.h says the same in words).
+-- A table that is read:
+--     entriesOf t       its entries; a begun entry counts
+--     entryOf t n       entry n; bytes that the table lacks are 0
+--     numbersOf t       all entries
+-- A table that is written:
+--     putEntry t n v    the table with v as entry n; without room for the entry, the table as it is
+--     roomOf t          its whole entries
+--     putNumbers ns t   the table with the numbers ns as its first entries; every other byte keeps its contents
+--     putFitting ns t   the same with as many of the numbers as the table has room for
+use Prim.Native.Nat.{ℕ, _+_, _*_, _/_}
+use mathlib.Core.Bool.{cond}
+use mathlib.Core.List.{List, _++_}
+use lib.ListN.{length, take, drop}
+use lib.Dec.{leb}
+use Rattle.sums.specs.Table.{table}
+use Rattle.bits.specs.Little.{little, littleOf, littleAll}
+
+unfoldable pub entriesOf : List ℕ → ℕ
+entriesOf t = (length t + 7) / 8
+
+unfoldable pub entryOf : List ℕ → ℕ → ℕ
+entryOf t n = little (drop (8 * n) t) 8
+
+unfoldable pub numbersOf : List ℕ → List ℕ
+numbersOf t = table (entriesOf t) (entryOf t)
+
+unfoldable pub putEntry : List ℕ → ℕ → ℕ → List ℕ
+putEntry t n v = cond (leb (8 * n + 8) (length t)) (take (8 * n) t ++ littleOf 8 v ++ drop (8 * n + 8) t) t
+
+abbrev pub roomOf : List ℕ → ℕ
+roomOf t = length t / 8
+
+unfoldable pub putNumbers : List ℕ → List ℕ → List ℕ
+putNumbers ns t = littleAll 8 ns ++ drop (8 * length ns) t
+
+unfoldable pub putFitting : List ℕ → List ℕ → List ℕ
+putFitting ns t = putNumbers (take (roomOf t) ns) t

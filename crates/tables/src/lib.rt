@@ -1,0 +1,13 @@
+// What the C door takes and returns: tables of numbers, and result words.
+mod front;
+mod table;
+mod words;
+
+pub use front::UNUSED;
+pub use front::put_front;
+pub use front::put_pair;
+pub use front::room;
+pub use table::Loaded;
+pub use table::load;
+pub use table::put;
+pub use words::fault_word;
