@@ -1,6 +1,4 @@
 -- Demand 3, proved of the planner's answer: specs/Claim has the claim, planning's specs/Planner the answer.
---     not-both-read       no sheet is both refused and accepted
---     same-read           a sheet is accepted as one head and one list of jobs
 --     named-set           the set of a none, as a number
 --     planner-claim       the claim holds of the answer to any bytes and any two tables, and of the tables after it
 --     equations-claim     so it holds of whatever is equal to these three: the three equations are what the planner's contract ensures
@@ -22,7 +20,7 @@ use Rattle.fields.specs.declared.fault.Fault.{Fault}
 use Rattle.fields.specs.declared.fault.Fault.the-variants.{Table}
 use Rattle.fields.specs.declared.sheet.Head.{Head}
 use Rattle.fields.specs.declared.sheet.Job.{Job}
-use Rattle.frame.specs.Reading.{Read, accepted, refused, readSheet}
+use Rattle.frame.specs.Reading.{accepted, refused, readSheet}
 use Rattle.frame.proofs.AcceptedLaws.{accepted-sound}
 use Rattle.algorithm.specs.Day.{dayOf}
 use Rattle.algorithm.specs.Answer.{Answer, plan, tooLong, none, fault, answerTo}
@@ -33,26 +31,23 @@ use Rattle.demand.specs.Demand.{loadOf, LongJob, EachFits}
 use Rattle.blocking.specs.Answers.{placeIn, oneOf, SoundPlan, SoundLong, SoundNone, SoundAnswer, plan-sound, long-sound, none-sound, isPlan, isLong, WholeClaim}
 use Rattle.blocking.specs.Claim.{SheetRefused, ShortFor, TablesShort, Answerable, CanAnswer, OneCase}
 use Rattle.blocking.specs.Claim.{Untouched, OneOfThree, a-plan, a-long, a-none, PlanInTables, inSet, NamedSet, PlannerClaim}
+use Rattle.blocking.proofs.ReadCases.{read-cases, not-both-read, same-read}
 use Rattle.blocking.proofs.ShownLaws.{blocking-cong}
 use Rattle.blocking.proofs.SetLaws.{setOf-lt, isSet-setOf}
 use Rattle.blocking.proofs.Theorems.{whole-claim}
 
 -- ── the three kinds of calls ──
 
-pub not-both-read : (s : List ℕ) {f : Fault} {h : Head} {js : List Job} → readSheet s ≡ refused f → readSheet s ≡ accepted h js → ⊥
-not-both-read s p q = let z : _≡_ {A = ℕ} 0 1 = cc in omega arith
-
-pub same-read : (s : List ℕ) {h k : Head} {js is : List Job} → readSheet s ≡ accepted h js → readSheet s ≡ accepted k is → (h ≡ k) × (js ≡ is)
-same-read s p q = (cc, cc)
-
 module _ (s places loads : List ℕ) where
-  some-case : (r : Read) → readSheet s ≡ r → SheetRefused s ⊎ (TablesShort s places loads ⊎ CanAnswer s places loads)
-  some-case (refused f) e = inl (f, e)
-  some-case (accepted h js) e = elim (lt-or-le (length places) (length js)) [
-    | inl p ↦ inr (inl (h, js, e, inl (omega arith)))
-    | inr p ↦ elim (lt-or-le (length loads) (h .benches)) [
-      | inl l ↦ inr (inl (h, js, e, inr (omega arith)))
-      | inr l ↦ inr (inr (h, js, record { sheet-accepted = e; place-to-a-job = omega arith; load-to-a-bench = omega arith }))
+  some-case : SheetRefused s ⊎ (TablesShort s places loads ⊎ CanAnswer s places loads)
+  some-case = elim (read-cases (readSheet s)) [
+    | inl faulty ↦ inl faulty
+    | inr (h, js, e) ↦ elim (lt-or-le (length places) (length js)) [
+      | inl p ↦ inr (inl (h, js, e, inl (omega arith)))
+      | inr p ↦ elim (lt-or-le (length loads) (h .benches)) [
+        | inl l ↦ inr (inl (h, js, e, inr (omega arith)))
+        | inr l ↦ inr (inr (h, js, record { sheet-accepted = e; place-to-a-job = omega arith; load-to-a-bench = omega arith }))
+      ]
     ]
   ]
 
@@ -66,7 +61,7 @@ module _ (s places loads : List ℕ) where
 
   pub one-case : OneCase (SheetRefused s) (TablesShort s places loads) (CanAnswer s places loads)
   one-case = record {
-    some = some-case (readSheet s) refl;
+    some = some-case;
     not-first-second = λ (f, p) (h, js, q, short). not-both-read s p q;
     not-first-third = λ (f, p) (h, js, t). not-both-read s p (t .sheet-accepted);
     not-second-third = short-or-not;

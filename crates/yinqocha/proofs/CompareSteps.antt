@@ -1,5 +1,4 @@
 -- Comparing through the door, from what the two loads and the comparison ensure: 513 entries of each list are enough.
---     read-cases            a sheet is read or refused
 --     list-needed           all of a list is among its first 513 entries, or neither the list nor these give each job one bench
 --     lists-enough          the comparison gives the same for the first 513 entries as for all
 --     same-word, different-word, fault-word     what is returned
@@ -17,7 +16,7 @@ use Rattle.bools.proofs.OrderLaws.{lt-or-le}
 use Rattle.fields.specs.declared.fault.Fault.{Fault}
 use Rattle.fields.specs.declared.sheet.Head.{Head}
 use Rattle.fields.specs.declared.sheet.Job.{Job}
-use Rattle.frame.specs.Reading.{Read, accepted, refused, readSheet}
+use Rattle.frame.specs.Reading.{readSheet}
 use Rattle.frame.proofs.AcceptedLaws.{accepted-sound}
 use Rattle.algorithm.specs.Day.{Day, dayOf}
 use Rattle.planning.specs.declared.answer.Compared.{Compared}
@@ -26,11 +25,8 @@ use Rattle.planning.specs.Planner.{givesEach, comparePlans}
 use Rattle.planning.specs.CompareArrays.{comparedOf}
 use Rattle.tables.specs.Tables.{numbersOf}
 use Rattle.tables.specs.Words.{faultWord}
-use Rattle.yinqocha.specs.PlanDoor.{comparedWord}
-
-pub read-cases : (r : Read) → ((f : Fault) × (r ≡ refused f)) ⊎ ((h : Head) × (js : List Job) × (r ≡ accepted h js))
-read-cases (refused f) = inl (f, refl)
-read-cases (accepted h js) = inr (h, js, refl)
+use Rattle.blocking.proofs.ReadCases.{read-cases}
+use Rattle.door.specs.PlanDoor.{comparedWord}
 
 -- ── the first 513 entries ──
 

@@ -12,7 +12,7 @@ use Rattle.frame.specs.Writing.{jobsOf, writeSheet, output}
 use Rattle.frame.proofs.EnoughJobs.{jobs-enough, output-jobs-enough}
 use Rattle.tables.specs.Tables.{numbersOf}
 use Rattle.tables.specs.Words.{faultWord}
-use Rattle.yinqocha.specs.Door.{jobsIn, writtenWord}
+use Rattle.door.specs.Door.{jobsIn, writtenWord}
 
 module _ (h : Head) (minutes allowed out : List ℕ) {ms bs : List ℕ} {w : Written} {after : List ℕ}
     (p : ms ≡ take 513 (numbersOf minutes)) (q : bs ≡ take 513 (numbersOf allowed))

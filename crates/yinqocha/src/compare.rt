@@ -3,7 +3,7 @@ use planning::Compared;
 ghost use mathlib.Core.Path.{_≡_};
 ghost use Rattle.planning.specs.Planner.{comparePlans};
 ghost use Rattle.tables.specs.Tables.{numbersOf};
-ghost use Rattle.yinqocha.specs.PlanDoor.{comparedWord};
+ghost use Rattle.door.specs.PlanDoor.{comparedWord};
 
 // Whether two lists of places give every bench the same load.
 #[no_mangle]

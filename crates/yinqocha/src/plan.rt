@@ -1,8 +1,8 @@
 // Planning a sheet, for C.
 use planning::Answer;
 ghost use Rattle.tables.specs.Tables.{roomOf};
-ghost use Rattle.yinqocha.specs.DoorClaim.{DoorClaim};
-ghost use Rattle.yinqocha.specs.PlanDoor.{doorAnswer, Called};
+ghost use Rattle.door.specs.DoorClaim.{DoorClaim};
+ghost use Rattle.door.specs.PlanDoor.{doorAnswer, Called};
 
 // The words of the three answers.
 const PLAN: u64 = 1;

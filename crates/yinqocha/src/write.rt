@@ -4,7 +4,7 @@ use frame::Written;
 ghost use mathlib.Core.Path.{_≡_};
 ghost use lib.ListN.{length};
 ghost use Rattle.frame.specs.Writing.{writeSheet, output};
-ghost use Rattle.yinqocha.specs.Door.{headOf, jobsIn, writtenWord};
+ghost use Rattle.door.specs.Door.{headOf, jobsIn, writtenWord};
 
 // Writes the sheet of a head and of the jobs of two tables to the front of `out`.
 #[no_mangle]

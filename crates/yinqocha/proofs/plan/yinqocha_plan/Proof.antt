@@ -11,7 +11,7 @@ use lib.Dec.{ltb}
 use lib.ListN.{length, take, replicate}
 use Rattle.tables.specs.Tables.{roomOf}
 use Rattle.tables.specs.Unused.{unused}
-use Rattle.yinqocha.proofs.DoorDemand.{with-claim}
+use Rattle.door.proofs.DoorDemand.{with-claim}
 use Rattle.yinqocha.proofs.PlanSteps.{front-length, whole-length, loads-room, fault-called, long-called, none-called, plan-called}
 use Rattle.yinqocha.proofs.plan.yinqocha_plan.Statement.{statement}
 use Rattle.yinqocha.proofs.plan.yinqocha_plan.Tie as tie

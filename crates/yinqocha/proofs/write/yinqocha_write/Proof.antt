@@ -1,7 +1,7 @@
 -- What was loaded are the first 513 entries of each table, and the writer gives the same for them as for all.
 use denote.Ref.{now}
 use borrow.Author.Needs.{needs}
-use Rattle.yinqocha.specs.Door.{headOf}
+use Rattle.door.specs.Door.{headOf}
 use Rattle.tables.proofs.TableSteps.{loaded-fits, loaded-length}
 use Rattle.yinqocha.proofs.WriteSteps.{sheet-length, sheet-fault}
 use Rattle.yinqocha.proofs.write.yinqocha_write.Statement.{statement}

@@ -4,7 +4,8 @@
 --     places, loads, numbers       the bytes of the three tables before; places′, loads′ and numbers′ are the bytes after
 --     r                            the returned word: 1 plan, 2 long, 3 none, or the word of a fault
 --     entryOf t n                  entry n of a table: 8 bytes, the lowest first (tables' specs/Tables)
---     RoomFor                      the sheet is accepted and the tables are large enough
+--     NoRoomFor, TablesShort       the sheet is accepted, and a table is too short for it
+--     RoomFor, CanAnswer           the sheet is accepted, and the tables are large enough
 --     AllKept                      all three tables are as before
 --     PlanInBytes                  what holds of the three tables after a plan
 --     DoorClaim                    the claim
@@ -19,11 +20,22 @@ use Rattle.fields.specs.declared.fault.Fault.the-variants.{Table}
 use Rattle.fields.specs.declared.sheet.Head.{Head}
 use Rattle.fields.specs.declared.sheet.Job.{Job}
 use Rattle.frame.specs.Reading.{accepted, refused, readSheet}
-use Rattle.demand.specs.Demand.{Assignment, loadOf, withinBound, keepsTarget, moveBound}
-use Rattle.blocking.specs.Answers.{SoundLong, SomeOver}
-use Rattle.blocking.specs.Claim.{Untouched, NamedSet}
+use Rattle.demand.specs.Demand.{Assignment, loadOf, withinBound, keepsTarget, SomeOver, LongJob, EachFits, moveBound}
+use Rattle.blocking.specs.Answers.{SoundLong}
+use Rattle.blocking.specs.Claim.{SheetRefused, OneCase, Untouched, NamedSet}
 use Rattle.tables.specs.Tables.{entryOf}
 use Rattle.tables.specs.Words.{faultWord}
+
+-- ── the three kinds of calls ──
+
+-- Fault 13: "there are fewer places than jobs, fewer loads than benches, or fewer than two numbers for the answer."
+abbrev pub NoRoomFor : Head → List Job → List ℕ → List ℕ → List ℕ → Type 0
+NoRoomFor h js places loads numbers =
+    (length places < 8 * length js) ⊎ ((length loads < 8 * h .benches) ⊎ (length numbers < 16))
+
+abbrev pub TablesShort : List ℕ → List ℕ → List ℕ → List ℕ → Type 0
+TablesShort s places loads numbers =
+    (h : Head) × (js : List Job) × (readSheet s ≡ accepted h js) × NoRoomFor h js places loads numbers
 
 -- "Every table must have its room whatever the answer will be: places one entry for each job, loads one for each bench, answer two."
 pub record RoomFor (s places loads numbers : List ℕ) (h : Head) (js : List Job) : Type 0 where
@@ -31,6 +43,11 @@ pub record RoomFor (s places loads numbers : List ℕ) (h : Head) (js : List Job
   pub place-to-a-job : 8 * length js ≤ length places
   pub load-to-a-bench : 8 * h .benches ≤ length loads
   pub two-numbers : 16 ≤ length numbers
+
+abbrev pub CanAnswer : List ℕ → List ℕ → List ℕ → List ℕ → Type 0
+CanAnswer s places loads numbers = (h : Head) × (js : List Job) × RoomFor s places loads numbers h js
+
+-- ── the answers and the tables ──
 
 -- "After a fault all three tables keep their contents."
 pub record AllKept (places loads numbers places′ loads′ numbers′ : List ℕ) : Type 0 where
@@ -53,10 +70,11 @@ pub record PlanInBytes (h : Head) (js : List Job) (places loads places′ loads�
 
 -- The demand, of every row of bytes and any three tables.
 pub record DoorClaim (s places loads numbers : List ℕ) (r : ℕ) (places′ loads′ numbers′ : List ℕ) : Type 0 where
+  -- Every call is one of three: the sheet is refused, the tables are short, or the sheet can be answered.
+  pub one-case : OneCase (SheetRefused s) (TablesShort s places loads numbers) (CanAnswer s places loads numbers)
   -- A fault returns its word and writes to no table. First the faults of the sheet, then fault 13.
   pub sheet-refused : (f : Fault) → readSheet s ≡ refused f → (r ≡ faultWord f) × AllKept places loads numbers places′ loads′ numbers′
-  pub tables-short : (h : Head) (js : List Job) → readSheet s ≡ accepted h js
-      → (length places < 8 * length js) ⊎ ((length loads < 8 * h .benches) ⊎ (length numbers < 16))
+  pub tables-short : (h : Head) (js : List Job) → readSheet s ≡ accepted h js → NoRoomFor h js places loads numbers
       → (r ≡ faultWord (Table 0)) × AllKept places loads numbers places′ loads′ numbers′
   -- Else the answer is one of the three.
   pub one-of-three : (h : Head) (js : List Job) → RoomFor s places loads numbers h js → (r ≡ 1) ⊎ ((r ≡ 2) ⊎ (r ≡ 3))
@@ -66,6 +84,11 @@ pub record DoorClaim (s places loads numbers : List ℕ) (r : ℕ) (places′ lo
   -- Long names the lowest job with more than T minutes.
   pub long-right : (h : Head) (js : List Job) → RoomFor s places loads numbers h js
       → r ≡ 2 → SoundLong h js (entryOf numbers′ 0) × (entryOf numbers′ 1 ≡ 0) × Untouched places loads places′ loads′
+  -- A job above T gives long; after a plan or a none every job is at most T.
+  pub long-given : (h : Head) (js : List Job) → RoomFor s places loads numbers h js
+      → (j : ℕ) → LongJob h js j → r ≡ 2
+  pub plan-fits : (h : Head) (js : List Job) → RoomFor s places loads numbers h js → r ≡ 1 → EachFits h js
+  pub none-fits : (h : Head) (js : List Job) → RoomFor s places loads numbers h js → r ≡ 3 → EachFits h js
   -- None names a blocking set.
   pub none-right : (h : Head) (js : List Job) → RoomFor s places loads numbers h js
       → r ≡ 3 → NamedSet h js (entryOf numbers′ 0) (entryOf numbers′ 1) × Untouched places loads places′ loads′

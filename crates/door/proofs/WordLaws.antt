@@ -16,7 +16,7 @@ use Rattle.frame.specs.Reading.{refused, readSheet}
 use Rattle.frame.proofs.Places.{written-place, written-length, read-place}
 use Rattle.tables.specs.Words.{faultWord}
 use Rattle.tables.proofs.WordLaws.{fault-word-number, fault-word-place}
-use Rattle.yinqocha.specs.Door.{writtenWord}
+use Rattle.door.specs.Door.{writtenWord}
 
 pub written-word-value : (h : Head) (js : List Job) (room n : ℕ) → writeSheet h js room ≡ Length n
     → (writtenWord (writeSheet h js room) ≡ n) × (n < 2 ^ 32)

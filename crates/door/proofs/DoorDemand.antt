@@ -1,4 +1,5 @@
 -- Demand 3 over the bytes of the door (specs/DoorClaim), from the equation that a call ensures (specs/PlanDoor).
+--     one-case              every call is one of three, and no call is two of them
 --     door-claim            the claim holds of what a call returns and leaves in the three tables
 --     with-claim            the equation, and the claim with it
 use Prim.Native.Nat.{ℕ, _*_, _<_}
@@ -11,6 +12,7 @@ use lib.ListN.{length, getD, drop}
 use lib.Dec.{ltb}
 use borrow.Author.Tests.{lt-ltb, le-ltb}
 use Rattle.bools.proofs.BoolLaws.{clash, or-left, or-right, or-false}
+use Rattle.bools.proofs.OrderLaws.{lt-or-le}
 use Rattle.sums.proofs.SumLaws.{sum-cong}
 use Rattle.fields.specs.declared.fault.Fault.{Fault}
 use Rattle.fields.specs.declared.fault.Fault.the-variants.{Table}
@@ -21,18 +23,56 @@ use Rattle.frame.proofs.AcceptedLaws.{accepted-sound}
 use Rattle.algorithm.specs.Answer.{Answer, plan, tooLong, none, fault}
 use Rattle.planning.specs.Planner.{setOf, shortTables}
 use Rattle.demand.specs.Demand.{loadOf}
-use Rattle.blocking.specs.Answers.{placeIn, SoundPlan, SoundLong, SoundAnswer, plan-sound, long-sound, none-sound, isPlan, WholeClaim}
-use Rattle.blocking.specs.Claim.{Untouched, NamedSet}
+use Rattle.blocking.specs.Answers.{placeIn, SoundPlan, SoundLong, SoundAnswer, plan-sound, long-sound, none-sound, isPlan, isLong, WholeClaim}
+use Rattle.blocking.specs.Claim.{SheetRefused, OneCase, Untouched, NamedSet}
+use Rattle.blocking.proofs.ReadCases.{read-cases, not-both-read, same-read}
 use Rattle.blocking.proofs.Claim.{named-set}
 use Rattle.blocking.proofs.Theorems.{whole-claim}
 use Rattle.tables.specs.Tables.{entryOf, roomOf, putNumbers}
 use Rattle.tables.specs.Words.{faultWord}
 use Rattle.tables.proofs.EntryLaws.{entry-put, later-kept}
 use Rattle.tables.proofs.NumberSteps.{length-putNumbers, put-nothing}
-use Rattle.yinqocha.specs.DoorClaim.{RoomFor, AllKept, PlanInBytes, DoorClaim}
-use Rattle.yinqocha.specs.PlanDoor.{doorAnswer, planWord, answerNumbers, placesIn, loadsIn, Called}
-use Rattle.yinqocha.proofs.PlanLaws.{AnswerFits, answer-fits}
-use Rattle.yinqocha.proofs.PlanSteps.{door-refused, door-read, verdictOn}
+use Rattle.door.specs.DoorClaim.{NoRoomFor, TablesShort, RoomFor, CanAnswer, AllKept, PlanInBytes, DoorClaim}
+use Rattle.door.specs.PlanDoor.{doorAnswer, planWord, answerNumbers, placesIn, loadsIn, Called}
+use Rattle.door.proofs.PlanLaws.{AnswerFits, answer-fits}
+use Rattle.door.proofs.AnswerLaws.{door-refused, door-read, verdictOn}
+
+-- ── the three kinds of calls ──
+
+module _ (s places loads numbers : List ℕ) where
+  room-or-not : (h : Head) (js : List Job) → readSheet s ≡ accepted h js
+      → TablesShort s places loads numbers ⊎ CanAnswer s places loads numbers
+  room-or-not h js e = elim (lt-or-le (length places) (8 * length js)) [
+    | inl p ↦ inl (h, js, e, inl (omega arith))
+    | inr p ↦ elim (lt-or-le (length loads) (8 * h .benches)) [
+      | inl l ↦ inl (h, js, e, inr (inl (omega arith)))
+      | inr l ↦ elim (lt-or-le (length numbers) 16) [
+        | inl n ↦ inl (h, js, e, inr (inr (omega arith)))
+        | inr n ↦ inr (
+          h,
+          js,
+          record { sheet-accepted = e; place-to-a-job = omega arith; load-to-a-bench = omega arith; two-numbers = omega arith },
+        )
+      ]
+    ]
+  ]
+
+  short-or-not : TablesShort s places loads numbers → CanAnswer s places loads numbers → ⊥
+  short-or-not (h, js, e, short) (k, is, t) =
+      let same = same-read s e (t .sheet-accepted) in
+      elim short [
+        | inl l ↦ omega (arith, t .place-to-a-job, ap length (same .1))
+        | inr (inl l) ↦ omega (arith, t .load-to-a-bench, ap (λ (x : Head). x .benches) (same .0))
+        | inr (inr l) ↦ omega (arith, t .two-numbers)
+      ]
+
+  pub one-case : OneCase (SheetRefused s) (TablesShort s places loads numbers) (CanAnswer s places loads numbers)
+  one-case = record {
+    some = elim (read-cases (readSheet s)) [ inl faulty ↦ inl faulty | inr (h, js, e) ↦ inr (room-or-not h js e) ];
+    not-first-second = λ (f, p) (h, js, q, short). not-both-read s p q;
+    not-first-third = λ (f, p) (h, js, t). not-both-read s p (t .sheet-accepted);
+    not-second-third = short-or-not;
+  }
 
 -- ── the three answers, with the tables after them ──
 
@@ -129,6 +169,18 @@ no-plan (tooLong j) l = refl
 no-plan (none benches moves) l = refl
 no-plan (fault f) l = refl
 
+long-word : (a : Answer) → isLong a ≡ true → planWord a ≡ 2
+long-word (plan largest moves places loads) e = clash {b = false} e refl
+long-word (tooLong j) e = refl
+long-word (none benches moves) e = clash {b = false} e refl
+long-word (fault f) e = clash {b = false} e refl
+
+no-long : (a : Answer) → (planWord a ≡ 1) ⊎ (planWord a ≡ 3) → isLong a ≡ false
+no-long (plan largest moves places loads) e = refl
+no-long (tooLong j) e = elim e [ inl p ↦ absurd (omega arith) | inr p ↦ absurd (omega arith) ]
+no-long (none benches moves) e = refl
+no-long (fault f) e = refl
+
 -- ── the claim ──
 
 module _ (s places loads numbers : List ℕ) where
@@ -150,8 +202,7 @@ module _ (s places loads numbers : List ℕ) where
     },
   )
 
-  answer-short : (h : Head) (js : List Job) → readSheet s ≡ accepted h js
-      → (length places < 8 * length js) ⊎ ((length loads < 8 * h .benches) ⊎ (length numbers < 16)) → answer ≡ fault (Table 0)
+  answer-short : (h : Head) (js : List Job) → readSheet s ≡ accepted h js → NoRoomFor h js places loads numbers → answer ≡ fault (Table 0)
   answer-short h js e short =
       let tested : (shortTables h js (roomOf places) (roomOf loads) || ltb (roomOf numbers) 2) ≡ true = elim short [
         | inl l ↦ or-left (ltb (roomOf numbers) 2) (or-left (ltb (roomOf loads) (h .benches)) (lt-ltb (roomOf places) (length js) (omega arith)))
@@ -179,11 +230,15 @@ module _ (s places loads numbers : List ℕ) where
       (putNumbers (placesIn answer) places) (putNumbers (loadsIn answer) loads) (putNumbers (answerNumbers answer) numbers)
   given-claim =
       record {
+        one-case = one-case s places loads numbers;
         sheet-refused = λ f e. fault-after f (door-refused s (roomOf places) (roomOf loads) (roomOf numbers) f e);
         tables-short = λ h js e short. fault-after (Table 0) (answer-short h js e short);
         one-of-three = λ h js t. three s places loads numbers h js t (whole h js t .sound);
         plan-right = λ h js t. plan-after s places loads numbers h js t fits (whole h js t .sound);
         long-right = λ h js t. long-after s places loads numbers h js t fits (whole h js t .sound);
+        long-given = λ h js t j l. long-word answer (whole h js t .long-given j l);
+        plan-fits = λ h js t e. whole h js t .else-fits (no-long answer (inl e));
+        none-fits = λ h js t e. whole h js t .else-fits (no-long answer (inr e));
         none-right = λ h js t. none-after s places loads numbers h js t fits (whole h js t .sound);
         later-numbers-kept = λ h js t. numbers-after s places loads numbers h js t (whole h js t .sound);
         rival-planned = λ h js t a x keeps. plan-word answer (whole h js t .rival-planned a x keeps);

@@ -33,9 +33,9 @@ use Rattle.blocking.proofs.Theorems.{whole-claim}
 use Rattle.tables.specs.Tables.{entryOf}
 use Rattle.tables.proofs.EntryLaws.{Fit, entry-put}
 use Rattle.tables.proofs.WordLaws.{fault-word-number, fault-word-place}
-use Rattle.yinqocha.specs.PlanDoor.{doorAnswer, planWord, answerNumbers, placesIn, loadsIn, Called}
-use Rattle.yinqocha.proofs.CompareSteps.{read-cases}
-use Rattle.yinqocha.proofs.PlanSteps.{door-refused, door-read, verdictOn, isFault, roomy, places-used, loads-used}
+use Rattle.door.specs.PlanDoor.{doorAnswer, planWord, answerNumbers, placesIn, loadsIn, Called}
+use Rattle.blocking.proofs.ReadCases.{read-cases}
+use Rattle.door.proofs.AnswerLaws.{door-refused, door-read, verdictOn, isFault, roomy, places-used, loads-used}
 
 -- ── the numbers of an answer ──
 

@@ -1,0 +1,5 @@
+pub mod AnswerLaws
+pub mod DoorDemand
+pub mod DoorExamples
+pub mod PlanLaws
+pub mod WordLaws

@@ -1,0 +1,1 @@
+// What the C door promises: definitions in specs/, and in proofs/ the demand over its bytes and the laws of its words. No code.
