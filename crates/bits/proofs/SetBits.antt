@@ -1,4 +1,6 @@
 -- Laws of the set bits of a number of n bits, bit 0 the highest.
+--     isSet-digit       a bit is set where its binary digit is 1
+--     isSet-past        no bit past the last is set
 --     isSet-half        all but the last bit of a number of n + 1 bits are the bits of its half
 --     isSet-last        the last bit tells whether the number is odd
 --     isSet-zero        no bit of 0 is set
@@ -9,16 +11,16 @@
 --     any-isSet-zero    a number below 2 ^ n with no bit set is 0
 --     count-isSet       a number below 2 ^ n has as many bits set as it has binary digits 1
 use mathlib.Core.Path.{_≡_, refl, sym, ap, _∙_}
-use mathlib.Core.Bool.{Bool, false, not, _&&_, _||_}
+use mathlib.Core.Bool.{Bool, true, false, not, _&&_, _||_}
 use mathlib.Core.List.{List}
 use mathlib.Core.Logic.{inl, inr}
 use Prim.Native.Nat.{ℕ, zero, suc, _+_, _-_, _*_, _/_, _%_, _^_, _≤_, _<_}
 use native.Mathlib.Nat.{sub-zero, mod-eq-of-lt, mod-one, zero-div, add-comm, div-one}
 use native.Mathlib.Omega.{arith}
-use lib.Dec.{eqb, leb, leb·zero}
+use lib.Dec.{eqb, leb, ltb, leb·zero}
 use lib.Pow.{shr-shr}
 use lib.Count.{ones, ones-step}
-use borrow.Author.Tests.{ne-eqb, lt-leb, le-leb}
+use borrow.Author.Tests.{ne-eqb, lt-leb, le-leb, lt-ltb, le-ltb}
 use Rattle.bools.proofs.BoolLaws.{tests}
 use Rattle.bools.proofs.OrderLaws.{lt-or-le}
 use Rattle.sums.specs.Sum.{on, sum, count}
@@ -30,23 +32,27 @@ use Rattle.bits.proofs.BitsLaws.{mod-pow-suc, bits-digit}
 
 -- ---- one bit
 
-pub isSet-half : (n m b : ℕ) → b < n → isSet (suc n) m b ≡ isSet n (m / 2) b
+pub isSet-digit : (n m b : ℕ) → b < n → isSet n m b ≡ eqb (m / 2 ^ (n - 1 - b) % 2) 1
 unfolding isSet
+isSet-digit n m b h = let t : ltb b n ≡ true = lt-ltb b n h in cc
+
+pub isSet-past : (n m b : ℕ) → n ≤ b → isSet n m b ≡ false
+unfolding isSet
+isSet-past n m b h = let t : ltb b n ≡ false = le-ltb b n h in cc
+
+pub isSet-half : (n m b : ℕ) → b < n → isSet (suc n) m b ≡ isSet n (m / 2) b
 isSet-half n m b h =
     let e : suc n - 1 - b ≡ 1 + (n - 1 - b) = omega arith in
-    rw (e, ← shr-shr m 1 (n - 1 - b))
+    rw (isSet-digit (suc n) m b (omega arith), isSet-digit n (m / 2) b h, e, ← shr-shr m 1 (n - 1 - b))
 
 pub isSet-last : (n m : ℕ) → isSet (suc n) m n ≡ eqb (m % 2) 1
-unfolding isSet
-isSet-last n m = let e : suc n - 1 - n ≡ 0 = omega arith in rw (e, div-one m)
+isSet-last n m = let e : suc n - 1 - n ≡ 0 = omega arith in rw (isSet-digit (suc n) m n (omega arith), e, div-one m)
 
 pub isSet-zero : (n b : ℕ) → isSet n 0 b ≡ false
-unfolding isSet
-isSet-zero n b = rw (zero-div (2 ^ (n - 1 - b)))
+isSet-zero n b = elim (lt-or-le b n) [ inl l ↦ rw (isSet-digit n 0 b l, zero-div (2 ^ (n - 1 - b))) | inr l ↦ isSet-past n 0 b l ]
 
 pub isSet-bits : (s : List ℕ) (at n b : ℕ) → b < n → isSet n (bits s at n) b ≡ eqb (bit s (at + b)) 1
-unfolding isSet
-isSet-bits s at n b h = rw (bits-digit s at n b h)
+isSet-bits s at n b h = rw (isSet-digit n (bits s at n) b h, bits-digit s at n b h)
 
 -- ---- all bits
 

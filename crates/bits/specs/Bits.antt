@@ -3,13 +3,13 @@
 --     bits s at n   the number made of the n bits from bit at on
 --     big s k       the number made of the first k bytes, the first byte highest
 --     bytesOf k n   the k bytes of n, highest first (n modulo 256 ^ k)
---     isSet n m b   whether bit b of the n-bit number m is 1: bit 0 is the highest
+--     isSet n m b   whether bit b of the n-bit number m is 1: bit 0 is the highest. It is false for b ≥ n
 --     Bytes s       every element of s is below 256
 use Prim.Native.Nat.{ℕ, zero, suc, _+_, _-_, _*_, _/_, _%_, _^_, _<_}
-use mathlib.Core.Bool.{Bool}
+use mathlib.Core.Bool.{Bool, _&&_}
 use mathlib.Core.List.{List, [], _∷_}
 use lib.ListN.{getD}
-use lib.Dec.{eqb}
+use lib.Dec.{eqb, ltb}
 
 unfoldable pub bit : List ℕ → ℕ → ℕ
 bit s i = getD s (i / 8) 0 / 2 ^ (7 - i % 8) % 2
@@ -27,7 +27,7 @@ bytesOf zero n = []
 bytesOf (suc k) n = n / 256 ^ k % 256 ∷ bytesOf k n
 
 unfoldable pub isSet : ℕ → ℕ → ℕ → Bool
-isSet n m b = eqb (m / 2 ^ (n - 1 - b) % 2) 1
+isSet n m b = ltb b n && eqb (m / 2 ^ (n - 1 - b) % 2) 1
 
 abbrev pub Bytes : List ℕ → Type 0
 Bytes s = (i : ℕ) → getD s i 0 < 256

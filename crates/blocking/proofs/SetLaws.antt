@@ -16,7 +16,7 @@ use borrow.Author.Tests.{ne-eqb, eq-eqb}
 use Rattle.bools.proofs.OrderLaws.{lt-or-le, eq-or-ne}
 use Rattle.sums.specs.Search.{any}
 use Rattle.bits.specs.Bits.{isSet}
-use Rattle.bits.proofs.SetBits.{isSet-zero}
+use Rattle.bits.proofs.SetBits.{isSet-digit, isSet-zero}
 use Rattle.planning.specs.Planner.{setOf}
 use Rattle.blocking.specs.Answers.{oneOf}
 
@@ -50,8 +50,7 @@ digit-below d j r =
 -- ── one bench more, below those of the rest ──
 
 isSet-more : (a r v : ℕ) → a < 64 → v < 64 → r < 2 ^ (63 - a) → isSet 64 (2 ^ (63 - a) + r) v ≡ (eqb a v || isSet 64 r v)
-unfolding isSet
-isSet-more a r v la lv lr = elim (lt-or-le a v) [
+isSet-more a r v la lv lr = rw (isSet-digit 64 (2 ^ (63 - a) + r) v lv, isSet-digit 64 r v lv) (elim (lt-or-le a v) [
   | inl less ↦
       let d : ℕ = v - suc a in
       let e : 63 - a ≡ suc d + (63 - v) = omega arith in
@@ -65,7 +64,7 @@ isSet-more a r v la lv lr = elim (lt-or-le a v) [
         (ap (λ (x : ℕ). eqb x 1) (digit-above (63 - v) (2 ^ (63 - a) + r) (omega (arith, more, lr))
         ∙ sym (digit-above (63 - v) r (omega (arith, more, lr)))))
   ]
-]
+])
 
 -- ── rising lists of benches ──
 

@@ -8,15 +8,17 @@
 use Prim.Native.Nat.{ℕ, _+_, _-_, _/_, _%_, _^_, _<_}
 use native.Mathlib.Numerals.{add-one}
 use mathlib.Core.Path.{_≡_, refl, sym, ap, _∙_}
-use mathlib.Core.Logic.{_≢_}
+use mathlib.Core.Logic.{_≢_, inl, inr}
 use mathlib.Core.Bool.{true, false}
 use mathlib.Core.List.{List, [], _∷_, _++_, append-assoc, append-nil, map, map-append}
 use lib.ListN.{length, getD, take}
 use lib.Seq.{take-suc}
 use borrow.Author.Tests.{eq-eqb, ne-eqb}
+use Rattle.bools.proofs.OrderLaws.{lt-or-le}
 use Rattle.sums.specs.Members.{members}
 use Rattle.sums.proofs.MembersLaws.{members-snoc-true, members-snoc-false}
 use Rattle.bits.specs.Bits.{isSet}
+use Rattle.bits.proofs.SetBits.{isSet-digit, isSet-past}
 use Rattle.fields.specs.declared.fault.Fault.{Fault as AnyFault}
 use Rattle.fields.specs.Numbers.{numberOf, placeOf}
 use Rattle.planning.specs.declared.answer.Answer.{Answer}
@@ -71,10 +73,9 @@ pub benches-none : (set : ℕ) → [] ≡ benchesBelow set 0
 unfolding members spaced
 benches-none set = refl
 
-pub bench-in : (set b : ℕ) → set / 2 ^ (63 - b) % 2 ≡ 1 → benchesBelow set b ++ space ∷ digits b ≡ benchesBelow set (b + 1)
-unfolding isSet
-bench-in set b e =
-    let is : isSet 64 set b ≡ true = eq-eqb (set / 2 ^ (63 - b) % 2) 1 e in
+pub bench-in : (set b : ℕ) → b < 64 → set / 2 ^ (63 - b) % 2 ≡ 1 → benchesBelow set b ++ space ∷ digits b ≡ benchesBelow set (b + 1)
+bench-in set b l e =
+    let is : isSet 64 set b ≡ true = isSet-digit 64 set b l ∙ eq-eqb (set / 2 ^ (63 - b) % 2) 1 e in
     sym (ap (benchesBelow set) (add-one b)
     ∙ ap (λ (bs : List ℕ). spaced (map digits bs)) (members-snoc-true b (isSet 64 set) is)
     ∙ ap spaced (map-append digits (members b (isSet 64 set)) (b ∷ []))
@@ -82,9 +83,11 @@ bench-in set b e =
     ∙ ap (λ (s : List ℕ). benchesBelow set b ++ s) (spaced-one (digits b)))
 
 pub bench-out : (set b : ℕ) → set / 2 ^ (63 - b) % 2 ≢ 1 → benchesBelow set b ≡ benchesBelow set (b + 1)
-unfolding isSet
 bench-out set b n =
-    let is : isSet 64 set b ≡ false = ne-eqb (set / 2 ^ (63 - b) % 2) 1 n in
+    let is : isSet 64 set b ≡ false = elim (lt-or-le b 64) [
+      | inl l ↦ isSet-digit 64 set b l ∙ ne-eqb (set / 2 ^ (63 - b) % 2) 1 n
+      | inr l ↦ isSet-past 64 set b l
+    ] in
     sym (ap (benchesBelow set) (add-one b) ∙ ap (λ (bs : List ℕ). spaced (map digits bs)) (members-snoc-false b (isSet 64 set) is))
 
 -- ── the text of an answer ──

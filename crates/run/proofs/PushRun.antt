@@ -24,7 +24,7 @@ use Rattle.bools.proofs.OrderLaws.{last-or-below}
 use Rattle.sums.specs.Search.{any, all, least}
 use Rattle.sums.proofs.SearchLaws.{any-cong, any-false, any-intro, least-found, least-none}
 use Rattle.bits.specs.Bits.{isSet}
-use Rattle.bits.proofs.SetBits.{isSet-zero}
+use Rattle.bits.proofs.SetBits.{isSet-digit, isSet-zero}
 use Rattle.run.specs.declared.rocks.Limits.{Limits}
 use Rattle.algorithm.specs.Board.{Board, touches, other, towards, load}
 use Rattle.algorithm.specs.Explore.{Explored, roundOf, within, inConflict, activated, father, child}
@@ -80,8 +80,7 @@ pub has-past : (mask v : ℕ) → 63 < v → false ≡ hasAt mask v
 has-past mask v h = sym (and-false-left (isSet 64 mask v) (lt-leb v 63 h))
 
 pub has-in : (mask v : ℕ) → v ≤ 63 → eqb (mask / 2 ^ (63 - v) % 2) 1 ≡ hasAt mask v
-unfolding isSet
-has-in mask v h = rw (le-leb v 63 h)
+has-in mask v h = rw (le-leb v 63 h, isSet-digit 64 mask v (omega arith))
 
 has-set : (mask v : ℕ) → v < 64 → hasAt mask v ≡ isSet 64 mask v
 has-set mask v h = ap (λ (k : Bool). k && isSet 64 mask v) (le-leb v 63 (omega arith))

@@ -21,7 +21,7 @@ use Rattle.sums.specs.Search.{any}
 use Rattle.sums.proofs.SearchLaws.{any-intro, any-elim, any-none, any-false}
 use Rattle.sums.proofs.TableLaws.{length-table, getD-table}
 use Rattle.bits.specs.Bits.{isSet}
-use Rattle.bits.proofs.SetBits.{any-isSet}
+use Rattle.bits.proofs.SetBits.{isSet-zero, any-isSet}
 use Rattle.run.specs.declared.rocks.Limits.{Limits}
 use Rattle.algorithm.specs.Board.{Board, Directions, load, overloaded}
 use Rattle.algorithm.specs.Properties.{SoundBoard}
@@ -33,7 +33,8 @@ use Rattle.run.specs.Shown.{Shown}
 use Rattle.algorithm.proofs.BoardLaws.{pointed-start, rockLoad-none}
 use Rattle.run.proofs.ScanLaws.{rock-below}
 use Rattle.run.proofs.ForcedRun.{plus-one}
-use Rattle.run.proofs.ExploreLaws.{cond-no, isSet-or, isSet-zero}
+use Rattle.run.proofs.ExploreLaws.{cond-no}
+use Rattle.run.proofs.SetLaws.{or-isSet}
 use Rattle.run.proofs.ConflictRun.{within-same}
 use Rattle.run.proofs.RoundSets.{Raised, Sets}
 
@@ -70,7 +71,7 @@ module _ (b : Board) (pebble : List Bool) (allowed place from : List ℕ) (j : �
           | inl e ↦
               let here : lies b u v j ≡ b .allows j v = rw (p, eq-eqb (b .place j) u (sym (P .lie j h p) ∙ sym e)) in
               ap (λ (x : ℕ). isSet 64 x v) (ap (λ (k : ℕ). getD (set from there more) k 0) e ∙ getD-set-same from there more 0 (omega (arith, F .room)))
-              ∙ isSet-or 64 (getD from there 0) (getD allowed j 0) v
+              ∙ or-isSet (getD from there 0) (getD allowed j 0) v
               ∙ ap₂ (λ (x y : Bool). x || y) (ap (λ (k : ℕ). isSet 64 (getD from k 0) v) (sym e) ∙ F .entries u v hu hv) (P .allow j v h hv ∙ sym here)
           | inr ne ↦
               let away : lies b u v j ≡ false = rw (p, ne-eqb (b .place j) u (λ q. ne (sym (P .lie j h p ∙ q)))) in

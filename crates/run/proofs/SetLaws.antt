@@ -18,7 +18,7 @@ use Rattle.bools.proofs.BoolLaws.{and-intro, and-false-left, and-false-right, n
 use Rattle.bools.proofs.OrderLaws.{eq-or-ne, lt-or-le}
 use Rattle.sums.proofs.SearchLaws.{least-holds, least-before}
 use Rattle.bits.specs.Bits.{isSet}
-use Rattle.bits.proofs.SetBits.{isSet-zero}
+use Rattle.bits.proofs.SetBits.{isSet-digit, isSet-past, isSet-zero}
 use Rattle.run.specs.StartArrays.{lowestOf}
 
 even-plus : (k m : ℕ) → m < 2 → (k * 2 + m) % 2 ≡ m
@@ -40,9 +40,12 @@ min-one x y hx hy = elim (eq-or-ne x 1) [
 ]
 
 pub and-isSet : (a b u : ℕ) → isSet 64 (bitAnd a b) u ≡ (isSet 64 a u && isSet 64 b u)
-unfolding isSet
-and-isSet a b u =
-    ap (λ (x : ℕ). eqb x 1) (and-bit a b (64 - 1 - u)) ∙ min-one (a / 2 ^ (64 - 1 - u) % 2) (b / 2 ^ (64 - 1 - u) % 2) (omega arith) (omega arith)
+and-isSet a b u = elim (lt-or-le u 64) [
+  | inl l ↦
+      rw (isSet-digit 64 (bitAnd a b) u l, isSet-digit 64 a u l, isSet-digit 64 b u l)
+      (ap (λ (x : ℕ). eqb x 1) (and-bit a b (64 - 1 - u)) ∙ min-one (a / 2 ^ (64 - 1 - u) % 2) (b / 2 ^ (64 - 1 - u) % 2) (omega arith) (omega arith))
+  | inr l ↦ rw (isSet-past 64 (bitAnd a b) u l, isSet-past 64 a u l)
+]
 
 or-odd : (a b : ℕ) → bitOr a b % 2 ≡ max (a % 2) (b % 2)
 or-odd a b = ap (λ (k : ℕ). k % 2) (or-step a b) ∙ even-plus (bitOr (a / 2) (b / 2)) (max (a % 2) (b % 2)) (omega arith)
@@ -57,10 +60,13 @@ max-one x y hx hy = elim (eq-or-ne x 1) [
 ]
 
 pub or-isSet : (a b u : ℕ) → isSet 64 (bitOr a b) u ≡ (isSet 64 a u || isSet 64 b u)
-unfolding isSet
-or-isSet a b u =
-    ap (λ (x : ℕ). eqb x 1) (ap (λ (x : ℕ). x % 2) (or-shr a b (64 - 1 - u)) ∙ or-odd (a / 2 ^ (64 - 1 - u)) (b / 2 ^ (64 - 1 - u)))
-    ∙ max-one (a / 2 ^ (64 - 1 - u) % 2) (b / 2 ^ (64 - 1 - u) % 2) (omega arith) (omega arith)
+or-isSet a b u = elim (lt-or-le u 64) [
+  | inl l ↦
+      rw (isSet-digit 64 (bitOr a b) u l, isSet-digit 64 a u l, isSet-digit 64 b u l)
+      (ap (λ (x : ℕ). eqb x 1) (ap (λ (x : ℕ). x % 2) (or-shr a b (64 - 1 - u)) ∙ or-odd (a / 2 ^ (64 - 1 - u)) (b / 2 ^ (64 - 1 - u)))
+      ∙ max-one (a / 2 ^ (64 - 1 - u) % 2) (b / 2 ^ (64 - 1 - u) % 2) (omega arith) (omega arith))
+  | inr l ↦ rw (isSet-past 64 (bitOr a b) u l, isSet-past 64 a u l, isSet-past 64 b u l)
+]
 
 -- ── the first less the second ──
 
@@ -86,8 +92,10 @@ less-bit a b k =
     ap (λ (z : ℕ). eqb z 1) (ap (λ (z : ℕ). z % 2) (xor-shr a (bitAnd a b) k) ∙ xor-odd (a / 2 ^ k) (bitAnd a b / 2 ^ k) small ∙ ap (differ x) both) ∙ d .1
 
 pub less-isSet : (a b u : ℕ) → isSet 64 (bitXor a (bitAnd a b)) u ≡ (isSet 64 a u && not (isSet 64 b u))
-unfolding isSet
-less-isSet a b u = less-bit a b (64 - 1 - u)
+less-isSet a b u = elim (lt-or-le u 64) [
+  | inl l ↦ rw (isSet-digit 64 (bitXor a (bitAnd a b)) u l, isSet-digit 64 a u l, isSet-digit 64 b u l) (less-bit a b (64 - 1 - u))
+  | inr l ↦ rw (isSet-past 64 (bitXor a (bitAnd a b)) u l, isSet-past 64 a u l)
+]
 
 -- ── a set without its lowest number ──
 
@@ -121,18 +129,17 @@ bit-below set k j =
     ap (λ (x : ℕ). x % 2) (field set (suc j) k) ∙ ap (λ (x : ℕ). set / 2 ^ k % 2 ^ x % 2) more ∙ mod-mod-pow (set / 2 ^ k) j 1
 
 after-above : (s x y : ℕ) → x < y → y < 64 → isSet 64 (s % 2 ^ (63 - x)) y ≡ isSet 64 s y
-unfolding isSet
 after-above s x y l h =
     let j : ℕ = y - x - 1 in
     let parts : 63 - x ≡ suc j + (64 - 1 - y) = omega arith in
-    ap (λ (k : ℕ). eqb (s % 2 ^ k / 2 ^ (64 - 1 - y) % 2) 1) parts ∙ ap (λ (k : ℕ). eqb k 1) (bit-below s (64 - 1 - y) j)
+    rw (isSet-digit 64 (s % 2 ^ (63 - x)) y h, isSet-digit 64 s y h)
+    (ap (λ (k : ℕ). eqb (s % 2 ^ k / 2 ^ (64 - 1 - y) % 2) 1) parts ∙ ap (λ (k : ℕ). eqb k 1) (bit-below s (64 - 1 - y) j))
 
 after-below : (s x y : ℕ) → y ≤ x → x < 64 → isSet 64 (s % 2 ^ (63 - x)) y ≡ false
-unfolding isSet
 after-below s x y l h =
     let rest : s % 2 ^ (63 - x) < 2 ^ (63 - x) = mod-lt s (pow-pos (63 - x)) in
     let wider : 2 ^ (63 - x) ≤ 2 ^ (64 - 1 - y) = pow-mono (omega arith) in
-    ap (λ (k : ℕ). eqb (k % 2) 1) (none-left (s % 2 ^ (63 - x)) (64 - 1 - y) (omega arith))
+    rw (isSet-digit 64 (s % 2 ^ (63 - x)) y (omega arith)) (ap (λ (k : ℕ). eqb (k % 2) 1) (none-left (s % 2 ^ (63 - x)) (64 - 1 - y) (omega arith)))
 
 strict : (x y : ℕ) → x ≤ y → (x ≡ y → ⊥) → x < y
 strict x y h ne = elim (lt-or-le x y) [ inl l ↦ l | inr l ↦ absurd (ne (omega arith)) ]
@@ -147,10 +154,9 @@ after-set set v u e hv hu = elim (lt-or-le v u) [
 ]
 
 bit-some : (s x : ℕ) → x < 64 → isSet 64 s x ≡ true → 1 ≤ s / 2 ^ (63 - x)
-unfolding isSet
 bit-some s x l p =
     let same : 64 - 1 - x ≡ 63 - x = omega arith in
-    let one : s / 2 ^ (64 - 1 - x) % 2 ≡ 1 = eqb-true (s / 2 ^ (64 - 1 - x) % 2) 1 p in
+    let one : s / 2 ^ (64 - 1 - x) % 2 ≡ 1 = eqb-true (s / 2 ^ (64 - 1 - x) % 2) 1 (sym (isSet-digit 64 s x l) ∙ p) in
     subst (λ (k : ℕ). 1 ≤ s / 2 ^ k) same (omega arith)
 
 pub after-less : (set v : ℕ) → v ≡ lowestOf set → v < 64 → set % 2 ^ (63 - v) < set

@@ -30,7 +30,7 @@ use Rattle.sums.proofs.SearchLaws.{least-found, least-none, least-here, least-t
 use Rattle.sums.proofs.CountLaws.{count-le, count-cong, count-split, count-none}
 use Rattle.sums.proofs.MembersLaws.{member-early, member-last}
 use Rattle.bits.specs.Bits.{isSet}
-use Rattle.bits.proofs.SetBits.{isSet-zero, count-isSet}
+use Rattle.bits.proofs.SetBits.{isSet-digit, isSet-zero, count-isSet}
 use Rattle.run.specs.Arrays.{plusOf}
 use Rattle.run.proofs.FilledLaws.{filled-none, filled-more, length-filled}
 use Rattle.run.specs.StartArrays.{timesOf, choicesOf, lowestOf, highestOf, heavyOf, rockOf, pebbleOf, limitsOf, filled, Bounded, Fields}
@@ -73,7 +73,6 @@ quotient-none a y h =
     omega arith
 
 pub leading-least : (k a : ℕ) → a < 2 ^ k → leadingZeros k a ≡ least k (isSet k a)
-unfolding isSet
 leading-least k a h = elim (eq-zero-or-pos a) [
   | inl e ↦ rw e (leading-of-zero k ∙ sym (least-none k (isSet k 0) (λ i l. isSet-zero k i)))
   | inr p ↦
@@ -81,11 +80,11 @@ leading-least k a h = elim (eq-zero-or-pos a) [
       let z = leadingZeros k a in
       let place : k - 1 - z ≡ j = omega arith in
       let one : a / 2 ^ j ≡ 1 = quotient-one a (2 ^ j) (pow-pos j) lo (omega (arith, pow-suc 2 j)) in
-      sym (least-found k (isSet k a) z (omega arith) (rw (place, one))
+      sym (least-found k (isSet k a) z (omega arith) (rw (isSet-digit k a z (omega arith), place, one))
       (λ i l.
       let more : suc j ≤ k - 1 - i = omega arith in
       let none : a / 2 ^ (k - 1 - i) ≡ 0 = quotient-none a (2 ^ (k - 1 - i)) (omega (arith, pow-mono more)) in
-      rw none))
+      rw (isSet-digit k a i (omega arith), none)))
 ]
 
 pub trailing-least : (k a : ℕ) → trailingZeros k a ≡ least k (λ i. eqb (a / 2 ^ i % 2) 1)
@@ -107,11 +106,10 @@ trailing-least (suc k) a = elim (lt-or-le (a % 2) 1) [
 
 -- From the last of n + 1 benches down.
 trailing-set : (n a : ℕ) → trailingZeros (suc n) a ≡ least (suc n) (λ i. isSet (suc n) a (n - i))
-unfolding isSet
 trailing-set n a =
     trailing-least (suc n) a
     ∙ least-cong (suc n) (λ i. eqb (a / 2 ^ i % 2) 1) (λ i. isSet (suc n) a (n - i))
-    (λ i h. let e : suc n - 1 - (n - i) ≡ i = omega arith in rw e)
+    (λ i h. let e : suc n - 1 - (n - i) ≡ i = omega arith in rw (isSet-digit (suc n) a (n - i) (omega arith), e))
 
 pub choices-count : (a : ℕ) → a < 2 ^ 64 → ones a ≡ choicesOf a
 unfolding choicesOf
@@ -325,7 +323,6 @@ or-none true e = refl
 or-none false e = sym e
 
 pub with-bench : (set v u : ℕ) → v < 64 → u < 64 → isSet 64 (bitOr set (1 * 2 ^ (63 - v) % 18446744073709551616)) u ≡ (isSet 64 set u || eqb u v)
-unfolding isSet
 with-bench set v u hv hu =
     let i : ℕ = 63 - v in
     let k : ℕ = 63 - u in
@@ -333,7 +330,8 @@ with-bench set v u hv hu =
     let power : 1 * 2 ^ i % 18446744073709551616 ≡ 2 ^ i = omega arith in
     let bit : bitOr set (1 * 2 ^ i % 18446744073709551616) / 2 ^ k % 2 ≡ max (set / 2 ^ k % 2) (2 ^ i / 2 ^ k % 2) =
     ap (λ (x : ℕ). bitOr set x / 2 ^ k % 2) power ∙ or-bit set (2 ^ i) k in
-    ap (λ (x : ℕ). eqb x 1) bit
+    rw (isSet-digit 64 (bitOr set (1 * 2 ^ i % 18446744073709551616)) u hu, isSet-digit 64 set u hu)
+    (ap (λ (x : ℕ). eqb x 1) bit
     ∙ elim (eq-or-ne u v) [
       | inl e ↦
           let same : i ≡ k = omega arith in
@@ -343,7 +341,7 @@ with-bench set v u hv hu =
           let none : 2 ^ i / 2 ^ k % 2 ≡ 0 = power-else i k (λ e. ne (omega arith)) in
           let same : max (set / 2 ^ k % 2) (2 ^ i / 2 ^ k % 2) ≡ set / 2 ^ k % 2 = omega arith in
           ap (λ (x : ℕ). eqb x 1) same ∙ or-none (eqb (set / 2 ^ k % 2) 1) (ne-eqb u v ne)
-    ]
+    ])
 
 pub with-none : (set v u : ℕ) → 63 < v → u < 64 → isSet 64 set u ≡ (isSet 64 set u || eqb u v)
 with-none set v u hv hu = or-none (isSet 64 set u) (ne-eqb u v (λ e. omega arith))

@@ -46,7 +46,7 @@ loop-again c =
     let l = c .before .before .loop in (
       omega arith,
       ⊎-elim
-          (λ w. puts-moved (w .5) (w .6) (puts-as (bench-in set (l .b) (w .0 .taken)) (puts-then (l .inv .1) (w .2 .ensures))))
+          (λ w. puts-moved (w .5) (w .6) (puts-as (bench-in set (l .b) (omega arith) (w .0 .taken)) (puts-then (l .inv .1) (w .2 .ensures))))
           (λ w. puts-moved (w .1) (w .2) (puts-as (bench-out set (l .b) (w .0 .left)) (l .inv .1)))
           (c .if1 .came),
     )
