@@ -1,11 +1,10 @@
 -- Comparing through the door, from what the two loads and the comparison ensure: 513 entries of each list are enough.
---     read-cases            a sheet is read or refused
 --     list-needed           all of a list is among its first 513 entries, or neither the list nor these give each job one bench
 --     lists-enough          the comparison gives the same for the first 513 entries as for all
 --     same-word, different-word, fault-word     what is returned
 use Prim.Native.Nat.{ℕ, _≤_}
 use native.Mathlib.Omega.{arith}
-use mathlib.Core.Path.{_≡_, refl, sym, ap, ap₂, _∙_}
+use mathlib.Core.Path.{_≡_, sym, ap, ap₂, _∙_}
 use mathlib.Core.Logic.{_⊎_, inl, inr}
 use mathlib.Core.Bool.{false}
 use mathlib.Core.List.{List}
@@ -15,21 +14,15 @@ use borrow.Author.Tests.{ne-eqb}
 use Rattle.bools.proofs.BoolLaws.{and-false-left}
 use Rattle.bools.proofs.OrderLaws.{lt-or-le}
 use Rattle.fields.specs.declared.fault.Fault.{Fault}
-use Rattle.fields.specs.declared.sheet.Head.{Head}
-use Rattle.fields.specs.declared.sheet.Job.{Job}
-use Rattle.frame.specs.Reading.{Read, accepted, refused, readSheet}
+use Rattle.frame.specs.Reading.{readSheet}
 use Rattle.frame.proofs.AcceptedLaws.{accepted-sound}
+use Rattle.frame.proofs.Stored.{read-cases}
 use Rattle.algorithm.specs.Day.{Day, dayOf}
-use Rattle.planning.specs.declared.answer.Compared.{Compared}
-use Rattle.planning.specs.declared.answer.Compared.the-variants.{Same, Different, Fault as ComparedFault}
-use Rattle.planning.specs.Planner.{givesEach, comparePlans}
-use Rattle.planning.specs.CompareArrays.{comparedOf}
+use Rattle.comparison.specs.declared.compared.Compared.{Compared}
+use Rattle.comparison.specs.declared.compared.Compared.the-variants.{Same, Different, Fault as ComparedFault}
+use Rattle.comparison.specs.Comparison.{givesEach, comparedOf, comparePlans}
 use Rattle.yinqocha.specs.Door.{numbersOf, faultWord}
 use Rattle.yinqocha.specs.PlanDoor.{comparedWord}
-
-pub read-cases : (r : Read) → ((f : Fault) × (r ≡ refused f)) ⊎ ((h : Head) × (js : List Job) × (r ≡ accepted h js))
-read-cases (refused f) = inl (f, refl)
-read-cases (accepted h js) = inr (h, js, refl)
 
 -- ── the first 513 entries ──
 

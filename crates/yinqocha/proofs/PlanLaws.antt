@@ -37,7 +37,7 @@ use Rattle.blocking.proofs.SetLaws.{setOf-lt}
 use Rattle.blocking.proofs.Theorems.{whole-claim}
 use Rattle.yinqocha.specs.Door.{entryOf}
 use Rattle.yinqocha.specs.PlanDoor.{doorAnswer, planWord, answerNumbers, placesIn, loadsIn, putNumbers, Called}
-use Rattle.yinqocha.proofs.CompareSteps.{read-cases}
+use Rattle.frame.proofs.Stored.{read-cases}
 use Rattle.yinqocha.proofs.PlanSteps.{door-refused, door-read, verdictOn, isFault, roomy, places-used, loads-used}
 use Rattle.yinqocha.proofs.WordLaws.{fault-word-number, fault-word-place}
 

@@ -45,7 +45,7 @@ use Rattle.blocking.proofs.Theorems.{whole-claim}
 use Rattle.yinqocha.specs.Door.{faultWord}
 use Rattle.yinqocha.specs.Filled.{unused, Used, Filled}
 use Rattle.yinqocha.specs.PlanDoor.{roomOf, doorAnswer, putNumbers, Called}
-use Rattle.yinqocha.proofs.CompareSteps.{read-cases}
+use Rattle.frame.proofs.Stored.{read-cases}
 use Rattle.yinqocha.proofs.FrontSteps.{front-filled}
 use Rattle.yinqocha.proofs.NumberSteps.{put-nothing}
 

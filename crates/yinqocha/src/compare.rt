@@ -1,9 +1,9 @@
 // Comparing two plans of a sheet, for C.
 use crate::table;
 use crate::words;
-use planning::Compared;
+use comparison::Compared;
 ghost use mathlib.Core.Path.{_≡_};
-ghost use Rattle.planning.specs.Planner.{comparePlans};
+ghost use Rattle.comparison.specs.Comparison.{comparePlans};
 ghost use Rattle.yinqocha.specs.Door.{numbersOf};
 ghost use Rattle.yinqocha.specs.PlanDoor.{comparedWord};
 
@@ -17,7 +17,7 @@ pub extern "C" fn yinqocha_compare(sheet: &[u8], first: &[u8], second: &[u8]) ->
     let mut two = [0u64; 513];
     let n = table::load(first, &mut one);
     let m = table::load(second, &mut two);
-    match planning::compare(sheet, &one[..n], &two[..m]) {
+    match comparison::compare(sheet, &one[..n], &two[..m]) {
         Compared::Same => 1,
         Compared::Different => 0,
         Compared::Fault(f) => words::fault_word(f),
