@@ -31,7 +31,7 @@ use Rattle.demand.specs.Demand.{loadOf, LongJob, EachFits}
 use Rattle.blocking.specs.Answers.{placeIn, oneOf, SoundPlan, SoundLong, SoundNone, SoundAnswer, plan-sound, long-sound, none-sound, isPlan, isLong, WholeClaim}
 use Rattle.blocking.specs.Claim.{SheetRefused, ShortFor, TablesShort, Answerable, CanAnswer, OneCase}
 use Rattle.blocking.specs.Claim.{Untouched, OneOfThree, a-plan, a-long, a-none, PlanInTables, inSet, NamedSet, PlannerClaim}
-use Rattle.blocking.proofs.ReadCases.{read-cases, not-both-read, same-read}
+use Rattle.frame.proofs.Stored.{read-cases, not-both-read, same-read}
 use Rattle.blocking.proofs.ShownLaws.{blocking-cong}
 use Rattle.blocking.proofs.SetLaws.{setOf-lt, isSet-setOf}
 use Rattle.blocking.proofs.Theorems.{whole-claim}
@@ -53,7 +53,7 @@ module _ (s places loads : List ℕ) where
 
   short-or-not : TablesShort s places loads → CanAnswer s places loads → ⊥
   short-or-not (h, js, e, short) (k, is, t) =
-      let same = same-read s e (t .sheet-accepted) in
+      let same = same-read e (t .sheet-accepted) in
       elim short [
         | inl l ↦ omega (arith, t .place-to-a-job, ap length (same .1))
         | inr l ↦ omega (arith, t .load-to-a-bench, ap (λ (x : Head). x .benches) (same .0))
@@ -62,8 +62,8 @@ module _ (s places loads : List ℕ) where
   pub one-case : OneCase (SheetRefused s) (TablesShort s places loads) (CanAnswer s places loads)
   one-case = record {
     some = some-case;
-    not-first-second = λ (f, p) (h, js, q, short). not-both-read s p q;
-    not-first-third = λ (f, p) (h, js, t). not-both-read s p (t .sheet-accepted);
+    not-first-second = λ (f, p) (h, js, q, short). not-both-read p q;
+    not-first-third = λ (f, p) (h, js, t). not-both-read p (t .sheet-accepted);
     not-second-third = short-or-not;
   }
 

@@ -5,7 +5,6 @@ pub mod BenchInequality
 pub mod Counting
 pub mod Activated
 pub mod Example
-pub mod ReadCases
 pub mod Rival
 pub mod LongFound
 pub mod DayLaws

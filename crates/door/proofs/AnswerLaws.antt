@@ -31,7 +31,7 @@ use Rattle.planning.specs.Planner.{shortTables, answerFor}
 use Rattle.demand.specs.Demand.{loadOf, minutesOf}
 use Rattle.blocking.specs.Answers.{placeIn, SoundPlan, SoundAnswer, plan-sound, long-sound, none-sound}
 use Rattle.tables.specs.Unused.{Used}
-use Rattle.blocking.proofs.ReadCases.{read-cases}
+use Rattle.frame.proofs.Stored.{read-cases}
 use Rattle.door.specs.PlanDoor.{doorAnswer}
 
 abbrev pub verdictOn : Head → List Job → Bool → Answer

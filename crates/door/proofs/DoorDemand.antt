@@ -25,7 +25,7 @@ use Rattle.planning.specs.Planner.{setOf, shortTables}
 use Rattle.demand.specs.Demand.{loadOf}
 use Rattle.blocking.specs.Answers.{placeIn, SoundPlan, SoundLong, SoundAnswer, plan-sound, long-sound, none-sound, isPlan, isLong, WholeClaim}
 use Rattle.blocking.specs.Claim.{SheetRefused, OneCase, Untouched, NamedSet}
-use Rattle.blocking.proofs.ReadCases.{read-cases, not-both-read, same-read}
+use Rattle.frame.proofs.Stored.{read-cases, not-both-read, same-read}
 use Rattle.blocking.proofs.Claim.{named-set}
 use Rattle.blocking.proofs.Theorems.{whole-claim}
 use Rattle.tables.specs.Tables.{entryOf, roomOf, putNumbers}
@@ -59,7 +59,7 @@ module _ (s places loads numbers : List ℕ) where
 
   short-or-not : TablesShort s places loads numbers → CanAnswer s places loads numbers → ⊥
   short-or-not (h, js, e, short) (k, is, t) =
-      let same = same-read s e (t .sheet-accepted) in
+      let same = same-read e (t .sheet-accepted) in
       elim short [
         | inl l ↦ omega (arith, t .place-to-a-job, ap length (same .1))
         | inr (inl l) ↦ omega (arith, t .load-to-a-bench, ap (λ (x : Head). x .benches) (same .0))
@@ -69,8 +69,8 @@ module _ (s places loads numbers : List ℕ) where
   pub one-case : OneCase (SheetRefused s) (TablesShort s places loads numbers) (CanAnswer s places loads numbers)
   one-case = record {
     some = elim (read-cases (readSheet s)) [ inl faulty ↦ inl faulty | inr (h, js, e) ↦ inr (room-or-not h js e) ];
-    not-first-second = λ (f, p) (h, js, q, short). not-both-read s p q;
-    not-first-third = λ (f, p) (h, js, t). not-both-read s p (t .sheet-accepted);
+    not-first-second = λ (f, p) (h, js, q, short). not-both-read p q;
+    not-first-third = λ (f, p) (h, js, t). not-both-read p (t .sheet-accepted);
     not-second-third = short-or-not;
   }
 

@@ -34,7 +34,7 @@ use Rattle.tables.specs.Tables.{entryOf}
 use Rattle.tables.proofs.EntryLaws.{Fit, entry-put}
 use Rattle.tables.proofs.WordLaws.{fault-word-number, fault-word-place}
 use Rattle.door.specs.PlanDoor.{doorAnswer, planWord, answerNumbers, placesIn, loadsIn, Called}
-use Rattle.blocking.proofs.ReadCases.{read-cases}
+use Rattle.frame.proofs.Stored.{read-cases}
 use Rattle.door.proofs.AnswerLaws.{door-refused, door-read, verdictOn, isFault, roomy, places-used, loads-used}
 
 -- ── the numbers of an answer ──

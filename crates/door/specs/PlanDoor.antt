@@ -14,8 +14,8 @@ use Rattle.fields.specs.declared.fault.Fault.the-variants.{Table}
 use Rattle.frame.specs.Reading.{accepted, refused, readSheet}
 use Rattle.algorithm.specs.Day.{dayOf}
 use Rattle.algorithm.specs.Answer.{Answer, plan, tooLong, none, fault, answerTo}
-use Rattle.planning.specs.declared.answer.Compared.{Compared}
-use Rattle.planning.specs.declared.answer.Compared.the-variants.{Same, Different, Fault as ComparedFault}
+use Rattle.comparison.specs.declared.compared.Compared.{Compared}
+use Rattle.comparison.specs.declared.compared.Compared.the-variants.{Same, Different, Fault as ComparedFault}
 use Rattle.planning.specs.Planner.{setOf, shortTables}
 use Rattle.tables.specs.Tables.{putNumbers}
 use Rattle.tables.specs.Words.{faultWord}

@@ -15,3 +15,4 @@ pub mod AcceptedLaws
 pub mod EnoughJobs
 pub mod Places
 pub mod Stored
+pub mod SheetTables

@@ -1,8 +1,12 @@
 -- What the verdict of a stored reading says of the sheet.
+--     read-cases          a sheet is read or refused
+--     not-both-read       and not both
+--     same-read           it is accepted as one head and one list of jobs
 --     verdict-refused     refused: the sheet is refused for that fault
 --     verdict-accepted    accepted: the sheet has a head and jobs, and they are what is stored
 use Prim.Native.Nat.{ℕ}
 use mathlib.Core.Path.{_≡_, refl, sym, ap, _∙_}
+use mathlib.Core.Logic.{_⊎_, inl, inr}
 use mathlib.Core.List.{List}
 use native.Mathlib.Omega.{arith}
 use Rattle.fields.specs.declared.sheet.Head.{Head}
@@ -11,6 +15,16 @@ use Rattle.fields.specs.declared.sheet.Reading.{Reading}
 use Rattle.fields.specs.declared.fault.Fault.{Fault}
 use Rattle.fields.specs.declared.fault.Verdict.the-variants.{Accepted, Refused}
 use Rattle.frame.specs.Reading.{Read, accepted, refused, stored, sheetOf}
+
+pub read-cases : (r : Read) → ((f : Fault) × (r ≡ refused f)) ⊎ ((h : Head) × (js : List Job) × (r ≡ accepted h js))
+read-cases (refused f) = inl (f, refl)
+read-cases (accepted h js) = inr (h, js, refl)
+
+pub not-both-read : {r : Read} {f : Fault} {h : Head} {js : List Job} → r ≡ refused f → r ≡ accepted h js → ⊥
+not-both-read p q = let z : _≡_ {A = ℕ} 0 1 = cc in omega arith
+
+pub same-read : {r : Read} {h k : Head} {js is : List Job} → r ≡ accepted h js → r ≡ accepted k is → (h ≡ k) × (js ≡ is)
+same-read p q = (cc, cc)
 
 apart {ℓ} : {A : Type ℓ} {f : Fault} → Accepted ≡ Refused f → A
 apart e = let z : _≡_ {A = ℕ} 0 1 = cc in absurd (omega arith)

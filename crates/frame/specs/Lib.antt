@@ -3,3 +3,4 @@ pub mod Steps
 pub mod Writing
 pub mod Sound
 pub mod Frames
+pub mod Tables

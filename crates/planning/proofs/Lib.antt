@@ -1,4 +1,3 @@
-pub mod CompareRun
 pub mod PlanRun
 pub mod DayRun
 pub mod SheetDay

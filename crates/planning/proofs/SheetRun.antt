@@ -23,7 +23,9 @@ use Rattle.fields.specs.declared.fault.Fault.the-variants.{Table}
 use Rattle.fields.specs.declared.fault.Verdict.the-variants.{Accepted, Refused}
 use Rattle.fields.specs.Tests.{jobAt}
 use Rattle.frame.specs.Reading.{accepted, readSheet, stored, sheetOf}
+use Rattle.frame.specs.Tables.{Tables}
 use Rattle.frame.proofs.AcceptedLaws.{accepted-sound}
+use Rattle.frame.proofs.SheetTables.{tables-of}
 use Rattle.frame.proofs.Stored.{verdict-refused, verdict-accepted}
 use Rattle.algorithm.specs.Day.{dayOf, longJob}
 use Rattle.algorithm.specs.SoundDay.{SoundDay}
@@ -32,9 +34,7 @@ use Rattle.run.specs.StartArrays.{filled, Fields}
 use Rattle.run.proofs.FilledLaws.{getD-filled}
 use Rattle.planning.specs.declared.answer.Answer.{Answer as Given}
 use Rattle.planning.specs.declared.answer.Answer.the-variants.{Fault as GivenFault}
-use Rattle.planning.specs.CompareArrays.{Tables}
 use Rattle.planning.specs.Planner.{shortTables, answerFor, Answered}
-use Rattle.planning.proofs.CompareRun.{tables-of}
 use Rattle.planning.proofs.SheetDay.{sound-day, none-long}
 
 module _ (s : List ℕ) (h : Head) (js : List Job) (x : Sheet) (read : readSheet s ≡ accepted h js) (same : x ≡ sheetOf h js) where

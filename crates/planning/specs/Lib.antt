@@ -1,2 +1,1 @@
 pub mod Planner
-pub mod CompareArrays

@@ -1,4 +1,4 @@
-// The answers of the planner and of the comparison of plans.
+// The answers of the planner.
 use frame::Fault;
 
 // The three answers, or the first fault.
@@ -9,12 +9,5 @@ pub enum Answer {
     Long(usize),
     // A blocking set, bench b as the bit of weight 2 ^ (63 - b), and the moves made.
     None(u64, u64),
-    Fault(Fault),
-}
-
-// Whether two plans give every bench the same load, or the first fault.
-pub enum Compared {
-    Same,
-    Different,
     Fault(Fault),
 }

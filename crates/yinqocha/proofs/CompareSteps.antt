@@ -4,7 +4,7 @@
 --     same-word, different-word, fault-word     what is returned
 use Prim.Native.Nat.{ℕ, _≤_}
 use native.Mathlib.Omega.{arith}
-use mathlib.Core.Path.{_≡_, refl, sym, ap, ap₂, _∙_}
+use mathlib.Core.Path.{_≡_, sym, ap, ap₂, _∙_}
 use mathlib.Core.Logic.{_⊎_, inl, inr}
 use mathlib.Core.Bool.{false}
 use mathlib.Core.List.{List}
@@ -14,18 +14,15 @@ use borrow.Author.Tests.{ne-eqb}
 use Rattle.bools.proofs.BoolLaws.{and-false-left}
 use Rattle.bools.proofs.OrderLaws.{lt-or-le}
 use Rattle.fields.specs.declared.fault.Fault.{Fault}
-use Rattle.fields.specs.declared.sheet.Head.{Head}
-use Rattle.fields.specs.declared.sheet.Job.{Job}
 use Rattle.frame.specs.Reading.{readSheet}
 use Rattle.frame.proofs.AcceptedLaws.{accepted-sound}
+use Rattle.frame.proofs.Stored.{read-cases}
 use Rattle.algorithm.specs.Day.{Day, dayOf}
-use Rattle.planning.specs.declared.answer.Compared.{Compared}
-use Rattle.planning.specs.declared.answer.Compared.the-variants.{Same, Different, Fault as ComparedFault}
-use Rattle.planning.specs.Planner.{givesEach, comparePlans}
-use Rattle.planning.specs.CompareArrays.{comparedOf}
+use Rattle.comparison.specs.declared.compared.Compared.{Compared}
+use Rattle.comparison.specs.declared.compared.Compared.the-variants.{Same, Different, Fault as ComparedFault}
+use Rattle.comparison.specs.Comparison.{givesEach, comparedOf, comparePlans}
 use Rattle.tables.specs.Tables.{numbersOf}
 use Rattle.tables.specs.Words.{faultWord}
-use Rattle.blocking.proofs.ReadCases.{read-cases}
 use Rattle.door.specs.PlanDoor.{comparedWord}
 
 -- ── the first 513 entries ──

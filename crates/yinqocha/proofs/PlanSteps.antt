@@ -33,7 +33,7 @@ use Rattle.tables.specs.Words.{faultWord}
 use Rattle.tables.proofs.FrontSteps.{front-put}
 use Rattle.tables.proofs.NumberSteps.{put-nothing, fitting-all}
 use Rattle.door.specs.PlanDoor.{doorAnswer, Called}
-use Rattle.blocking.proofs.ReadCases.{read-cases}
+use Rattle.frame.proofs.Stored.{read-cases}
 use Rattle.door.proofs.AnswerLaws.{verdictOn, door-refused, door-read, answer-refused, answer-read}
 use Rattle.door.proofs.AnswerLaws.{isFault, roomy, sound-plan, places-used, loads-used}
 

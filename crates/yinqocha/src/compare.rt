@@ -1,7 +1,7 @@
 // Comparing two plans of a sheet, for C.
-use planning::Compared;
+use comparison::Compared;
 ghost use mathlib.Core.Path.{_≡_};
-ghost use Rattle.planning.specs.Planner.{comparePlans};
+ghost use Rattle.comparison.specs.Comparison.{comparePlans};
 ghost use Rattle.tables.specs.Tables.{numbersOf};
 ghost use Rattle.door.specs.PlanDoor.{comparedWord};
 
@@ -15,7 +15,7 @@ pub extern "C" fn yinqocha_compare(sheet: &[u8], first: &[u8], second: &[u8]) ->
     let two = tables::load(second);
     let xs = one.numbers;
     let ys = two.numbers;
-    match planning::compare(sheet, &xs[..one.count], &ys[..two.count]) {
+    match comparison::compare(sheet, &xs[..one.count], &ys[..two.count]) {
         Compared::Same => 1,
         Compared::Different => 0,
         Compared::Fault(f) => tables::fault_word(f),

@@ -2,8 +2,8 @@
 use mathlib.Core.Path.{ap₂, _∙_}
 use Rattle.run.specs.PushArrays.{hasAt}
 use borrow.Author.Needs.{needs}
-use Rattle.planning.proofs.comparison.fit.Statement.{statement}
-use Rattle.planning.proofs.comparison.fit.Tie as tie
+use Rattle.comparison.proofs.comparison.fit.Statement.{statement}
+use Rattle.comparison.proofs.comparison.fit.Tie as tie
 
 entry-requires : tie.Need-entry-requires
 entry-requires c κs = search needs

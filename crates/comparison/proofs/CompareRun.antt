@@ -4,11 +4,11 @@
 --     listed-loads              the loads of a list, from the tables filled with it
 --     same-sums                 where entries are sums, the same entries are the same sums
 --     gives-is, sums-fit, same-is     of the tables and of the day: a bench of each set, small sums, the same loads
---     first-faulty, second-faulty, found-same, found-different     the four answers for a sound sheet
+--     found-first-faulty, found-second-faulty, found-same, found-different     the four answers for a sound sheet
 --     refused-is, accepted-is   the answer for the bytes
 use Prim.Native.Nat.{ℕ, _+_, _*_, _≤_, _<_, _^_}
 use mathlib.Core.Path.{_≡_, refl, sym, ap, ap₂, _∙_}
-use mathlib.Core.Bool.{Bool, true, false, cond, not, _&&_}
+use mathlib.Core.Bool.{Bool, true, false, not, _&&_}
 use mathlib.Core.Logic.{inl, inr}
 use mathlib.Core.List.{List}
 use native.Mathlib.Omega.{arith}
@@ -24,25 +24,25 @@ use Rattle.sums.proofs.SumLaws.{on-le, sum-cong, sum-bound}
 use Rattle.bits.specs.Bits.{isSet}
 use Rattle.fields.specs.declared.sheet.Head.{Head}
 use Rattle.fields.specs.declared.sheet.Job.{Job}
-use Rattle.fields.specs.declared.sheet.Sheet.{Sheet}
 use Rattle.fields.specs.declared.sheet.Reading.{Reading}
 use Rattle.fields.specs.declared.fault.Fault.{Fault}
 use Rattle.fields.specs.declared.fault.Fault.the-variants.{Table}
 use Rattle.fields.specs.declared.fault.Verdict.the-variants.{Accepted, Refused}
 use Rattle.fields.specs.Tests.{jobAt}
-use Rattle.frame.specs.Reading.{accepted, readSheet, stored, sheetOf}
-use Rattle.frame.proofs.AcceptedLaws.{accepted-sound}
-use Rattle.frame.proofs.SheetArrays.{getD-padded}
+use Rattle.frame.specs.Reading.{readSheet, stored}
+use Rattle.frame.specs.Tables.{Tables}
+use Rattle.frame.proofs.SheetTables.{tables-of}
 use Rattle.frame.proofs.Stored.{verdict-refused, verdict-accepted}
 use Rattle.algorithm.specs.Day.{dayOf}
 use Rattle.algorithm.specs.Answer.{loadOf}
-use Rattle.planning.specs.declared.answer.Compared.{Compared}
-use Rattle.planning.specs.declared.answer.Compared.the-variants.{Same, Different, Fault as ComparedFault}
-use Rattle.planning.specs.Planner.{givesEach, sameLoads, comparePlans}
+use Rattle.comparison.specs.declared.compared.Compared.{Compared}
+use Rattle.comparison.specs.declared.compared.Compared.the-variants.{Same, Different, Fault as ComparedFault}
+use Rattle.comparison.specs.Comparison.{givesEach, sameLoads, comparedOf, comparePlans}
 use Rattle.run.specs.PushArrays.{hasAt}
 use Rattle.run.specs.Held.{amountOn}
 use Rattle.run.specs.StartArrays.{filled}
-use Rattle.planning.specs.CompareArrays.{minutesOn, comparedOf, Tables}
+use Rattle.comparison.specs.CompareArrays.{fitsAt, givesIn, minutesOn, loadIn, LoadsFit, sameIn}
+use Rattle.comparison.proofs.ComparedCases.{first-faulty, second-faulty, all-same, not-same}
 use Rattle.run.proofs.FilledLaws.{getD-filled}
 
 -- ── a search for an index that fails ──
@@ -98,25 +98,6 @@ pub same-sums : (n : ℕ) (one two : List ℕ) (f g : ℕ → ℕ) {r : Bool} �
 same-sums n one two f g p q e =
     e ∙ all-cong n (λ v. eqb (getD one v 0) (getD two v 0)) (λ v. eqb (f v) (g v)) (λ v h. ap₂ eqb (p v h) (q v h))
 
--- ── the answer ──
-
-module _ (a b c : Bool) where
-  -- By whether each list gives each job a bench, and whether the loads are the same.
-  abbrev answer : Compared
-  answer = cond a (cond b (cond c Same Different) (ComparedFault (Table 1))) (ComparedFault (Table 0))
-
-  faulty-first : a ≡ false → ComparedFault (Table 0) ≡ answer
-  faulty-first p = rw p
-
-  faulty-second : a ≡ true → b ≡ false → ComparedFault (Table 1) ≡ answer
-  faulty-second p q = rw (p, q)
-
-  both-given : a ≡ true → b ≡ true → c ≡ true → Same ≡ answer
-  both-given p q r = rw (p, q, r)
-
-  both-differ : a ≡ true → b ≡ true → c ≡ false → Different ≡ answer
-  both-differ p q r = rw (p, q, r)
-
 -- ── a sound sheet ──
 
 module _ (h : Head) (js : List Job) (benches jobs : ℕ) (minutes allowed : List ℕ) (T : Tables h js benches jobs minutes allowed) where
@@ -133,12 +114,12 @@ module _ (h : Head) (js : List Job) (benches jobs : ℕ) (minutes allowed : List
     ]
   ]
 
-  pub gives-is : (list : List ℕ)
-      → (eqb (length list) jobs && all jobs (λ j. hasAt (getD allowed j 0) (getD list j 0))) ≡ givesEach (dayOf h js) list
+  pub gives-is : (list : List ℕ) → givesIn jobs allowed list ≡ givesEach (dayOf h js) list
   gives-is list =
-      ap (λ (n : ℕ). eqb (length list) n && all n (λ j. hasAt (getD allowed j 0) (getD list j 0))) (T .jobs-are)
+      ap (λ (n : ℕ). givesIn n allowed list) (T .jobs-are)
       ∙ ap (λ (b : Bool). eqb (length list) (length js) && b)
-      (all-cong (length js) (λ j. hasAt (getD allowed j 0) (getD list j 0)) (λ j. dayOf h js .allows j (getD list j 0)) (λ j l. has-is j (getD list j 0) l))
+      (all-cong (length js) (fitsAt allowed list) (λ j. dayOf h js .allows j (getD list j 0))
+      (λ j l. has-is j (getD list j 0) l))
 
   pub few-jobs : jobs ≤ 512
   few-jobs = omega (arith, T .jobs-are, T .sound .at-most-512-jobs)
@@ -146,9 +127,9 @@ module _ (h : Head) (js : List Job) (benches jobs : ℕ) (minutes allowed : List
   pub few-benches : benches ≤ 64
   few-benches = omega (arith, T .benches-are, T .sound .head .at-most-64-benches)
 
-  pub sums-fit : (list : List ℕ) (v : ℕ) → sum jobs (minutesOn minutes list v) < 2 ^ 63
+  pub sums-fit : LoadsFit jobs minutes
   sums-fit list v =
-      let each : sum jobs (minutesOn minutes list v) ≤ jobs * 1048576 =
+      let each : loadIn jobs minutes list v ≤ jobs * 1048576 =
       sum-bound jobs 1048576 (minutesOn minutes list v)
       (λ j l.
       let in-list : j < length js = omega (arith, T .jobs-are) in
@@ -156,7 +137,7 @@ module _ (h : Head) (js : List Job) (benches jobs : ℕ) (minutes allowed : List
       let few = few-jobs in
       omega arith
 
-  load-is : (list : List ℕ) (v : ℕ) → sum jobs (minutesOn minutes list v) ≡ loadOf (dayOf h js) list v
+  load-is : (list : List ℕ) (v : ℕ) → loadIn jobs minutes list v ≡ loadOf (dayOf h js) list v
   load-is list v =
       let same : sum (length js) (minutesOn minutes list v) ≡ sum (length js) (λ j. on (eqb (getD list j 0) v) (jobAt js j .minutes)) =
       sum-cong (length js) (minutesOn minutes list v) (λ j. on (eqb (getD list j 0) v) (jobAt js j .minutes))
@@ -164,60 +145,49 @@ module _ (h : Head) (js : List Job) (benches jobs : ℕ) (minutes allowed : List
       ap (λ (n : ℕ). sum n (minutesOn minutes list v)) (T .jobs-are) ∙ omega (arith, same)
 
   pub same-is : (first second : List ℕ)
-      → all benches (λ v. eqb (sum jobs (minutesOn minutes first v)) (sum jobs (minutesOn minutes second v))) ≡ sameLoads (dayOf h js) first second
+      → sameIn benches jobs minutes first second ≡ sameLoads (dayOf h js) first second
   same-is first second =
-      ap (λ (n : ℕ). all n (λ v. eqb (sum jobs (minutesOn minutes first v)) (sum jobs (minutesOn minutes second v)))) (T .benches-are)
-      ∙ all-cong (h .benches) (λ v. eqb (sum jobs (minutesOn minutes first v)) (sum jobs (minutesOn minutes second v)))
+      ap (λ (n : ℕ). sameIn n jobs minutes first second) (T .benches-are)
+      ∙ all-cong (h .benches) (λ v. eqb (loadIn jobs minutes first v) (loadIn jobs minutes second v))
       (λ v. eqb (loadOf (dayOf h js) first v) (loadOf (dayOf h js) second v))
       (λ v l. ap₂ eqb (load-is first v) (load-is second v))
 
   -- What the calls find: whether each list gives each job a bench, and whether the loads are the same.
-  module _ (first second : List ℕ) {t : Bool} (e : t ≡ (eqb (length first) jobs && all jobs (λ j. hasAt (getD allowed j 0) (getD first j 0)))) where
-    pub first-faulty : not t ≡ true → ComparedFault (Table 0) ≡ comparedOf (dayOf h js) first second
-    first-faulty n =
-        faulty-first (givesEach (dayOf h js) first) (givesEach (dayOf h js) second) (sameLoads (dayOf h js) first second)
-        (sym (e ∙ gives-is first) ∙ not-true t n)
+  module _ (first second : List ℕ) {t : Bool} (e : t ≡ givesIn jobs allowed first) where
+    abbrev a : Bool
+    a = givesEach (dayOf h js) first
 
-    module _ (n : not t ≡ false) {u : Bool} (f : u ≡ (eqb (length second) jobs && all jobs (λ j. hasAt (getD allowed j 0) (getD second j 0)))) where
-      given-first : givesEach (dayOf h js) first ≡ true
+    abbrev b : Bool
+    b = givesEach (dayOf h js) second
+
+    abbrev c : Bool
+    c = sameLoads (dayOf h js) first second
+
+    pub found-first-faulty : not t ≡ true → ComparedFault (Table 0) ≡ comparedOf (dayOf h js) first second
+    found-first-faulty n = sym (first-faulty a b c (sym (e ∙ gives-is first) ∙ not-true t n))
+
+    module _ (n : not t ≡ false) {u : Bool} (f : u ≡ givesIn jobs allowed second) where
+      given-first : a ≡ true
       given-first = sym (e ∙ gives-is first) ∙ not-false t n
 
-      pub second-faulty : not u ≡ true → ComparedFault (Table 1) ≡ comparedOf (dayOf h js) first second
-      second-faulty m =
-          faulty-second (givesEach (dayOf h js) first) (givesEach (dayOf h js) second) (sameLoads (dayOf h js) first second)
-          given-first (sym (f ∙ gives-is second) ∙ not-true u m)
+      pub found-second-faulty : not u ≡ true → ComparedFault (Table 1) ≡ comparedOf (dayOf h js) first second
+      found-second-faulty m = sym (second-faulty a b c given-first (sym (f ∙ gives-is second) ∙ not-true u m))
 
       module _ (m : not u ≡ false) {w : Bool}
-          (g : jobs ≤ 512 → benches ≤ 64 → ((list : List ℕ) → (v : ℕ) → sum jobs (minutesOn minutes list v) < 2 ^ 63)
-          → w ≡ all benches (λ v. eqb (sum jobs (minutesOn minutes first v)) (sum jobs (minutesOn minutes second v)))) where
-        given-second : givesEach (dayOf h js) second ≡ true
+          (g : jobs ≤ 512 → benches ≤ 64 → LoadsFit jobs minutes → w ≡ sameIn benches jobs minutes first second) where
+        given-second : b ≡ true
         given-second = sym (f ∙ gives-is second) ∙ not-false u m
 
-        same-found : w ≡ sameLoads (dayOf h js) first second
+        same-found : w ≡ c
         same-found = g few-jobs few-benches sums-fit ∙ same-is first second
 
         pub found-same : w ≡ true → Same ≡ comparedOf (dayOf h js) first second
-        found-same p =
-            both-given (givesEach (dayOf h js) first) (givesEach (dayOf h js) second) (sameLoads (dayOf h js) first second)
-            given-first given-second (sym same-found ∙ p)
+        found-same p = sym (all-same a b c given-first given-second (sym same-found ∙ p))
 
         pub found-different : w ≡ false → Different ≡ comparedOf (dayOf h js) first second
-        found-different p =
-            both-differ (givesEach (dayOf h js) first) (givesEach (dayOf h js) second) (sameLoads (dayOf h js) first second)
-            given-first given-second (sym same-found ∙ p)
+        found-different p = sym (not-same a b c given-first given-second (sym same-found ∙ p))
 
 -- ── the bytes ──
-
-pub tables-of : (s : List ℕ) (h : Head) (js : List Job) (x : Sheet) → readSheet s ≡ accepted h js → x ≡ sheetOf h js
-    → Tables h js (x .head .benches) (x .count) (x .minutes) (x .allowed)
-tables-of s h js x e same =
-    record {
-      sound = accepted-sound s h js e;
-      benches-are = ap (λ (y : Sheet). y .head .benches) same;
-      jobs-are = ap (λ (y : Sheet). y .count) same;
-      minutes-are = λ j l. ap (λ (y : Sheet). getD (y .minutes) j 0) same ∙ getD-padded (λ k. k .minutes) refl js j l;
-      allowed-are = λ j l. ap (λ (y : Sheet). getD (y .allowed) j 0) same ∙ getD-padded (λ k. k .allowed) refl js j l;
-    }
 
 module _ (s first second : List ℕ) where
   pub refused-is : {x : Reading} {f : Fault} → x ≡ stored (readSheet s) → x .verdict ≡ Refused f → ComparedFault f ≡ comparePlans s first second

@@ -1,25 +1,23 @@
 // The comparison of two plans of a sheet.
-use crate::answer::Compared;
+use crate::compared::Compared;
 use frame::Fault;
 use frame::Verdict;
 ghost use mathlib.Core.Path.{_≡_};
-ghost use Prim.Native.Nat.{ℕ, _≤_, _<_, _^_};
+ghost use Prim.Native.Nat.{_≤_};
 ghost use mathlib.Core.List.{List};
-ghost use mathlib.Core.Bool.{_&&_};
-ghost use lib.ListN.{length, getD};
+ghost use lib.ListN.{getD};
 ghost use lib.Dec.{eqb};
-ghost use Rattle.sums.specs.Sum.{sum};
 ghost use Rattle.sums.specs.Search.{all};
 ghost use Rattle.fields.specs.declared.sheet.Head.{Head};
 ghost use Rattle.fields.specs.declared.sheet.Job.{Job};
+ghost use Rattle.frame.specs.Tables.{Tables};
 ghost use Rattle.algorithm.specs.Day.{dayOf};
-ghost use Rattle.run.specs.PushArrays.{hasAt};
-ghost use Rattle.planning.specs.Planner.{comparePlans};
-ghost use Rattle.planning.specs.CompareArrays.{minutesOn, comparedOf, Tables};
+ghost use Rattle.comparison.specs.Comparison.{comparedOf, comparePlans};
+ghost use Rattle.comparison.specs.CompareArrays.{fitsAt, givesIn, Loads, LoadsFit, sameIn};
 
 // Whether job j's bench in the list is one of its set.
 fn fit<'a>(allowed: &'a [u64], list: &'a [u64], j: usize) -> bool
-    ensures { λ r. ⌜ r ≡ hasAt (getD (now (allowed .entry)) j 0) (getD (now (list .entry)) j 0) ⌝ }
+    ensures { λ r. ⌜ r ≡ fitsAt (now (allowed .entry)) (now (list .entry)) j ⌝ }
 {
     let set = run::entry(allowed, j) as usize;
     let v = run::entry(list, j) as usize;
@@ -28,7 +26,7 @@ fn fit<'a>(allowed: &'a [u64], list: &'a [u64], j: usize) -> bool
 
 // Whether each job's bench in the list is one of its set.
 fn fit_all<'a>(jobs: usize, allowed: &'a [u64], list: &'a [u64]) -> bool
-    ensures { λ r. ⌜ r ≡ all jobs (λ j. hasAt (getD (now (allowed .entry)) j 0) (getD (now (list .entry)) j 0)) ⌝ }
+    ensures { λ r. ⌜ r ≡ all jobs (fitsAt (now (allowed .entry)) (now (list .entry))) ⌝ }
 {
     let mut j = 0;
     while j < jobs {
@@ -42,7 +40,7 @@ fn fit_all<'a>(jobs: usize, allowed: &'a [u64], list: &'a [u64]) -> bool
 
 // Whether the list gives each job one bench of its set.
 fn gives_each<'a>(jobs: usize, allowed: &'a [u64], list: &'a [u64]) -> bool
-    ensures { λ r. ⌜ r ≡ (eqb (length (now (list .entry))) jobs && all jobs (λ j. hasAt (getD (now (allowed .entry)) j 0) (getD (now (list .entry)) j 0))) ⌝ }
+    ensures { λ r. ⌜ r ≡ givesIn jobs (now (allowed .entry)) (now (list .entry)) ⌝ }
 {
     if list.len() != jobs {
         return false;
@@ -52,7 +50,7 @@ fn gives_each<'a>(jobs: usize, allowed: &'a [u64], list: &'a [u64]) -> bool
 
 // Entry v: the minutes of the jobs that the list puts on bench v.
 fn list_loads<'a>(jobs: usize, minutes: &'a [u64], list: &'a [u64]) -> [usize; 64]
-    ensures { λ r. ⌜ (jobs ≤ 512 → (v : ℕ) → v < 64 → sum jobs (minutesOn (now (minutes .entry)) (now (list .entry)) v) < 2 ^ 63 → getD r v 0 ≡ sum jobs (minutesOn (now (minutes .entry)) (now (list .entry)) v)) ⌝ }
+    ensures { λ r. ⌜ (jobs ≤ 512 → Loads jobs (now (minutes .entry)) (now (list .entry)) r) ⌝ }
 {
     let nothing = [false; 512];
     let mut amount = [0usize; 512];
@@ -86,7 +84,8 @@ fn same_loads<'a>(
     first: &'a [u64],
     second: &'a [u64],
 ) -> bool
-    ensures { λ r. ⌜ (jobs ≤ 512 → benches ≤ 64 → ((list : List ℕ) → (v : ℕ) → sum jobs (minutesOn (now (minutes .entry)) list v) < 2 ^ 63) → r ≡ all benches (λ v. eqb (sum jobs (minutesOn (now (minutes .entry)) (now (first .entry)) v)) (sum jobs (minutesOn (now (minutes .entry)) (now (second .entry)) v)))) ⌝ }
+    ensures { λ r. ⌜ (jobs ≤ 512 → benches ≤ 64 → LoadsFit jobs (now (minutes .entry))
+        → r ≡ sameIn benches jobs (now (minutes .entry)) (now (first .entry)) (now (second .entry))) ⌝ }
 {
     let one = list_loads(jobs, minutes, first);
     let two = list_loads(jobs, minutes, second);
@@ -102,7 +101,9 @@ fn compare_lists<'a>(
     first: &'a [u64],
     second: &'a [u64],
 ) -> Compared
-    ensures { λ r. ⌜ ((h : Head) → (js : List Job) → Tables h js benches jobs (now (minutes .entry)) (now (allowed .entry)) → r ≡ comparedOf (dayOf h js) (now (first .entry)) (now (second .entry))) ⌝ }
+    ensures { λ r. ⌜ ((h : Head) → (js : List Job)
+        → Tables h js benches jobs (now (minutes .entry)) (now (allowed .entry))
+        → r ≡ comparedOf (dayOf h js) (now (first .entry)) (now (second .entry))) ⌝ }
 {
     if !gives_each(jobs, allowed, first) {
         return Compared::Fault(Fault::Table(0));

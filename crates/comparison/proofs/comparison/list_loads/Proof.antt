@@ -1,8 +1,8 @@
 -- The tables are filled with the minutes and the list.
-use Rattle.planning.proofs.CompareRun.{listed-loads}
+use Rattle.comparison.proofs.CompareRun.{listed-loads}
 use borrow.Author.Needs.{needs}
-use Rattle.planning.proofs.comparison.list_loads.Statement.{statement}
-use Rattle.planning.proofs.comparison.list_loads.Tie as tie
+use Rattle.comparison.proofs.comparison.list_loads.Statement.{statement}
+use Rattle.comparison.proofs.comparison.list_loads.Tie as tie
 
 slice-aggregate-narrow : tie.Need-slice-aggregate-narrow
 slice-aggregate-narrow c = search needs
@@ -32,7 +32,12 @@ own-loads-requires : tie.Need-own-loads-requires
 own-loads-requires c κs = search needs
 
 returns : tie.Need-returns
-returns c = λ few. listed-loads 512 (c .before .before .before .before .before .before .before .before .before .before .before .before .before .before .args .jobs) (c .before .before .before .before .before .before .before .before .before .before .before .before .before .before .args .minutes .now) (c .before .before .before .before .before .before .before .before .before .before .before .before .before .before .args .list .now) few (c .before .before .before .before .before .before .before .before .before .before .narrow .ensures) (c .before .before .before .before .before .before .before .narrow2 .ensures) 64 (c .before .own-loads .last .1 .1 .1 .1 .0) (c .before .own-loads .ensures)
+returns c =
+    let second = c .before .before .before .before .before .before .before in
+    let first = second .before .before .before in
+    let x = first .before .before .before .before .args in
+    λ few. listed-loads 512 (x .jobs) (x .minutes .now) (x .list .now) few (first .narrow .ensures) (second .narrow2 .ensures) 64
+    (c .before .own-loads .last .1 .1 .1 .1 .0) (c .before .own-loads .ensures)
 
 pub list-loads-spec : {M : Type 1} → statement M
 list-loads-spec =

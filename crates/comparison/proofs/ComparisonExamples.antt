@@ -1,0 +1,87 @@
+-- The comparison computed on a small sheet, from its bytes: two benches, share 4/7, T = 9, two jobs of 5 on both.
+--     swapped-same          each job on a bench of its own, either way: same
+--     moved-different       one job moved to the other: different
+--     largest-different     all on bench 0, or all on bench 1: the same largest load, and yet different
+--     short-first, foreign-first, long-first      the first list lacks a job, has a bench that the head lacks, or has
+--                           an entry too many: place 0
+--     short-second, foreign-second, long-second   the second list is so: place 1
+--     both-bad              both are so: place 0
+use Prim.Native.Nat.{ℕ, zero, suc, _<_, _^_}
+use mathlib.Core.Path.{_≡_, refl}
+use mathlib.Core.List.{List, [], _∷_}
+use native.Mathlib.Omega.{arith}
+use lib.ListN.{length}
+use Rattle.bits.specs.Bits.{isSet}
+use Rattle.fields.specs.declared.sheet.Head.{Head}
+use Rattle.fields.specs.declared.sheet.Job.{Job}
+use Rattle.fields.specs.declared.fault.Fault.the-variants.{Table}
+use Rattle.fields.specs.declared.fault.Verdict.the-variants.{Accepted}
+use Rattle.fields.specs.Tests.{jobAt, hyperEdgeVerdict}
+use Rattle.fields.specs.Format.{sheetBytes}
+use Rattle.frame.specs.Writing.{jobsVerdict, writerVerdict}
+use Rattle.frame.specs.Reading.{accepted, readSheet}
+use Rattle.frame.proofs.RoundTrip.{write-read}
+use Rattle.algorithm.specs.Examples.{bay, both}
+use Rattle.comparison.specs.declared.compared.Compared.the-variants.{Same, Different, Fault as ComparedFault}
+use Rattle.comparison.specs.Comparison.{comparePlans}
+
+abbrev head : Head
+head = bay 2 4 7 9
+
+abbrev jobs : List Job
+jobs = both 5 ∷ both 5 ∷ []
+
+abbrev sheet : List ℕ
+sheet = sheetBytes head jobs
+
+taken : writerVerdict head jobs ≡ Accepted
+unfolding isSet hyperEdgeVerdict jobsVerdict writerVerdict
+taken = refl
+
+fits : (i : ℕ) → i < length jobs → jobAt jobs i .allowed < 2 ^ 64
+fits zero h = omega arith
+fits (suc zero) h = omega arith
+fits (suc (suc i)) h = absurd (omega arith)
+
+pub read : readSheet sheet ≡ accepted head jobs
+read = write-read head jobs taken fits
+
+pub swapped-same : comparePlans sheet (0 ∷ 1 ∷ []) (1 ∷ 0 ∷ []) ≡ Same
+unfolding comparePlans isSet
+swapped-same = rw (read, comparePlans) refl
+
+pub moved-different : comparePlans sheet (0 ∷ 1 ∷ []) (0 ∷ 0 ∷ []) ≡ Different
+unfolding comparePlans isSet
+moved-different = rw (read, comparePlans) refl
+
+pub largest-different : comparePlans sheet (0 ∷ 0 ∷ []) (1 ∷ 1 ∷ []) ≡ Different
+unfolding comparePlans isSet
+largest-different = rw (read, comparePlans) refl
+
+pub short-first : comparePlans sheet (0 ∷ []) (0 ∷ 1 ∷ []) ≡ ComparedFault (Table 0)
+unfolding comparePlans isSet
+short-first = rw (read, comparePlans) refl
+
+pub foreign-first : comparePlans sheet (0 ∷ 2 ∷ []) (0 ∷ 1 ∷ []) ≡ ComparedFault (Table 0)
+unfolding comparePlans isSet
+foreign-first = rw (read, comparePlans) refl
+
+pub long-first : comparePlans sheet (0 ∷ 1 ∷ 0 ∷ []) (0 ∷ 1 ∷ []) ≡ ComparedFault (Table 0)
+unfolding comparePlans isSet
+long-first = rw (read, comparePlans) refl
+
+pub short-second : comparePlans sheet (0 ∷ 1 ∷ []) (0 ∷ []) ≡ ComparedFault (Table 1)
+unfolding comparePlans isSet
+short-second = rw (read, comparePlans) refl
+
+pub foreign-second : comparePlans sheet (0 ∷ 1 ∷ []) (0 ∷ 2 ∷ []) ≡ ComparedFault (Table 1)
+unfolding comparePlans isSet
+foreign-second = rw (read, comparePlans) refl
+
+pub long-second : comparePlans sheet (0 ∷ 1 ∷ []) (0 ∷ 1 ∷ 0 ∷ []) ≡ ComparedFault (Table 1)
+unfolding comparePlans isSet
+long-second = rw (read, comparePlans) refl
+
+pub both-bad : comparePlans sheet (0 ∷ []) (0 ∷ 2 ∷ []) ≡ ComparedFault (Table 0)
+unfolding comparePlans isSet
+both-bad = rw (read, comparePlans) refl

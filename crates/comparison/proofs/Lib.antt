@@ -1,0 +1,4 @@
+pub mod ComparisonExamples
+pub mod ComparedCases
+pub mod ComparisonLaws
+pub mod CompareRun
