@@ -2,7 +2,9 @@
 --     answer-cases        the answer to a sheet is a fault, or one of the three answers and right for the sheet
 --     printed-text        the lines of the answer, and of the places that the table has after it
 --     printed-size        the lines of any sheet fit 32,768 bytes
---     printed-whole       bytes equal to them at the front of a buffer, and the whole of them where it has that length
+--     text-printed        a buffer of that length has the whole of them
+--     prints-read         sheets that are read alike have the same lines
+--     printed-within      they lie within their buffer
 use Prim.Native.Nat.{ℕ, _+_, _*_, _^_, _≤_, _<_, min}
 use native.Mathlib.Omega.{arith}
 use native.Mathlib.Nat.{mul-le-mul-right}
@@ -10,8 +12,8 @@ use mathlib.Core.Path.{_≡_, refl, sym, ap, ap₂, subst, _∙_}
 use mathlib.Core.Bool.{true, _&&_}
 use mathlib.Core.Logic.{inl, inr}
 use mathlib.Core.List.{List, [], _++_}
-use lib.ListN.{length, getD, take, drop}
-use lib.Seq.{take-at, take-take, take-append-seam}
+use lib.ListN.{length, getD, take, drop, length-take}
+use lib.Seq.{take-all, take-at, take-take, take-append-seam}
 use lib.Dec.{leb}
 use borrow.Author.Tests.{leb-true, ltb-true}
 use Rattle.bools.proofs.BoolLaws.{split, and-left}
@@ -35,7 +37,7 @@ use Rattle.blocking.proofs.Theorems.{whole-claim}
 use Rattle.lines.specs.Buffer.{Front}
 use Rattle.lines.specs.Lines.{linesOf}
 use Rattle.lines.proofs.TextSize.{text-size}
-use Rattle.bay.specs.Printed.{jobPlaces, printedLines}
+use Rattle.bay.specs.Printed.{jobPlaces, printedLines, Prints}
 
 -- ── the answer to a sheet ──
 
@@ -133,19 +135,36 @@ pub printed-size : (s : List ℕ) → length (printedLines s) ≤ 32768
 unfolding printedLines
 printed-size s = found-size s (answer-cases s)
 
--- A buffer that is long enough has the whole text.
-whole-text : {out after : List ℕ} {r : ℕ} (s : List ℕ) → Front out (printedLines s) after r → 32768 ≤ length out
-    → (r ≡ length (printedLines s)) × (take r after ≡ printedLines s)
-whole-text {out} {after} {r} s f room =
-    let lines = printedLines s in
-    let end : r ≡ length lines = omega (arith, f .end, printed-size s) in (
-      end,
-      ap (λ (k : ℕ). take k after) end ∙ ap (take (length lines)) (f .bytes) ∙ take-take (length lines) (length out) (lines ++ drop (length lines) out) (omega (arith, printed-size s))
-          ∙ take-append-seam lines (drop (length lines) out),
-    )
+-- ── what is printed ──
 
-pub printed-whole : {out after xs : List ℕ} {r : ℕ} (s : List ℕ) → xs ≡ printedLines s → Front out xs after r
-    → (Front out (printedLines s) after r) × (32768 ≤ length out → (r ≡ length (printedLines s)) × (take r after ≡ printedLines s))
-printed-whole {out} {after} {xs} {r} s e f =
+-- A buffer of 32,768 bytes has the whole text.
+pub text-printed : {out after xs : List ℕ} {r : ℕ} (s : List ℕ) → xs ≡ printedLines s → Front out xs after r → 32768 ≤ length out → Prints s after r
+text-printed {out} {after} {xs} {r} s e f room =
+    let lines = printedLines s in
     let front = subst (λ (ys : List ℕ). Front out ys after r) e f in
-    (front, whole-text s front)
+    let end : r ≡ length lines = omega (arith, front .end, printed-size s) in
+    record {
+      end = end;
+      bytes = ap (λ (k : ℕ). take k after) end
+          ∙ ap (take (length lines)) (front .bytes)
+          ∙ take-take (length lines) (length out) (lines ++ drop (length lines) out) (omega (arith, printed-size s))
+          ∙ take-append-seam lines (drop (length lines) out);
+    }
+
+answer-read : (s s′ : List ℕ) (np nl : ℕ) → readSheet s ≡ readSheet s′ → answerFor s np nl ≡ answerFor s′ np nl
+unfolding answerFor
+answer-read s s′ np nl e = rw (e, answerFor)
+
+-- Sheets that are read alike have the same text.
+pub prints-read : {s s′ out : List ℕ} {r : ℕ} → readSheet s ≡ readSheet s′ → Prints s out r → Prints s′ out r
+unfolding printedLines
+prints-read {s} {s′} {out} {r} e p =
+    let same : printedLines s ≡ printedLines s′ = ap (λ (a : Answer). linesOf (given a) (jobPlaces a)) (answer-read s s′ 512 64 e) in
+    record { end = p .end ∙ ap length same; bytes = p .bytes ∙ same }
+
+-- What is printed lies within its buffer: the input can be the bytes that were read.
+pub printed-within : (buffer : List ℕ) (n : ℕ) {out : List ℕ} {r : ℕ} → ((s : List ℕ) → take n buffer ≡ take (length buffer) s → Prints s out r)
+    → r ≤ length out
+printed-within buffer n {out} {r} prints =
+    let p = prints (take n buffer) (sym (take-all (length buffer) (take n buffer) (omega (arith, length-take n buffer)))) in
+    omega (arith, p .end, ap length (p .bytes), length-take r out)

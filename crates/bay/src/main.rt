@@ -1,26 +1,41 @@
 // Plans the day of a sheet that is read from standard input, and prints the answer.
 ghost use mathlib.Core.Path.{_≡_};
-ghost use Prim.Native.Nat.{_≤_, min};
+ghost use mathlib.Core.List.{List};
+ghost use Prim.Native.Nat.{ℕ, min};
 ghost use lib.ListN.{length, take};
 ghost use Rattle.frame.specs.Reading.{readSheet, stored};
-ghost use Rattle.lines.specs.Buffer.{Front};
-ghost use Rattle.bay.specs.Printed.{printedLines};
+ghost use Rattle.bay.specs.Printed.{Prints};
+
+// One byte more than a sheet may have, so that fault 1 can be seen.
+const SHEET_ROOM: usize = 65537;
+
+// Room for the longest text of 512 jobs.
+const TEXT_ROOM: usize = 32768;
 
 fn main() {
-    // One byte more than a sheet may have, so that fault 1 can be seen.
-    let mut sheet = [0u8; 65537];
-    let n = io::read_full(0, &mut sheet);
-    // Room for the longest text of 512 jobs.
-    let mut out = [0u8; 32768];
-    let k = printed(&sheet[..n], &mut out);
-    io::write_all(1, &out[..k]);
+    let mut buffer = [0u8; SHEET_ROOM];
+    let n = io::read_full(0, &mut buffer);
+    let mut out = [0u8; TEXT_ROOM];
+    let end = printed(n, &buffer, &mut out);
+    io::write_all(1, &out[..end]);
+}
+
+// Writes the text for the whole input s to the front of `out`, and returns its length,
+// if the buffer's first n bytes are those of s, as far as the buffer has room.
+fn printed(n: usize, buffer: &[u8; SHEET_ROOM], out: &mut [u8; TEXT_ROOM]) -> usize
+    ensures { λ r. ⌜ ((s : List ℕ) → take n (now (buffer .entry)) ≡ take (length (now (buffer .entry))) s
+        → Prints s (now (out .exit)) r) ⌝ }
+{
+    let whole: &[u8] = buffer;
+    if n < whole.len() {
+        return text_of(&whole[..n], out);
+    }
+    text_of(whole, out)
 }
 
 // Writes the text of the answer to a sheet to the front of `out`, and returns its length.
-// A buffer of 32,768 bytes is long enough for the whole text of any sheet.
-fn printed(s: &[u8], out: &mut [u8]) -> usize
-    ensures text { λ r. ⌜ Front (now (out .entry)) (printedLines (now (s .entry))) (now (out .exit)) r ⌝ }
-    ensures whole { λ r. ⌜ (32768 ≤ length (now (out .entry)) → (r ≡ length (printedLines (now (s .entry)))) × (take r (now (out .exit)) ≡ printedLines (now (s .entry)))) ⌝ }
+fn text_of(s: &[u8], out: &mut [u8; TEXT_ROOM]) -> usize
+    ensures { λ r. ⌜ Prints (now (s .entry)) (now (out .exit)) r ⌝ }
 {
     let mut places = [0u64; 512];
     let mut loads = [0u64; 64];

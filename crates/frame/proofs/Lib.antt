@@ -5,6 +5,7 @@ pub mod StageLaws
 pub mod WholeFrames
 pub mod ForeignFrames
 pub mod FirstFault
+pub mod ReadPrefix
 pub mod HyperEdges
 pub mod SheetArrays
 pub mod JudgeLaws

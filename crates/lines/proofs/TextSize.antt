@@ -17,7 +17,7 @@ use Rattle.bits.specs.Bits.{isSet}
 use Rattle.fields.specs.Numbers.{numberOf, placeOf}
 use Rattle.planning.specs.declared.answer.Answer.{Answer}
 use Rattle.planning.specs.declared.answer.Answer.the-variants.{Plan, Long, None, Fault}
-use Rattle.lines.specs.Lines.{digits, newline, spaced, line, jobLines, planWord, longWord, noneWord, faultWord, linesOf}
+use Rattle.lines.specs.Lines.{digits, newline, spaced, line, jobLines, planLetters, longLetters, noneLetters, faultLetters, linesOf}
 use Rattle.lines.proofs.DigitLaws.{digits-small, digits-more}
 use Rattle.lines.proofs.LineSteps.{spaced-append}
 
@@ -92,19 +92,19 @@ unfolding linesOf
 text-size (Plan largest moves) places (l, m) h narrow =
     omega (
       arith,
-      length-append (line (planWord ∷ digits largest ∷ digits moves ∷ [])) (jobLines (length places) places),
+      length-append (line (planLetters ∷ digits largest ∷ digits moves ∷ [])) (jobLines (length places) places),
       jobs-size (length places) places h narrow,
-      length-line planWord (digits largest ∷ digits moves ∷ []),
+      length-line planLetters (digits largest ∷ digits moves ∷ []),
       length-spaced (digits largest) (digits moves ∷ []),
       length-one (digits moves),
       length-digits 19 largest l,
       length-digits 19 moves m,
     )
-text-size (Long job) places l h narrow = omega (arith, length-two longWord (digits job), length-digits 19 job l)
+text-size (Long job) places l h narrow = omega (arith, length-two longLetters (digits job), length-digits 19 job l)
 text-size (None set moves) places l h narrow =
     omega (
       arith,
-      length-line noneWord (digits moves ∷ map digits (members 64 (isSet 64 set))),
+      length-line noneLetters (digits moves ∷ map digits (members 64 (isSet 64 set))),
       length-spaced (digits moves) (map digits (members 64 (isSet 64 set))),
       benches-size (isSet 64 set) 64 (omega arith),
       length-digits 19 moves l,
@@ -112,7 +112,7 @@ text-size (None set moves) places l h narrow =
 text-size (Fault f) places (l, m) h narrow =
     omega (
       arith,
-      length-line faultWord (digits (numberOf f) ∷ digits (placeOf f) ∷ []),
+      length-line faultLetters (digits (numberOf f) ∷ digits (placeOf f) ∷ []),
       length-spaced (digits (numberOf f)) (digits (placeOf f) ∷ []),
       length-one (digits (placeOf f)),
       length-digits 19 (numberOf f) l,

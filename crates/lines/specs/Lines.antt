@@ -45,22 +45,22 @@ unfoldable pub jobLines : ℕ → List ℕ → List ℕ
 jobLines zero places = []
 jobLines (suc n) places = jobLines n places ++ line (digits n ∷ digits (getD places n 0) ∷ [])
 
--- The words `plan`, `long`, `none` and `fault`.
-abbrev pub planWord : List ℕ
-planWord = 112 ∷ 108 ∷ 97 ∷ 110 ∷ []
+-- The letters of the words `plan`, `long`, `none` and `fault`.
+abbrev pub planLetters : List ℕ
+planLetters = 112 ∷ 108 ∷ 97 ∷ 110 ∷ []
 
-abbrev pub longWord : List ℕ
-longWord = 108 ∷ 111 ∷ 110 ∷ 103 ∷ []
+abbrev pub longLetters : List ℕ
+longLetters = 108 ∷ 111 ∷ 110 ∷ 103 ∷ []
 
-abbrev pub noneWord : List ℕ
-noneWord = 110 ∷ 111 ∷ 110 ∷ 101 ∷ []
+abbrev pub noneLetters : List ℕ
+noneLetters = 110 ∷ 111 ∷ 110 ∷ 101 ∷ []
 
-abbrev pub faultWord : List ℕ
-faultWord = 102 ∷ 97 ∷ 117 ∷ 108 ∷ 116 ∷ []
+abbrev pub faultLetters : List ℕ
+faultLetters = 102 ∷ 97 ∷ 117 ∷ 108 ∷ 116 ∷ []
 
 -- "`plan 5 0` (largest load, moves) .. Else one line: `long` and the job; `none`, the moves and the benches rising; `fault`, number and place."
 unfoldable pub linesOf : Answer → List ℕ → List ℕ
-linesOf (Plan largest moves) places = line (planWord ∷ digits largest ∷ digits moves ∷ []) ++ jobLines (length places) places
-linesOf (Long job) places = line (longWord ∷ digits job ∷ [])
-linesOf (None set moves) places = line (noneWord ∷ digits moves ∷ map digits (members 64 (isSet 64 set)))
-linesOf (Fault f) places = line (faultWord ∷ digits (numberOf f) ∷ digits (placeOf f) ∷ [])
+linesOf (Plan largest moves) places = line (planLetters ∷ digits largest ∷ digits moves ∷ []) ++ jobLines (length places) places
+linesOf (Long job) places = line (longLetters ∷ digits job ∷ [])
+linesOf (None set moves) places = line (noneLetters ∷ digits moves ∷ map digits (members 64 (isSet 64 set)))
+linesOf (Fault f) places = line (faultLetters ∷ digits (numberOf f) ∷ digits (placeOf f) ∷ [])

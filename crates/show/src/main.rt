@@ -1,13 +1,21 @@
 // Shows a sheet that is read from standard input: its head and jobs, or its first fault.
 use frame::Fault;
+use frame::Reading;
 use frame::Sheet;
 use frame::Verdict;
+ghost use mathlib.Core.Path.{_≡_};
+ghost use Prim.Native.Nat.{ℕ};
+ghost use mathlib.Core.List.{List};
+ghost use lib.ListN.{length, take};
+ghost use Rattle.frame.specs.Reading.{readSheet, stored};
+
+// One byte more than a sheet may have, so that fault 1 can be seen.
+const SHEET_ROOM: usize = 65537;
 
 fn main() {
-    // One byte more than a sheet may have, so that fault 1 can be seen.
-    let mut buffer = [0u8; 65537];
+    let mut buffer = [0u8; SHEET_ROOM];
     let n = io::read_full(0, &mut buffer);
-    let reading = frame::read(&buffer[..n]);
+    let reading = input_read(n, &buffer);
     let verdict = reading.verdict;
     match verdict {
         Verdict::Refused(f) => show_fault(f),
@@ -16,6 +24,18 @@ fn main() {
             show_sheet(sheet);
         }
     }
+}
+
+// What the whole input s is read as, if the buffer's first n bytes are those of s, as far as the buffer has room.
+fn input_read(n: usize, buffer: &[u8; SHEET_ROOM]) -> Reading
+    ensures { λ r. ⌜ ((s : List ℕ) → take n (now (buffer .entry)) ≡ take (length (now (buffer .entry))) s
+        → r ≡ stored (readSheet s)) ⌝ }
+{
+    let whole: &[u8] = buffer;
+    if n < whole.len() {
+        return frame::read(&whole[..n]);
+    }
+    frame::read(whole)
 }
 
 fn show_fault(f: Fault) {

@@ -1,7 +1,8 @@
--- The output keeps its length, and the text lies within it.
+-- The text lies within its buffer.
 use native.Mathlib.Omega.{arith}
 use mathlib.Core.Path.{sym}
 use lib.Seq.{length-take-le}
+use Rattle.bay.proofs.PrintedLaws.{printed-within}
 use borrow.Author.Needs.{needs}
 use Rattle.bay.proofs.main.Statement.{statement}
 use Rattle.bay.proofs.main.Tie as tie
@@ -12,25 +13,20 @@ slice-aggregate-read-full c = search needs
 read-full-requires : tie.Need-read-full-requires
 read-full-requires c κs = search needs
 
-array-share-prefix-sheet : tie.Need-array-share-prefix-sheet
-array-share-prefix-sheet c = search needs
-
-slice-aggregate-printed : tie.Need-slice-aggregate-printed
-slice-aggregate-printed c = search needs
-
-slice-aggregate-printed-2 : tie.Need-slice-aggregate-printed-2
-slice-aggregate-printed-2 c = search needs
-
 printed-requires : tie.Need-printed-requires
 printed-requires c κs = search needs
 
 array-share-prefix-out : tie.Need-array-share-prefix-out
-array-share-prefix-out c = search needs
+array-share-prefix-out c =
+    let read = c .before .before .before .before .read-full in
+    let text = c .printed in
+    omega (arith, printed-within (read .last .1 .0) (read .result) (text .ensures))
 
 slice-aggregate-write-all : tie.Need-slice-aggregate-write-all
 slice-aggregate-write-all c =
-    let text = c .before .before .printed in
-    sym (length-take-le (text .result) (text .last .1 .0) (omega (arith, text .ensures, text .kept .1 .0)))
+    let read = c .before .before .before .before .before .read-full in
+    let text = c .before .printed in
+    sym (length-take-le (text .result) (text .last .1 .1 .0) (printed-within (read .last .1 .0) (read .result) (text .ensures)))
 
 write-all-requires : tie.Need-write-all-requires
 write-all-requires c κs = search needs
@@ -44,9 +40,6 @@ main-spec =
     (tie.spec
     slice-aggregate-read-full
     read-full-requires
-    array-share-prefix-sheet
-    slice-aggregate-printed
-    slice-aggregate-printed-2
     printed-requires
     array-share-prefix-out
     slice-aggregate-write-all

@@ -1,58 +1,42 @@
--- The lines of the answer and of the places in the table are those of the sheet (PrintedLaws).
+-- The buffer has more than 65,536 bytes, so what it holds of the input is read as the whole input (ReadPrefix of frame).
+use Prim.Native.Nat.{_≤_}
 use native.Mathlib.Omega.{arith}
 use mathlib.Core.Path.{sym}
+use lib.ListN.{length}
 use lib.Seq.{length-take-le}
 use denote.Ref.{now}
-use Rattle.bay.proofs.PrintedLaws.{printed-text, printed-whole}
+use Rattle.frame.proofs.ReadPrefix.{buffer-read, full-buffer-read}
+use Rattle.bay.proofs.PrintedLaws.{prints-read}
 use borrow.Author.Needs.{needs}
 use Rattle.bay.proofs.printed.Statement.{statement}
 use Rattle.bay.proofs.printed.Tie as tie
 
-slice-aggregate-plan : tie.Need-slice-aggregate-plan
-slice-aggregate-plan c = search needs
+slice-aggregate-text-of : tie.Need-slice-aggregate-text-of
+slice-aggregate-text-of c =
+    let whole = c .before .before .whole in
+    let args = c .before .before .before .args in
+    sym (length-take-le (args .n) (now (args .buffer)) (omega (arith, c .before .if1 .taken, whole .given)))
 
-slice-aggregate-plan-2 : tie.Need-slice-aggregate-plan-2
-slice-aggregate-plan-2 c = search needs
-
-plan-requires : tie.Need-plan-requires
-plan-requires c κs = search needs
-
-job-count-requires : tie.Need-job-count-requires
-job-count-requires c κs = search needs
-
-array-share-prefix-places : tie.Need-array-share-prefix-places
-array-share-prefix-places c = search needs
-
-slice-aggregate-text : tie.Need-slice-aggregate-text
-slice-aggregate-text c =
-    let count = c .before .job-count in
-    let plan = c .before .before .before .before .plan in
-    sym (length-take-le (count .result) (plan .last .1 .0) (omega (arith, count .ensures, plan .kept .1 .0)))
-
-text-requires : tie.Need-text-requires
-text-requires c κs = search needs
-
-same-length : tie.Need-same-length
-same-length c = search needs
+text-of-requires : tie.Need-text-of-requires
+text-of-requires c κs = search needs
 
 returns : tie.Need-returns
-returns c =
-    let text = c .before .before .text in
-    let count = c .before .before .before .before .before .job-count in
-    let plan = c .before .before .before .before .before .before .before .before .plan in
-    let args = c .before .before .before .before .before .before .before .before .before .before .before .before .before .args in
-    printed-whole (now (args .s)) (printed-text (now (args .s)) _ (count .result) (count .ensures) (plan .ensures .0) (search needs) (search needs)) (text .ensures)
+returns c s held =
+    let whole = c .before .before .before .before .whole in
+    let args = c .before .before .before .before .before .args in
+    prints-read (buffer-read (now (args .buffer)) s (args .n) (omega (arith, whole .given)) held) (c .text-of .ensures)
+
+text-of-requires-2 : tie.Need-text-of-requires-2
+text-of-requires-2 c κs = search needs
+
+returns-2 : tie.Need-returns-2
+returns-2 c s held =
+    let whole = c .before .before .before .whole in
+    let args = c .before .before .before .before .args in
+    let full : length (now (args .buffer)) ≤ args .n = omega (arith, c .before .before .if1 .left, whole .given) in
+    prints-read (full-buffer-read (now (args .buffer)) s (args .n) (omega (arith, whole .given)) held full) (c .text-of2 .ensures)
 
 pub printed-spec : {M : Type 1} → statement M
 printed-spec =
     tie.close
-    (tie.spec
-    slice-aggregate-plan
-    slice-aggregate-plan-2
-    plan-requires
-    job-count-requires
-    array-share-prefix-places
-    slice-aggregate-text
-    text-requires
-    same-length
-    returns)
+    (tie.spec slice-aggregate-text-of text-of-requires returns text-of-requires-2 returns-2)
