@@ -1,5 +1,6 @@
 //! The sheet codec of document 01 a second time, and what the tests need to set it against the
-//! static library. Nothing here links the library; the programs in `linked` do.
+//! static library and the programs. Nothing here links the library; the tests in `linked` do, and
+//! the one in `programs` runs the programs.
 //!
 //! - `model`: reader and writer, written from document 01 alone.
 //! - `plan`: the planner, written from document 01 and its source alone.
