@@ -8,7 +8,8 @@
  * the same with yinqocha_compare(). Link it with libyinqocha.a (x86-64).
  *
  * This header is the manual. It says first what holds of every call, then what the numbers mean,
- * then describes each function. Jobs and benches count from 0.
+ * then describes each function, with a program that uses it and what the program prints. Jobs and
+ * benches count from 0.
  *
  *
  * MEMORY AND THREADS
@@ -29,10 +30,7 @@
  * TABLES
  *
  * A table is a buffer of numbers of 8 bytes each, least significant byte first. On a little-endian
- * machine, as x86-64 is, an array of uint64_t is passed as it is:
- *
- *     uint64_t minutes[3] = { 5, 5, 5 };
- *     ... (const uint8_t *)minutes, sizeof minutes ...
+ * machine, as x86-64 is, an array of uint64_t is passed as it is: `minutes, sizeof minutes`.
  *
  * In a table that is read a begun entry counts, and the bytes that it lacks are 0. In a table that
  * is written only whole entries count as room, length / 8 of them; a call writes entries from the
@@ -74,7 +72,7 @@ extern "C" {
 
 /* Faults of a sheet that is read. */
 
-/* The sheet is longer than 65,536 bytes (0). */
+/* The sheet is longer than YINQOCHA_MAX_SHEET_BYTES, 65,536 (0). */
 #define YINQOCHA_SHEET_TOO_LONG 1u
 /* The sheet ends inside a frame of any version (frame), or its frames are over and none was an end
  * frame (the sheet's length). */
@@ -107,11 +105,16 @@ extern "C" {
 /* A job allows three or more benches and q * minutes > p * W, with W the longest job's minutes (the
  * lowest such job, read or written). */
 #define YINQOCHA_LONG_JOB_WITH_CHOICE 12u
-/* A table or an output that the call fills is too short (0). Writing: the sheet does not fit.
- * Planning: there are fewer places than jobs, fewer loads than benches, or fewer than two numbers
- * for the answer. Comparing: a list does not give each job one bench that it allows (0 for the
- * first list, 1 for the second). */
+
+/* Faults of the other buffers. They share their number, since no function has both. */
+
+/* Writing and planning: a table or an output that the call fills is too short (0). Writing: the
+ * sheet does not fit. Planning: there are fewer places than jobs, fewer loads than benches, or
+ * fewer than two numbers for the answer. */
 #define YINQOCHA_NO_ROOM 13u
+/* Comparing: a list is no assignment, it does not give each job one bench that it allows (0 for the
+ * first list, 1 for the second). */
+#define YINQOCHA_NO_ASSIGNMENT 13u
 
 /*
  * LIMITS
@@ -121,6 +124,10 @@ extern "C" {
 #define YINQOCHA_MAX_SHARE 127u         /* of p and of q */
 #define YINQOCHA_MAX_TARGET 1073741823u /* 2^30 - 1 */
 #define YINQOCHA_MAX_MINUTES 1048575u   /* 2^20 - 1 */
+
+/* The most bytes of a sheet. A caller that takes a sheet from a file makes room for one more, so
+ * that a longer file is fault 1 and not a sheet that was cut. */
+#define YINQOCHA_MAX_SHEET_BYTES 65536u
 
 /* A set of benches is a number of 64 bits: the benches that a job allows, and the blocking set of
  * an answer. The bit of bench b, 0 to 63, and whether bench b is in a set. */
@@ -142,6 +149,11 @@ extern "C" {
  *   allowed   a table: entry j is the benches of job j, the sum of YINQOCHA_BENCH(b) over the
  *             benches b that may take it, at least one, each below `benches`
  *
+ * The share says how long a job with three or more benches may be, at most p/q of the longest job's
+ * minutes (fault 12), and how far a plan may go beyond the target, to (5/3 + p/(3q)) * T: a larger
+ * share admits longer jobs with so much choice and loosens that bound, from 13/7 * T at the share
+ * 4/7 towards 2 * T.
+ *
  * The number of jobs is that of the longer table, a begun entry counting as one. So a job for which
  * one table has no entry has 0 minutes, or allows no bench, and is refused.
  *
@@ -153,24 +165,43 @@ extern "C" {
  * keeps its contents. An output of YINQOCHA_SHEET_BYTES(YINQOCHA_MAX_JOBS) bytes, which is 7,181,
  * always has room.
  *
- * Example: three jobs of 5 minutes, each on bench 0 or 1, with target 9.
+ * Example: three jobs of 5 minutes, each on bench 0 or 1, with target 9, into a file.
  *
- *     uint64_t both = YINQOCHA_BENCH(0) | YINQOCHA_BENCH(1);
- *     uint64_t minutes[3] = { 5, 5, 5 };
- *     uint64_t allowed[3] = { both, both, both };
- *     uint8_t sheet[YINQOCHA_SHEET_BYTES(3)];
- *     uint64_t word = yinqocha_write(2, 4, 7, 9,
- *                                    (const uint8_t *)minutes, sizeof minutes,
- *                                    (const uint8_t *)allowed, sizeof allowed,
- *                                    sheet, sizeof sheet);
- *     if (YINQOCHA_FAULT(word) != YINQOCHA_OK)
- *         printf("fault %u, place %u\n", YINQOCHA_FAULT(word), YINQOCHA_VALUE(word));
- *     else
- *         fwrite(sheet, 1, YINQOCHA_VALUE(word), file);
+ *     #include "yinqocha.h"
+ *
+ *     #include <inttypes.h>
+ *     #include <stdio.h>
+ *
+ *     int main(void)
+ *     {
+ *         const uint64_t both = YINQOCHA_BENCH(0) | YINQOCHA_BENCH(1);
+ *         const uint64_t minutes[] = { 5, 5, 5 };
+ *         const uint64_t allowed[] = { both, both, both };
+ *         uint8_t sheet[YINQOCHA_SHEET_BYTES(3)];
+ *
+ *         uint64_t word = yinqocha_write(2, 4, 7, 9, minutes, sizeof minutes,
+ *                                        allowed, sizeof allowed, sheet, sizeof sheet);
+ *         uint32_t value = YINQOCHA_VALUE(word);
+ *         if (YINQOCHA_FAULT(word) != YINQOCHA_OK) {
+ *             printf("fault %" PRIu32 ", place %" PRIu32 "\n", YINQOCHA_FAULT(word), value);
+ *             return 1;
+ *         }
+ *         FILE *file = fopen("day.sheet", "wb");
+ *         if (file == NULL || fwrite(sheet, 1, value, file) != value || fclose(file) != 0) {
+ *             perror("day.sheet");
+ *             return 1;
+ *         }
+ *         printf("day.sheet has %" PRIu32 " bytes\n", value);
+ *         return 0;
+ *     }
+ *
+ * It prints:
+ *
+ *     day.sheet has 55 bytes
  */
 uint64_t yinqocha_write(uint64_t benches, uint64_t p, uint64_t q, uint64_t target,
-                        const uint8_t *minutes, size_t minutes_len,
-                        const uint8_t *allowed, size_t allowed_len,
+                        const void *minutes, size_t minutes_len,
+                        const void *allowed, size_t allowed_len,
                         uint8_t *out, size_t out_len);
 
 /*
@@ -201,6 +232,11 @@ uint64_t yinqocha_write(uint64_t benches, uint64_t p, uint64_t q, uint64_t targe
  *
  *   result    YINQOCHA_PLAN, YINQOCHA_LONG or YINQOCHA_NONE
  *
+ * A job of more than p/q of T minutes is heavy, and allows at most two benches; the others are
+ * light. The moves are how many times the planner put a light job on another bench on its way to
+ * the answer, at most benches * light jobs that allow two or more; they say nothing of how good a
+ * plan is.
+ *
  * Every table must have its room whatever the answer will be: places one entry for each job, loads
  * one for each bench, answer two. Later bytes of a table keep their contents, and after long and
  * none all of places and loads does.
@@ -208,20 +244,70 @@ uint64_t yinqocha_write(uint64_t benches, uint64_t p, uint64_t q, uint64_t targe
  * Faults: 1, then 2 to 11 frame by frame, then 12, then 13. After a fault all three tables keep
  * their contents. YINQOCHA_MAX_JOBS places and YINQOCHA_MAX_BENCHES loads always have room.
  *
- * Example: the sheet of the example above is planned with all jobs on bench 0.
+ * Example: four jobs of 2 minutes, each on bench 0 or 1, with three targets.
  *
- *     uint64_t places[YINQOCHA_MAX_JOBS], loads[YINQOCHA_MAX_BENCHES];
- *     uint64_t answer[YINQOCHA_ANSWER_ENTRIES];
- *     word = yinqocha_plan(sheet, sizeof sheet, (uint8_t *)places, sizeof places,
- *                          (uint8_t *)loads, sizeof loads, (uint8_t *)answer, sizeof answer);
- *     if (word == YINQOCHA_PLAN)
- *         printf("largest load %" PRIu64 "\n", answer[0]);
- *     else if (word == YINQOCHA_LONG)
- *         printf("job %" PRIu64 " is too long\n", answer[0]);
- *     else if (word == YINQOCHA_NONE)
- *         for (unsigned b = 0; b < YINQOCHA_MAX_BENCHES; b++)
- *             if (YINQOCHA_HAS_BENCH(answer[0], b))
- *                 printf("bench %u is in the blocking set\n", b);
+ *     #include "yinqocha.h"
+ *
+ *     #include <inttypes.h>
+ *     #include <stdio.h>
+ *
+ *     static int plan(uint64_t target)
+ *     {
+ *         const uint64_t both = YINQOCHA_BENCH(0) | YINQOCHA_BENCH(1);
+ *         const uint64_t minutes[] = { 2, 2, 2, 2 };
+ *         const uint64_t allowed[] = { both, both, both, both };
+ *         uint8_t sheet[YINQOCHA_SHEET_BYTES(4)];
+ *         uint64_t places[4], loads[2], answer[YINQOCHA_ANSWER_ENTRIES];
+ *
+ *         uint64_t word = yinqocha_write(2, 4, 7, target, minutes, sizeof minutes,
+ *                                        allowed, sizeof allowed, sheet, sizeof sheet);
+ *         if (YINQOCHA_FAULT(word) == YINQOCHA_OK)
+ *             word = yinqocha_plan(sheet, sizeof sheet, places, sizeof places,
+ *                                  loads, sizeof loads, answer, sizeof answer);
+ *         if (YINQOCHA_FAULT(word) != YINQOCHA_OK) {
+ *             printf("fault %" PRIu32 ", place %" PRIu32 "\n",
+ *                    YINQOCHA_FAULT(word), YINQOCHA_VALUE(word));
+ *             return 1;
+ *         }
+ *         printf("target %" PRIu64 ": ", target);
+ *         switch (YINQOCHA_VALUE(word)) {
+ *         case YINQOCHA_LONG:
+ *             printf("job %" PRIu64 " is too long\n", answer[0]);
+ *             break;
+ *         case YINQOCHA_NONE:
+ *             printf("blocking benches");
+ *             for (unsigned b = 0; b < YINQOCHA_MAX_BENCHES; b++)
+ *                 if (YINQOCHA_HAS_BENCH(answer[0], b))
+ *                     printf(" %u", b);
+ *             printf(", %" PRIu64 " moves\n", answer[1]);
+ *             break;
+ *         case YINQOCHA_PLAN:
+ *             printf("largest load %" PRIu64 ", %" PRIu64 " moves\n", answer[0], answer[1]);
+ *             for (unsigned j = 0; j < 4; j++)
+ *                 printf("job %u on bench %" PRIu64 "\n", j, places[j]);
+ *             for (unsigned b = 0; b < 2; b++)
+ *                 printf("bench %u has %" PRIu64 " minutes\n", b, loads[b]);
+ *             break;
+ *         }
+ *         return 0;
+ *     }
+ *
+ *     int main(void)
+ *     {
+ *         return plan(1) || plan(3) || plan(4);
+ *     }
+ *
+ * It prints:
+ *
+ *     target 1: job 0 is too long
+ *     target 3: blocking benches 0 1, 0 moves
+ *     target 4: largest load 6, 1 moves
+ *     job 0 on bench 1
+ *     job 1 on bench 0
+ *     job 2 on bench 0
+ *     job 3 on bench 0
+ *     bench 0 has 6 minutes
+ *     bench 1 has 2 minutes
  */
 #define YINQOCHA_PLAN 1u
 #define YINQOCHA_LONG 2u
@@ -231,9 +317,9 @@ uint64_t yinqocha_write(uint64_t benches, uint64_t p, uint64_t q, uint64_t targe
 #define YINQOCHA_ANSWER_ENTRIES 2u
 
 uint64_t yinqocha_plan(const uint8_t *sheet, size_t sheet_len,
-                       uint8_t *places, size_t places_len,
-                       uint8_t *loads, size_t loads_len,
-                       uint8_t *answer, size_t answer_len);
+                       void *places, size_t places_len,
+                       void *loads, size_t loads_len,
+                       void *answer, size_t answer_len);
 
 /*
  * COMPARING TWO PLANS
@@ -251,15 +337,59 @@ uint64_t yinqocha_plan(const uint8_t *sheet, size_t sheet_len,
  * Out:
  *   result    YINQOCHA_SAME or YINQOCHA_DIFFERENT
  *
- * Faults: those of the sheet, 1 to 12 as above; then 13 with place 0 if the first list does not
- * give each job one bench that it allows, and then 13 with place 1 if the second does not.
+ * Faults: those of the sheet, 1 to 12 as above; then 13, here YINQOCHA_NO_ASSIGNMENT, with place 0
+ * if the first list does not give each job one bench that it allows, and then 13 with place 1 if
+ * the second does not.
+ *
+ * Example: three jobs of 5 minutes, each on bench 0 or 1, and four lists of places.
+ *
+ *     #include "yinqocha.h"
+ *
+ *     #include <inttypes.h>
+ *     #include <stdio.h>
+ *
+ *     int main(void)
+ *     {
+ *         const uint64_t both = YINQOCHA_BENCH(0) | YINQOCHA_BENCH(1);
+ *         const uint64_t minutes[] = { 5, 5, 5 };
+ *         const uint64_t allowed[] = { both, both, both };
+ *         const uint64_t lists[4][3] = { { 0, 0, 1 }, { 1, 0, 0 }, { 0, 1, 1 }, { 0, 0, 2 } };
+ *         uint8_t sheet[YINQOCHA_SHEET_BYTES(3)];
+ *
+ *         uint64_t word = yinqocha_write(2, 4, 7, 9, minutes, sizeof minutes,
+ *                                        allowed, sizeof allowed, sheet, sizeof sheet);
+ *         if (YINQOCHA_FAULT(word) != YINQOCHA_OK) {
+ *             printf("fault %" PRIu32 ", place %" PRIu32 "\n",
+ *                    YINQOCHA_FAULT(word), YINQOCHA_VALUE(word));
+ *             return 1;
+ *         }
+ *         for (unsigned n = 1; n < 4; n++) {
+ *             word = yinqocha_compare(sheet, sizeof sheet, lists[0], sizeof lists[0],
+ *                                     lists[n], sizeof lists[n]);
+ *             if (YINQOCHA_FAULT(word) == YINQOCHA_NO_ASSIGNMENT)
+ *                 printf("0 and %u: the %s is no assignment\n", n,
+ *                        YINQOCHA_VALUE(word) == 0 ? "first" : "second");
+ *             else if (YINQOCHA_FAULT(word) != YINQOCHA_OK)
+ *                 printf("0 and %u: the sheet has fault %" PRIu32 "\n", n, YINQOCHA_FAULT(word));
+ *             else
+ *                 printf("0 and %u: %s\n", n,
+ *                        YINQOCHA_VALUE(word) == YINQOCHA_SAME ? "the same" : "different");
+ *         }
+ *         return 0;
+ *     }
+ *
+ * It prints:
+ *
+ *     0 and 1: the same
+ *     0 and 2: different
+ *     0 and 3: the second is no assignment
  */
 #define YINQOCHA_DIFFERENT 0u
 #define YINQOCHA_SAME 1u
 
 uint64_t yinqocha_compare(const uint8_t *sheet, size_t sheet_len,
-                          const uint8_t *first, size_t first_len,
-                          const uint8_t *second, size_t second_len);
+                          const void *first, size_t first_len,
+                          const void *second, size_t second_len);
 
 #ifdef __cplusplus
 }

@@ -70,8 +70,8 @@ static uint64_t write_fields(const struct fields *fields, size_t room)
 {
     memset(buffer, FILL, sizeof buffer);
     return yinqocha_write(fields->benches, fields->p, fields->q, fields->target,
-                          (const uint8_t *)fields->minutes, 8 * fields->jobs,
-                          (const uint8_t *)fields->allowed, 8 * fields->jobs, out, room);
+                          fields->minutes, 8 * fields->jobs, fields->allowed, 8 * fields->jobs,
+                          out, room);
 }
 
 static void require_fault(const struct fields *fields, size_t room, uint32_t number,
@@ -104,7 +104,7 @@ static void faults(void)
     fields.benches = YINQOCHA_MAX_BENCHES + 1;
     require_fault(&fields, room, YINQOCHA_BAD_BENCHES, 0, "65 benches");
     fields = example_5(3);
-    fields.target = (uint64_t)YINQOCHA_MAX_TARGET + 1;
+    fields.target = YINQOCHA_MAX_TARGET + 1;
     require_fault(&fields, room, YINQOCHA_BAD_BENCHES, 0, "target too wide");
     fields = example_5(3);
     fields.p = 7;
@@ -201,9 +201,9 @@ static uint64_t plan_fields(const struct fields *fields, size_t places_len, size
     memset(&places, FILL, sizeof places);
     memset(&loads, FILL, sizeof loads);
     memset(&answer, FILL, sizeof answer);
-    uint64_t word = yinqocha_plan(out, (size_t)length, table_start(&places), places_len,
+    uint64_t word = yinqocha_plan(out, length, table_start(&places), places_len,
                                   table_start(&loads), loads_len, table_start(&answer), answer_len);
-    require_untouched_after((size_t)length, "the sheet's guards");
+    require_untouched_after(length, "the sheet's guards");
     return word;
 }
 
@@ -276,6 +276,12 @@ static void plan_faults(void)
     require_plan_fault(word, YINQOCHA_SHEET_CUT, sizeof example_12 - 3, "a sheet cut off");
     word = yinqocha_plan(NULL, 0, NULL, 0, NULL, 0, NULL, 0);
     require_plan_fault(word, YINQOCHA_SHEET_CUT, 0, "no sheet");
+    /* Frames of version 0 without a body, and one begun. */
+    static const uint8_t zeros[YINQOCHA_MAX_SHEET_BYTES + 1];
+    word = yinqocha_plan(zeros, YINQOCHA_MAX_SHEET_BYTES, NULL, 0, NULL, 0, NULL, 0);
+    require_plan_fault(word, YINQOCHA_SHEET_CUT, YINQOCHA_MAX_SHEET_BYTES - 1, "65,536 bytes");
+    word = yinqocha_plan(zeros, sizeof zeros, NULL, 0, NULL, 0, NULL, 0);
+    require_plan_fault(word, YINQOCHA_SHEET_TOO_LONG, 0, "65,537 bytes");
     word = yinqocha_plan(example_12, sizeof example_12, NULL, 0, NULL, 0, NULL, 0);
     require_plan_fault(word, YINQOCHA_NO_ROOM, 0, "no tables");
     printf("door: planning has the sheet's faults, then fault 13; the tables are untouched\n");
@@ -284,13 +290,12 @@ static void plan_faults(void)
 static uint64_t compare_lists(const uint64_t *first, size_t first_len, const uint64_t *second,
                               size_t second_len)
 {
-    return yinqocha_compare(example_12, sizeof example_12, (const uint8_t *)first, first_len,
-                            (const uint8_t *)second, second_len);
+    return yinqocha_compare(example_12, sizeof example_12, first, first_len, second, second_len);
 }
 
 static void require_list_fault(uint64_t word, uint32_t place, const char *what)
 {
-    require(YINQOCHA_FAULT(word) == YINQOCHA_NO_ROOM, what);
+    require(YINQOCHA_FAULT(word) == YINQOCHA_NO_ASSIGNMENT, what);
     require(YINQOCHA_VALUE(word) == place, what);
 }
 

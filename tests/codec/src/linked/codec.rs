@@ -3,7 +3,6 @@
 //!
 //! Arguments: the seed (default 1) and the least number of sheets (default 400,000).
 
-mod arguments;
 mod check;
 mod door;
 mod empty;
@@ -16,6 +15,7 @@ mod tally;
 mod writing;
 
 use check::Check;
+use codec::arguments;
 use std::{process::ExitCode, time::Instant};
 
 const SHEETS: u64 = 400_000;

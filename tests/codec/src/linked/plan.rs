@@ -3,7 +3,6 @@
 //!
 //! Arguments: the seed (default 1) and the least number of sheets (default 100,000).
 
-mod arguments;
 #[cfg_attr(not(feature = "library"), allow(dead_code))]
 mod empty;
 mod guarded;
@@ -14,6 +13,7 @@ mod plan_door;
 mod plan_fixed;
 mod plan_tally;
 
+use codec::arguments;
 use plan_check::Check;
 use std::{process::ExitCode, time::Instant};
 

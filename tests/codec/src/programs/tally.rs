@@ -1,0 +1,75 @@
+//! How many sheets of each class were met, and what was printed for them.
+
+use std::collections::BTreeMap;
+
+/// A run that meets one kind of text less often has not tested it.
+const LEAST: u64 = 3;
+
+const FAULTS: u32 = 12;
+
+#[derive(Default)]
+pub struct Tally {
+    pub sheets: u64,
+    classes: Vec<(&'static str, u64)>,
+    met: BTreeMap<String, u64>,
+    longest: BTreeMap<&'static str, usize>,
+}
+
+/// The kinds of text that must be met: each answer, each fault of a sheet.
+fn wanted() -> Vec<String> {
+    let answers = ["bay: plan", "bay: long", "bay: none", "show: sheet"].map(String::from);
+    let faults = (1..=FAULTS)
+        .flat_map(|number| ["bay", "show"].map(|program| format!("{program}: fault {number}")));
+    answers.into_iter().chain(faults).collect()
+}
+
+/// The kind of a text: its first word; of a fault also the number; a sheet's head is a number.
+fn kind(text: &str) -> String {
+    let mut words = text.split_whitespace();
+    match words.next() {
+        Some("fault") => format!("fault {}", words.next().unwrap_or("")),
+        Some(word) if word.parse::<u64>().is_err() => word.to_string(),
+        _ => "sheet".to_string(),
+    }
+}
+
+impl Tally {
+    pub fn count_sheet(&mut self, class: &'static str) {
+        self.sheets += 1;
+        match self.classes.iter_mut().find(|(name, _)| *name == class) {
+            Some((_, count)) => *count += 1,
+            None => self.classes.push((class, 1)),
+        }
+    }
+
+    pub fn count_text(&mut self, program: &'static str, text: &str) {
+        *self.met.entry(format!("{program}: {}", kind(text))).or_default() += 1;
+        let longest = self.longest.entry(program).or_default();
+        *longest = text.len().max(*longest);
+    }
+
+    fn times(&self, kind: &str) -> u64 {
+        self.met.get(kind).copied().unwrap_or(0)
+    }
+
+    /// The kinds of text that were met too seldom.
+    pub fn too_seldom(&self) -> Vec<String> {
+        let rows = wanted().into_iter().map(|kind| (self.times(&kind), kind));
+        rows.filter(|&(met, _)| met < LEAST).map(|(met, kind)| format!("{kind}: {met}")).collect()
+    }
+
+    pub fn print(&self) {
+        println!("\n{:<44} {:>9}", "class", "sheets");
+        for (name, count) in &self.classes {
+            println!("{name:<44} {count:>9}");
+        }
+        println!("\n{:<44} {:>9}", "printed", "times");
+        for kind in wanted() {
+            println!("{kind:<44} {:>9}", self.times(&kind));
+        }
+        for (program, bytes) in &self.longest {
+            println!("{:<44} {bytes:>9}", format!("{program}: bytes of the longest text"));
+        }
+        println!();
+    }
+}
