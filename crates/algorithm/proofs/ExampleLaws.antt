@@ -18,7 +18,8 @@ use Rattle.algorithm.specs.Start.{crowdedBench, oneCycle, peel, start}
 use Rattle.algorithm.specs.Run.{ownMinutes, nextState, answerAt, turns, run}
 use Rattle.algorithm.specs.States.{Reached, at-start, by-move}
 use Rattle.algorithm.specs.Answer.{planSheet}
-use Rattle.algorithm.specs.Examples.{bay, both, examples, errorExamples}
+use Rattle.demand.specs.SmallSheets.{bay, both}
+use Rattle.algorithm.specs.Examples.{examples, errorExamples}
 
 pub examples-hold : map (λ e. planSheet (e .head) (e .jobs)) examples ≡ map (λ e. e .answer) examples
 unfolding examples isSet grow closure reach hyperEdgeVerdict jobsVerdict writerVerdict lowest highest longJob rockLoad inner outer conflictSet construct activate openRound rounds explore follow settleFrom crowdedBench oneCycle peel start ownMinutes answerAt turns run members

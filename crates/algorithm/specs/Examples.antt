@@ -3,37 +3,17 @@
 --     examples         the table, in the document's order; 9 and 10 have several rows
 --     errorExamples    sheets on which an error in the run would change the answer
 -- Proved in ExampleLaws.
-use Prim.Native.Nat.{ℕ, _+_, _^_}
 use mathlib.Core.List.{List, [], _∷_}
 use Rattle.fields.specs.declared.sheet.Head.{Head}
 use Rattle.fields.specs.declared.sheet.Job.{Job}
 use Rattle.fields.specs.declared.fault.Fault.the-variants.{Share, HeavyHyperEdge}
+use Rattle.demand.specs.SmallSheets.{bay, first, second, both, outside, three}
 use Rattle.algorithm.specs.Answer.{Answer, plan, tooLong, none, fault}
 
 pub record Example : Type 0 where
   pub head : Head
   pub jobs : List Job
   pub answer : Answer
-
--- Benches, share and target.
-abbrev pub bay : ℕ → ℕ → ℕ → ℕ → Head
-bay m p q t = record { benches = m; p = p; q = q; target = t }
-
--- Minutes, on bench 0, on bench 1, on both of these, on benches 0 and 2, and on all three.
-abbrev pub first : ℕ → Job
-first n = record { minutes = n; allowed = 2 ^ 63 }
-
-abbrev pub second : ℕ → Job
-second n = record { minutes = n; allowed = 2 ^ 62 }
-
-abbrev pub both : ℕ → Job
-both n = record { minutes = n; allowed = 2 ^ 63 + 2 ^ 62 }
-
-abbrev pub outside : ℕ → Job
-outside n = record { minutes = n; allowed = 2 ^ 63 + 2 ^ 61 }
-
-abbrev pub three : ℕ → Job
-three n = record { minutes = n; allowed = 2 ^ 63 + 2 ^ 62 + 2 ^ 61 }
 
 abbrev pub row : Head → List Job → Answer → Example
 row h js a = record { head = h; jobs = js; answer = a }

@@ -32,7 +32,7 @@ use Rattle.algorithm.specs.Settle.{follow, settleFrom}
 use Rattle.algorithm.specs.Start.{crowdedBench, oneCycle, peel, start}
 use Rattle.algorithm.specs.Run.{ownMinutes, answerAt, turns, run}
 use Rattle.algorithm.specs.Answer.{Answer, plan, answerTo}
-use Rattle.algorithm.specs.Examples.{bay, both}
+use Rattle.demand.specs.SmallSheets.{bay, both}
 use Rattle.planning.specs.declared.answer.Answer.{Answer as Given}
 use Rattle.planning.specs.declared.answer.Answer.the-variants.{Plan}
 use Rattle.planning.specs.Planner.{given, shortTables, answerFor, placesAfter, loadsAfter, Answered}

@@ -21,7 +21,7 @@ use Rattle.fields.specs.Format.{sheetBytes}
 use Rattle.frame.specs.Writing.{jobsVerdict, writerVerdict}
 use Rattle.frame.specs.Reading.{accepted, readSheet}
 use Rattle.frame.proofs.RoundTrip.{write-read}
-use Rattle.algorithm.specs.Examples.{bay, both}
+use Rattle.demand.specs.SmallSheets.{bay, both}
 use Rattle.comparison.specs.declared.compared.Compared.the-variants.{Same, Different, Fault as ComparedFault}
 use Rattle.comparison.specs.Comparison.{comparePlans}
 
