@@ -23,14 +23,16 @@ pub fn entry(t: &[u8], n: usize) -> u64
     little8(&t[8 * n..])
 }
 
-// The entries of a table, at the front of an array, as many as there are and fit, and how many.
+// The first `count` numbers are what was loaded.
 pub struct Loaded {
     pub numbers: [u64; 513],
     pub count: usize,
 }
 
+// The entries of a table, as many as there are, at most 513.
 pub fn load(t: &[u8]) -> Loaded
-    ensures { λ r. ⌜ (r .count ≡ min (entriesOf (now (t .entry))) 513) × (take (r .count) (r .numbers) ≡ take 513 (numbersOf (now (t .entry)))) ⌝ }
+    ensures counted { λ r. ⌜ r .count ≡ min (entriesOf (now (t .entry))) 513 ⌝ }
+    ensures loaded { λ r. ⌜ take (r .count) (r .numbers) ≡ take 513 (numbersOf (now (t .entry))) ⌝ }
 {
     let all = entries(t);
     let count = if all < 513 { all } else { 513 };

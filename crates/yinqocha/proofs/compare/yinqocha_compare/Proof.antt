@@ -49,20 +49,29 @@ fault-word-requires c κs = search needs
 
 returns : tie.Need-returns
 returns c =
-    let a = c .before .before .before .before .before .before .before .before .before .before .before .before .args in
-    same-word (now (a .sheet)) (now (a .first)) (now (a .second)) (c .before .before .before .before .before .before .before .before .load .ensures .1) (c .before .before .before .before .before .before .before .load2 .ensures .1) (c .before .before .compare .ensures)
+    let m = c .before .before in
+    let y = m .before .before .before .before .before in
+    let x = y .before in
+    let a = x .before .before .before .before .args in
+    same-word (now (a .sheet)) (now (a .first)) (now (a .second)) (x .load .ensures .1) (y .load2 .ensures .1) (m .compare .ensures)
     (c .enum-told .given .1)
 
 returns-2 : tie.Need-returns-2
 returns-2 c =
-    let a = c .before .before .before .before .before .before .before .before .before .before .before .before .args in
-    different-word (now (a .sheet)) (now (a .first)) (now (a .second)) (c .before .before .before .before .before .before .before .before .load .ensures .1) (c .before .before .before .before .before .before .before .load2 .ensures .1) (c .before .before .compare .ensures)
+    let m = c .before .before in
+    let y = m .before .before .before .before .before in
+    let x = y .before in
+    let a = x .before .before .before .before .args in
+    different-word (now (a .sheet)) (now (a .first)) (now (a .second)) (x .load .ensures .1) (y .load2 .ensures .1) (m .compare .ensures)
     (c .enum-told2 .given .1)
 
 returns-3 : tie.Need-returns-3
 returns-3 c =
-    let a = c .before .before .before .before .before .before .before .before .before .before .before .before .before .before .args in
-    fault-word (now (a .sheet)) (now (a .first)) (now (a .second)) (c .before .before .before .before .before .before .before .before .before .before .load .ensures .1) (c .before .before .before .before .before .before .before .before .before .load2 .ensures .1) (c .before .before .before .before .compare .ensures)
+    let m = c .before .before .before .before in
+    let y = m .before .before .before .before .before in
+    let x = y .before in
+    let a = x .before .before .before .before .args in
+    fault-word (now (a .sheet)) (now (a .first)) (now (a .second)) (x .load .ensures .1) (y .load2 .ensures .1) (m .compare .ensures)
     (c .before .before .f .given .1) (c .fault-word .ensures)
 
 pub yinqocha-compare-spec : {M : Type 1} → statement M

@@ -50,22 +50,26 @@ same-length c = search needs
 
 returns : tie.Need-returns
 returns c =
-    let a = c .before .before .before .before .before .before .before .before .before .before .before .before .before .before .before .before .args in
-    let w = c .before .before .before .before .before .write in
+    let w = c .before .before .before .before .before in
+    let y = w .before .before .before .before .before .before in
+    let x = y .before in
+    let a = x .before .before .before .before .args in
     let h = headOf (a .benches) (a .p) (a .q) (a .target) in
-    sheet-length h (now (a .minutes)) (now (a .allowed)) (now (a .out)) (c .before .before .before .before .before .before .before .before .before .before .before .before .load .ensures .1) (c .before .before .before .before .before .before .before .before .before .before .before .load2 .ensures .1)
-    (w .ensures .0) (w .ensures .1) (c .before .k .given .1)
+    sheet-length h (now (a .minutes)) (now (a .allowed)) (now (a .out)) (x .load .ensures .1) (y .load2 .ensures .1)
+    (w .write .ensures .0) (w .write .ensures .1) (c .before .k .given .1)
 
 same-length-2 : tie.Need-same-length-2
 same-length-2 c = search needs
 
 returns-2 : tie.Need-returns-2
 returns-2 c =
-    let a = c .before .before .before .before .before .before .before .before .before .before .before .before .before .before .before .before .before .args in
-    let w = c .before .before .before .before .before .before .write in
+    let w = c .before .before .before .before .before .before in
+    let y = w .before .before .before .before .before .before in
+    let x = y .before in
+    let a = x .before .before .before .before .args in
     let h = headOf (a .benches) (a .p) (a .q) (a .target) in
-    sheet-fault h (now (a .minutes)) (now (a .allowed)) (now (a .out)) (c .before .before .before .before .before .before .before .before .before .before .before .before .before .load .ensures .1) (c .before .before .before .before .before .before .before .before .before .before .before .before .load2 .ensures .1)
-    (w .ensures .0) (w .ensures .1) (c .before .before .f .given .1) (c .fault-word .ensures)
+    sheet-fault h (now (a .minutes)) (now (a .allowed)) (now (a .out)) (x .load .ensures .1) (y .load2 .ensures .1)
+    (w .write .ensures .0) (w .write .ensures .1) (c .before .before .f .given .1) (c .fault-word .ensures)
 
 pub yinqocha-write-spec : {M : Type 1} → statement M
 yinqocha-write-spec =
