@@ -15,6 +15,7 @@ use borrow.Author.Tests.{lt-ltb, le-ltb, eqb-true}
 use Rattle.bools.proofs.BoolLaws.{clash, or-left, or-right, or-false}
 use Rattle.bools.proofs.OrderLaws.{lt-or-le}
 use Rattle.sums.proofs.SumLaws.{sum-cong}
+use Rattle.bits.proofs.SetBits.{isSet-past}
 use Rattle.sums.proofs.SearchLaws.{any-elim}
 use Rattle.fields.specs.declared.fault.Fault.{Fault}
 use Rattle.fields.specs.declared.fault.Fault.the-variants.{Table}
@@ -129,7 +130,7 @@ module _ (h : Head) (js : List Job) where
   named-set few benches moves n =
       record {
         of-64-bits = setOf-lt 0 benches (n .rising) (λ i l. omega arith) below;
-        of-the-head = λ v l e. bench-of-list v (sym (bit v l) ∙ e);
+        of-the-head = head-bench;
         blocking = blocking-cong h js (oneOf benches) (inSet (setOf benches)) (λ v l. sym (bit v (omega arith))) (n .blocking);
         few-moves = n .few-moves;
       }
@@ -143,6 +144,13 @@ module _ (h : Head) (js : List Job) where
       bench-of-list : (v : ℕ) → oneOf benches v ≡ true → v < h .benches
       bench-of-list v e = let (i, l, same) = any-elim (length benches) (λ i. eqb (getD benches i 0) v) e in
           subst (λ (x : ℕ). x < h .benches) (eqb-true (getD benches i 0) v same) (n .of-the-head i l)
+
+      -- A number of 64 bits has no bench past 63.
+      head-bench : (v : ℕ) → inSet (setOf benches) v ≡ true → v < h .benches
+      head-bench v e = elim (lt-or-le v 64) [
+        | inl l ↦ bench-of-list v (sym (bit v l) ∙ e)
+        | inr far ↦ clash e (isSet-past 64 (setOf benches) v far)
+      ]
 
   -- ── what an answer of the program says of the tables ──
 

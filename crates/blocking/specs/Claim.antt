@@ -92,7 +92,7 @@ inSet set v = isSet 64 set v
 -- "None: a blocking set and the moves made." A blocking set is not empty.
 pub record NamedSet (h : Head) (js : List Job) (set moves : ℕ) : Type 0 where
   pub of-64-bits : set < 2 ^ 64
-  pub of-the-head : (v : ℕ) → v < 64 → inSet set v ≡ true → v < h .benches
+  pub of-the-head : (v : ℕ) → inSet set v ≡ true → v < h .benches
   pub blocking : Blocking h js (inSet set)
   pub few-moves : moves ≤ moveBound h js
 
