@@ -39,9 +39,9 @@ use Rattle.fields.specs.declared.fault.Verdict.{Verdict}
 use Rattle.fields.specs.declared.fault.Verdict.the-variants.{Accepted, Refused}
 use Rattle.fields.specs.Numbers.{numberOf}
 use Rattle.fields.specs.Format.{ours, headKind, jobKind, versionOf, kindOf, frameSize, bodyOf, headOf, jobOf}
-use Rattle.fields.specs.Tests.{Test, firstFault, headFaults, jobFaults, hyperEdgeVerdict}
+use Rattle.fields.specs.Tests.{Test, firstFault, headFaults, jobFaults, heavyHyperEdgeAt, hyperEdgeVerdict}
 use Rattle.frame.specs.Reading.{Progress, Read, accepted, refused, nothingRead, frameFaults, faultsAt, after, cut, judged, endVerdict, ending, readFrom, readSheet}
-use Rattle.frame.specs.Frames.{WholeFrame, Foreign, Row, no-frame, a-frame, Padded, unchanged, kept, added, addedBefore, movedBy, fromOn, movedReadBy, movedRead, readOn, heavyHyperEdgeAt}
+use Rattle.frame.specs.Frames.{WholeFrame, Foreign, Row, no-frame, a-frame, Padded, unchanged, kept, added, addedBefore, movedBy, fromOn, movedReadBy, movedRead, readOn}
 use Rattle.frame.proofs.ReadLaws.{readFrom-over, readFrom-cut, readFrom-foreign, readFrom-fault, readFrom-next}
 use Rattle.frame.proofs.WholeFrames.{verdict-cases, readOn-past-foreign, readOn-past-sound, readOn-in-frame, readSheet-within}
 

@@ -5,7 +5,6 @@ pub mod StageLaws
 pub mod WholeFrames
 pub mod ForeignFrames
 pub mod FirstFault
-pub mod HyperEdges
 pub mod SheetArrays
 pub mod JudgeLaws
 pub mod FrameAt

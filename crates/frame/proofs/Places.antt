@@ -37,7 +37,8 @@ use Rattle.fields.specs.Tests.{firstFault, headFaults, jobFaults, benchCountFau
 use Rattle.frame.specs.Writing.{andThen, jobsVerdict, writerVerdict, writeSheet}
 use Rattle.frame.specs.Reading.{Progress, accepted, refused, frameFaults, faultsAt, after, readSheet}
 use Rattle.frame.specs.Frames.{NoneHolds, Reached, start, past-foreign, past-sound, FaultHere, ends-inside, in-frame, no-end, heavy-hyper-edge}
-use Rattle.frame.proofs.WriterLaws.{length-sheetBytes, job-sound, jobs-bound, writerVerdict-sound}
+use Rattle.fields.proofs.FormatLaws.{length-sheetBytes}
+use Rattle.frame.proofs.WriterLaws.{job-sound, jobs-bound, writerVerdict-sound}
 use Rattle.frame.proofs.WholeFrames.{verdict-cases}
 use Rattle.frame.proofs.FirstFault.{in-frame-number, lowest-hyper-edge, reached-length, read-too-long, read-fault, read-accepted}
 

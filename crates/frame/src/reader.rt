@@ -1,12 +1,11 @@
 // Reading: frames in sheet order, each judged by the faults 2 to 11, then fault 12.
-use crate::hyper_edges;
 use fields::Fault;
-use fields::FrameHeader;
 use fields::Head;
 use fields::Job;
 use fields::Reading;
 use fields::Sheet;
 use fields::Verdict;
+use unpacking::FrameHeader;
 ghost use mathlib.Core.Path.{_≡_};
 ghost use Prim.Native.Nat.{ℕ, _<_, _^_};
 ghost use mathlib.Core.List.{[]};
@@ -148,11 +147,11 @@ fn judge_head(body: &[u8], at: usize, stage: Stage) -> Frame
     if body.len() != FrameHeader::HEAD_LENGTH {
         return Frame::Faulty(Fault::WrongLength(at));
     }
-    if fields::head_spare(body) != 0 {
+    if unpacking::head_spare(body) != 0 {
         return Frame::Faulty(Fault::SpareBit(at));
     }
-    let h = fields::read_head(body);
-    match fields::check_head(h, at) {
+    let h = unpacking::read_head(body);
+    match checks::check_head(h, at) {
         Verdict::Refused(f) => Frame::Faulty(f),
         Verdict::Accepted => Frame::Head(h),
     }
@@ -167,11 +166,11 @@ fn judge_job(body: &[u8], at: usize, stage: Stage, benches: u64, n: usize) -> Fr
     if body.len() != FrameHeader::JOB_LENGTH {
         return Frame::Faulty(Fault::WrongLength(at));
     }
-    if fields::job_spare(body) != 0 {
+    if unpacking::job_spare(body) != 0 {
         return Frame::Faulty(Fault::SpareBit(at));
     }
-    let j = fields::read_job(body);
-    match fields::check_job(benches, n, j, at) {
+    let j = unpacking::read_job(body);
+    match checks::check_job(benches, n, j, at) {
         Verdict::Refused(f) => Frame::Faulty(f),
         Verdict::Accepted => Frame::Job(j),
     }
@@ -202,7 +201,7 @@ fn finish<'a>(
     ensures { λ r. ⌜ r ≡ endVerdict stage at h (jobTable count (now (minutes .entry)) (now (allowed .entry))) ⌝ }
 {
     match stage {
-        Stage::Closed => hyper_edges::check_hyper_edges(h, count, minutes, allowed),
+        Stage::Closed => checks::check_hyper_edges(h, count, minutes, allowed),
         Stage::Start => Verdict::Refused(Fault::Truncated(at)),
         Stage::Open => Verdict::Refused(Fault::Truncated(at)),
     }
