@@ -32,8 +32,8 @@ use Rattle.bools.proofs.BoolLaws.{split, tests}
 use Rattle.bools.proofs.OrderLaws.{lt-or-le, eq-or-ne, last-or-below}
 use Rattle.fields.specs.declared.sheet.Head.{Head}
 use Rattle.fields.specs.declared.sheet.Job.{Job}
-use Rattle.frame.specs.declared.reader.Stage.{Stage}
-use Rattle.frame.specs.declared.reader.Stage.the-variants.{Start, Open, Closed}
+use Rattle.judging.specs.declared.judge.Stage.{Stage}
+use Rattle.judging.specs.declared.judge.Stage.the-variants.{Start, Open, Closed}
 use Rattle.fields.specs.declared.fault.Fault.{Fault}
 use Rattle.fields.specs.declared.fault.Fault.the-variants.{TooLong, Truncated}
 use Rattle.fields.specs.declared.fault.Verdict.{Verdict}
@@ -42,7 +42,8 @@ use Rattle.fields.specs.Numbers.{numberOf, placeOf}
 use Rattle.fields.specs.Format.{ours, headKind, jobKind, versionOf, kindOf, bodyOf, headOf, jobOf}
 use Rattle.fields.specs.Tests.{Test, firstFault, headFaults, jobFaults, hyperEdgeVerdict}
 pub use Rattle.fields.proofs.HyperEdgeLaws.{lowest-hyper-edge, hyper-edge-lowest, none-hyper-edge, hyper-edge-none}
-use Rattle.frame.specs.Reading.{Progress, Read, accepted, refused, nothingRead, frameFaults, faultsAt, after, judged, endVerdict, ending, readFrom, readSheet}
+use Rattle.judging.specs.FrameTests.{frameFaults}
+use Rattle.frame.specs.Reading.{Progress, Read, accepted, refused, nothingRead, faultsAt, after, judged, endVerdict, ending, readFrom, readSheet}
 use Rattle.frame.specs.Frames.{WholeFrame, NoneHolds, FirstTest, readOn, Reached, start, past-foreign, past-sound, FaultHere, ends-inside, in-frame, no-end, heavy-hyper-edge, SheetFault, SheetSound, Judgement, too-long, faulty, sound}
 use Rattle.frame.proofs.WholeFrames.{verdict-cases, whole-unique, frames-induction, readOn-past-foreign, readOn-past-sound, readOn-in-frame, readOn-cut, readSheet-within}
 

@@ -1,7 +1,6 @@
 pub mod ReadLaws
 pub mod WriterLaws
 pub mod RoundTrip
-pub mod StageLaws
 pub mod WholeFrames
 pub mod ForeignFrames
 pub mod FirstFault

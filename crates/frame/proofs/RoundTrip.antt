@@ -31,11 +31,12 @@ use Rattle.bits.specs.Layout.{packed, field, Fit}
 use Rattle.bits.proofs.LayoutLaws.{length-packed, field-packed, field-packed-append}
 use Rattle.fields.specs.declared.sheet.Head.{Head}
 use Rattle.fields.specs.declared.sheet.Job.{Job}
-use Rattle.frame.specs.declared.reader.Stage.the-variants.{Start, Open, Closed}
+use Rattle.judging.specs.declared.judge.Stage.the-variants.{Start, Open, Closed}
 use Rattle.fields.specs.declared.fault.Verdict.the-variants.{Accepted}
 use Rattle.fields.specs.Format.{ours, headKind, jobKind, endKind, headerLayout, headLayout, jobLayout, headerSize, versionOf, kindOf, lengthOf, frameSize, bodyOf, headOf, jobOf, spareOf, frameBytes, headFrame, jobFrame, endFrame, jobFrames, sheetBytes}
 use Rattle.fields.specs.Tests.{firstFault, headFaults, jobFaults, jobAt}
-use Rattle.frame.specs.Reading.{Progress, accepted, nothingRead, frameFaults, faultsAt, after, cut, readFrom, readSheet}
+use Rattle.judging.specs.FrameTests.{frameFaults, cut}
+use Rattle.frame.specs.Reading.{Progress, accepted, nothingRead, faultsAt, after, readFrom, readSheet}
 use Rattle.frame.specs.Writing.{writerVerdict}
 use Rattle.frame.specs.Sound.{SoundHead, SoundJob}
 use Rattle.frame.proofs.ReadLaws.{readFrom-over, readFrom-next, readFrom-enough}

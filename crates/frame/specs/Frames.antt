@@ -28,12 +28,13 @@ use lib.ListN.{length}
 use lib.Dec.{leb, ltb}
 use Rattle.fields.specs.declared.sheet.Head.{Head}
 use Rattle.fields.specs.declared.sheet.Job.{Job}
-use Rattle.frame.specs.declared.reader.Stage.the-variants.{Closed}
+use Rattle.judging.specs.declared.judge.Stage.the-variants.{Closed}
 use Rattle.fields.specs.declared.fault.Fault.{Fault}
 use Rattle.fields.specs.declared.fault.Fault.the-variants.{TooLong, Truncated, UnknownKind, Misplaced, WrongLength, SpareBit, BenchCount, Share, JobCount, Minutes, Allowed, HeavyHyperEdge, Table}
 use Rattle.fields.specs.Format.{ours, headerSize, versionOf, kindOf, frameSize, bodyOf}
 use Rattle.fields.specs.Tests.{Test, heavyHyperEdgeAt, LowestHeavyHyperEdge}
-use Rattle.frame.specs.Reading.{Progress, Read, accepted, refused, nothingRead, faultsAt, after, cut, readFrom}
+use Rattle.judging.specs.FrameTests.{cut}
+use Rattle.frame.specs.Reading.{Progress, Read, accepted, refused, nothingRead, faultsAt, after, readFrom}
 
 -- ── whole frames ──
 

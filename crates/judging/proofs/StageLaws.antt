@@ -8,11 +8,11 @@ use mathlib.Core.Logic.{_⊎_, ⊎-elim}
 use mathlib.Core.Bool.{true}
 use native.Mathlib.Omega.{arith}
 use denote.Enum.Declared.{tagOf}
-use Rattle.frame.proofs.reader.Stage.{the-type}
-use Rattle.frame.specs.declared.reader.Stage.{Stage}
-use Rattle.frame.specs.declared.reader.Stage.the-variants.{Start, Open, Closed}
+use Rattle.judging.proofs.judge.Stage.{the-type}
+use Rattle.judging.specs.declared.judge.Stage.{Stage}
+use Rattle.judging.specs.declared.judge.Stage.the-variants.{Start, Open, Closed}
 use Rattle.fields.specs.Format.{headKind, jobKind, endKind}
-use Rattle.frame.specs.Reading.{misplaced}
+use Rattle.judging.specs.FrameTests.{misplaced}
 
 abbrev pub tag : Stage → ℕ
 tag g = tagOf the-type g

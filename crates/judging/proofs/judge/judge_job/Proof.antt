@@ -1,6 +1,6 @@
 -- `judge_job`: at each return the tests that led there decide which of the faults 4 to 6 and 9 to 11 is first.
 use Rattle.fields.specs.declared.fault.Verdict.{Verdict}
-use Rattle.frame.specs.declared.reader.Frame.the-variants.{Job}
+use Rattle.judging.specs.declared.judge.Frame.the-variants.{Job}
 use Rattle.fields.specs.Tests.{firstFault, jobFaults}
 use borrow.Author.Tests.{eq-eqb, ne-eqb}
 use mathlib.Core.Path.{sym, ap, _∙_}
@@ -8,12 +8,12 @@ use lib.ListN.{length}
 use denote.Ref.{now}
 use Rattle.bits.specs.Layout.{field}
 use Rattle.fields.specs.Format.{jobLayout, jobOf}
-use Rattle.frame.specs.Steps.{frameOf, sound}
-use Rattle.frame.specs.Reading.{frameFaults}
-use Rattle.frame.proofs.StageLaws.{misplaced-unless-open}
+use Rattle.judging.specs.Steps.{frameOf, sound}
+use Rattle.judging.specs.FrameTests.{frameFaults}
+use Rattle.judging.proofs.StageLaws.{misplaced-unless-open}
 use borrow.Author.Needs.{needs}
-use Rattle.frame.proofs.reader.judge_job.Statement.{statement}
-use Rattle.frame.proofs.reader.judge_job.Tie as tie
+use Rattle.judging.proofs.judge.judge_job.Statement.{statement}
+use Rattle.judging.proofs.judge.judge_job.Tie as tie
 
 enum-told : tie.Need-enum-told
 enum-told c = search needs

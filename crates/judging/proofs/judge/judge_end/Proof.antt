@@ -2,12 +2,12 @@
 use borrow.Author.Tests.{eq-eqb, ne-eqb}
 use lib.ListN.{length}
 use denote.Ref.{now}
-use Rattle.frame.specs.Steps.{frameOf}
-use Rattle.frame.specs.Reading.{frameFaults}
-use Rattle.frame.proofs.StageLaws.{misplaced-unless-open}
+use Rattle.judging.specs.Steps.{frameOf}
+use Rattle.judging.specs.FrameTests.{frameFaults}
+use Rattle.judging.proofs.StageLaws.{misplaced-unless-open}
 use borrow.Author.Needs.{needs}
-use Rattle.frame.proofs.reader.judge_end.Statement.{statement}
-use Rattle.frame.proofs.reader.judge_end.Tie as tie
+use Rattle.judging.proofs.judge.judge_end.Statement.{statement}
+use Rattle.judging.proofs.judge.judge_end.Tie as tie
 
 enum-told : tie.Need-enum-told
 enum-told c = search needs

@@ -3,9 +3,9 @@ use borrow.Author.Needs.{needs}
 use native.Mathlib.Omega.{arith}
 use mathlib.Core.Path.{_≡_}
 use denote.Ref.{now}
-use Rattle.frame.proofs.FrameAt.{Header, at-short, at-foreign, at-ours}
-use Rattle.frame.proofs.reader.frame_at.Statement.{statement}
-use Rattle.frame.proofs.reader.frame_at.Tie as tie
+use Rattle.judging.proofs.HeaderLaws.{Header, at-short, at-foreign, at-ours}
+use Rattle.judging.proofs.judge.frame_at.Statement.{statement}
+use Rattle.judging.proofs.judge.frame_at.Tie as tie
 
 read-requires : tie.Need-read-requires
 read-requires c κs = search needs

@@ -1,10 +1,10 @@
 -- `judge`: each kind has its own judge; any other kind is fault 3.
 use borrow.Author.Tests.{ne-eqb}
-use Rattle.frame.specs.Steps.{frameOf}
-use Rattle.frame.specs.Reading.{frameFaults}
+use Rattle.judging.specs.Steps.{frameOf}
+use Rattle.judging.specs.FrameTests.{frameFaults}
 use borrow.Author.Needs.{needs}
-use Rattle.frame.proofs.reader.judge.Statement.{statement}
-use Rattle.frame.proofs.reader.judge.Tie as tie
+use Rattle.judging.proofs.judge.judge.Statement.{statement}
+use Rattle.judging.proofs.judge.judge.Tie as tie
 
 judge-head-requires : tie.Need-judge-head-requires
 judge-head-requires c κs = search needs
