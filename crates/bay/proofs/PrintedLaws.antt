@@ -19,9 +19,10 @@ use borrow.Author.Tests.{leb-true, ltb-true}
 use Rattle.bools.proofs.BoolLaws.{split, and-left}
 use Rattle.sums.specs.Sum.{count}
 use Rattle.sums.proofs.CountLaws.{count-le}
-use Rattle.fields.specs.Numbers.{numberOf, placeOf}
+use Rattle.fields.specs.Numbers.{placeOf}
+use Rattle.fields.proofs.NumberLaws.{number-small}
 use Rattle.fields.specs.declared.fault.Fault.{Fault}
-use Rattle.fields.specs.declared.fault.Fault.the-variants.{TooLong, Truncated, UnknownKind, Misplaced, WrongLength, SpareBit, BenchCount, Share, JobCount, Minutes, Allowed, HeavyHyperEdge, Table}
+use Rattle.fields.specs.declared.fault.Fault.the-variants.{Table}
 use Rattle.fields.specs.declared.sheet.Head.{Head}
 use Rattle.fields.specs.declared.sheet.Job.{Job}
 use Rattle.frame.specs.Reading.{Read, accepted, refused, readSheet, stored}
@@ -81,21 +82,6 @@ printed-text s before n e {r = r} {places′ = places′} A ep el =
     ∙ found-text s before n e (answer-cases s)
 
 -- ── the length of the lines ──
-
-number-small : (f : Fault) → numberOf f ≤ 13
-number-small TooLong = omega arith
-number-small (Truncated at) = omega arith
-number-small (UnknownKind at) = omega arith
-number-small (Misplaced at) = omega arith
-number-small (WrongLength at) = omega arith
-number-small (SpareBit at) = omega arith
-number-small (BenchCount at) = omega arith
-number-small (Share at) = omega arith
-number-small (JobCount at) = omega arith
-number-small (Minutes at) = omega arith
-number-small (Allowed at) = omega arith
-number-small (HeavyHyperEdge job) = omega arith
-number-small (Table at) = omega arith
 
 module _ (h : Head) (js : List Job) (S : SoundSheet h js) where
   moves-small : (moves : ℕ) → moves ≤ moveBound h js → moves < 10 ^ 20

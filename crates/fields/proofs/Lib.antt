@@ -1,2 +1,3 @@
-pub mod FieldLaws
-pub mod TestLaws
+pub mod NumberLaws
+pub mod FormatLaws
+pub mod HyperEdgeLaws

@@ -1,7 +1,9 @@
--- The format of a sheet (document 01, "The sheet"): frames, and the fields of each kind. Reader and writer use the same layouts.
+-- The format of a sheet (document 01, "The sheet"): frames, and the fields of each kind. Reader and writer use the same
+-- layouts.
 --     ours                        the version that is read; frames of any other are skipped
 --     headKind, jobKind, endKind  the kinds of version 1
---     headerLayout, headLayout, jobLayout   widths of the packed fields, in bits, in order
+--     headerLayout            widths of the header's packed fields, in bits, in order
+--     headLayout, jobLayout, endLayout   the same for the body of each kind; layoutOf kind: one of the three
 --     headerSize                  bytes of a frame header
 --     versionOf, kindOf, lengthOf     the header's fields, of the bytes from the frame's first on
 --     frameSize                   bytes of the whole frame
@@ -51,6 +53,9 @@ jobLayout = 20 ∷ 64 ∷ 4 ∷ []
 abbrev pub endLayout : List ℕ
 endLayout = []
 
+abbrev pub layoutOf : ℕ → List ℕ
+layoutOf kind = cond (eqb kind headKind) headLayout (cond (eqb kind jobKind) jobLayout endLayout)
+
 abbrev pub headerSize : ℕ
 headerSize = total headerLayout / 8
 
@@ -71,7 +76,7 @@ abbrev pub bodyOf : List ℕ → List ℕ
 bodyOf frame = take (lengthOf frame) (drop headerSize frame)
 
 abbrev pub bodyLength : ℕ → ℕ
-bodyLength kind = cond (eqb kind headKind) (total headLayout / 8) (cond (eqb kind jobKind) (total jobLayout / 8) 0)
+bodyLength kind = total (layoutOf kind) / 8
 
 abbrev pub headOf : List ℕ → Head
 headOf body =
@@ -86,7 +91,8 @@ abbrev pub jobOf : List ℕ → Job
 jobOf body = record { minutes = field jobLayout 0 body; allowed = field jobLayout 1 body }
 
 abbrev pub spareOf : ℕ → List ℕ → ℕ
-spareOf kind body = cond (eqb kind headKind) (field headLayout 4 body) (cond (eqb kind jobKind) (field jobLayout 2 body) 0)
+spareOf kind body =
+    cond (eqb kind headKind) (field headLayout 4 body) (cond (eqb kind jobKind) (field jobLayout 2 body) 0)
 
 -- "the first bit is bench 0"
 abbrev pub allows : Job → ℕ → Bool
@@ -102,7 +108,7 @@ abbrev pub jobFrame : Job → List ℕ
 jobFrame j = frameBytes jobKind (packed jobLayout (j .minutes ∷ j .allowed ∷ 0 ∷ []))
 
 abbrev pub endFrame : List ℕ
-endFrame = frameBytes endKind []
+endFrame = frameBytes endKind (packed endLayout [])
 
 unfoldable pub jobFrames : List Job → List ℕ
 jobFrames [] = []

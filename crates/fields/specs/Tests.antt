@@ -7,10 +7,13 @@
 --     jobAt js n, jobTable n ms bs    job n of a list; jobs given by two tables
 --     longest js              W, the longest job's minutes
 --     heavyHyperEdge h w j    what 12 says of a job
---     hyperEdgeVerdict h js   12: the lowest such job
+--     heavyHyperEdgeAt h js n       12 holds of job n of js
+--     LowestHeavyHyperEdge h js n   n is the lowest such job
+--     hyperEdgeVerdict h js   12: the lowest such job, if there is one
 -- Tests of a width can hold for numbers handed to the writer only: a field that was read fits its width.
-use Prim.Native.Nat.{ℕ, _*_, _^_}
-use mathlib.Core.Bool.{Bool, cond, not, _&&_, _||_}
+use Prim.Native.Nat.{ℕ, _*_, _^_, _<_}
+use mathlib.Core.Path.{_≡_}
+use mathlib.Core.Bool.{Bool, true, false, cond, not, _&&_, _||_}
 use mathlib.Core.List.{List, [], _∷_}
 use lib.ListN.{length, getD}
 use lib.Dec.{eqb, leb, ltb}
@@ -20,7 +23,8 @@ use Rattle.sums.specs.Table.{table}
 use Rattle.fields.specs.declared.sheet.Head.{Head}
 use Rattle.fields.specs.declared.sheet.Job.{Job}
 use Rattle.fields.specs.declared.fault.Fault.{Fault}
-use Rattle.fields.specs.declared.fault.Fault.the-variants.{BenchCount, Share, JobCount, Minutes, Allowed, HeavyHyperEdge}
+use Rattle.fields.specs.declared.fault.Fault.the-variants.{BenchCount, Share, JobCount, Minutes, Allowed}
+use Rattle.fields.specs.declared.fault.Fault.the-variants.{HeavyHyperEdge}
 use Rattle.fields.specs.declared.fault.Verdict.{Verdict}
 use Rattle.fields.specs.declared.fault.Verdict.the-variants.{Accepted, Refused}
 use Rattle.fields.specs.Format.{allows}
@@ -87,8 +91,17 @@ longest js = largest (length js) (λ n. jobAt js n .minutes)
 abbrev pub heavyHyperEdge : Head → ℕ → Job → Bool
 heavyHyperEdge h w j = leb 3 (count 64 (allows j)) && ltb (h .p * w) (h .q * j .minutes)
 
+abbrev pub heavyHyperEdgeAt : Head → List Job → ℕ → Bool
+heavyHyperEdgeAt h js n = heavyHyperEdge h (longest js) (jobAt js n)
+
+-- "(place: the lowest such job number)"
+pub record LowestHeavyHyperEdge (h : Head) (js : List Job) (n : ℕ) : Type 0 where
+  pub is-job : n < length js
+  pub is-heavy : heavyHyperEdgeAt h js n ≡ true
+  pub none-lower : (i : ℕ) → i < n → heavyHyperEdgeAt h js i ≡ false
+
 -- "12. After the whole sheet: … (place: the lowest such job number)"
 unfoldable pub hyperEdgeVerdict : Head → List Job → Verdict
 hyperEdgeVerdict h js =
-    let n = least (length js) (λ n. heavyHyperEdge h (longest js) (jobAt js n)) in
+    let n = least (length js) (heavyHyperEdgeAt h js) in
     cond (ltb n (length js)) (Refused (HeavyHyperEdge n)) Accepted

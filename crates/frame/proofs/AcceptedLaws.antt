@@ -17,13 +17,14 @@ use Rattle.bools.proofs.BoolLaws.{clash, split}
 use Rattle.bools.proofs.OrderLaws.{lt-or-le}
 use Rattle.fields.specs.declared.sheet.Head.{Head}
 use Rattle.fields.specs.declared.sheet.Job.{Job}
-use Rattle.frame.specs.declared.reader.Stage.{Stage}
-use Rattle.frame.specs.declared.reader.Stage.the-variants.{Start, Open, Closed}
+use Rattle.judging.specs.declared.judge.Stage.{Stage}
+use Rattle.judging.specs.declared.judge.Stage.the-variants.{Start, Open, Closed}
 use Rattle.fields.specs.declared.fault.Verdict.the-variants.{Accepted}
 use Rattle.fields.specs.Format.{headKind, jobKind, kindOf, bodyOf, bodyLength, headOf, jobOf, spareOf}
 use Rattle.fields.specs.Tests.{firstFault, jobAt, noJob}
 use Rattle.frame.specs.Sound.{SoundHead, SoundJob, SoundSheet}
-use Rattle.frame.specs.Reading.{Progress, accepted, nothingRead, knownKind, misplaced, contentFaults, frameFaults, faultsAt, after, readSheet}
+use Rattle.judging.specs.FrameTests.{knownKind, misplaced, contentFaults, frameFaults}
+use Rattle.frame.specs.Reading.{Progress, accepted, nothingRead, faultsAt, after, readSheet}
 use Rattle.frame.specs.Frames.{Reached, start, past-foreign, past-sound}
 use Rattle.frame.proofs.WriterLaws.{cond-accepted, head-sound, job-sound}
 use Rattle.frame.proofs.FirstFault.{none-holds-passes, hyper-edge-none, read-accepted}

@@ -4,9 +4,7 @@
 --     none-holds, none-holds-passes   it gives none where no test holds, and back
 --     faultsAt-numbers        the tests at a frame have the numbers 3 to 11, in this order, as far as its kind has them
 --     in-frame-number         a fault found by them has one of these numbers, and the frame's first byte for its place
--- Of 12:
---     lowest-hyper-edge, hyper-edge-lowest    hyperEdgeVerdict gives the lowest job that 12 holds of, and back
---     none-hyper-edge, hyper-edge-none        it gives none where 12 holds of no job, and back
+-- Of 12, passed on: lowest-hyper-edge, hyper-edge-lowest, none-hyper-edge, hyper-edge-none (fields HyperEdgeLaws)
 -- Of the places that reading comes to:
 --     reached-length          the bytes before the place and those left are all of the sheet
 --     reached-read            the sheet is read as what is left is read from there on
@@ -32,21 +30,21 @@ use lib.Dec.{eqb, ltb}
 use borrow.Author.Tests.{lt-ltb, le-ltb}
 use Rattle.bools.proofs.BoolLaws.{split, tests}
 use Rattle.bools.proofs.OrderLaws.{lt-or-le, eq-or-ne, last-or-below}
-use Rattle.sums.specs.Search.{least}
-use Rattle.sums.proofs.SearchLaws.{least-found, least-none, least-holds, least-before}
 use Rattle.fields.specs.declared.sheet.Head.{Head}
 use Rattle.fields.specs.declared.sheet.Job.{Job}
-use Rattle.frame.specs.declared.reader.Stage.{Stage}
-use Rattle.frame.specs.declared.reader.Stage.the-variants.{Start, Open, Closed}
+use Rattle.judging.specs.declared.judge.Stage.{Stage}
+use Rattle.judging.specs.declared.judge.Stage.the-variants.{Start, Open, Closed}
 use Rattle.fields.specs.declared.fault.Fault.{Fault}
-use Rattle.fields.specs.declared.fault.Fault.the-variants.{TooLong, Truncated, HeavyHyperEdge}
+use Rattle.fields.specs.declared.fault.Fault.the-variants.{TooLong, Truncated}
 use Rattle.fields.specs.declared.fault.Verdict.{Verdict}
 use Rattle.fields.specs.declared.fault.Verdict.the-variants.{Accepted, Refused}
 use Rattle.fields.specs.Numbers.{numberOf, placeOf}
 use Rattle.fields.specs.Format.{ours, headKind, jobKind, versionOf, kindOf, bodyOf, headOf, jobOf}
 use Rattle.fields.specs.Tests.{Test, firstFault, headFaults, jobFaults, hyperEdgeVerdict}
-use Rattle.frame.specs.Reading.{Progress, Read, accepted, refused, nothingRead, frameFaults, faultsAt, after, judged, endVerdict, ending, readFrom, readSheet}
-use Rattle.frame.specs.Frames.{WholeFrame, NoneHolds, FirstTest, readOn, Reached, start, past-foreign, past-sound, heavyHyperEdgeAt, LowestHeavyHyperEdge, FaultHere, ends-inside, in-frame, no-end, heavy-hyper-edge, SheetFault, SheetSound, Judgement, too-long, faulty, sound}
+pub use Rattle.fields.proofs.HyperEdgeLaws.{lowest-hyper-edge, hyper-edge-lowest, none-hyper-edge, hyper-edge-none}
+use Rattle.judging.specs.FrameTests.{frameFaults}
+use Rattle.frame.specs.Reading.{Progress, Read, accepted, refused, nothingRead, faultsAt, after, judged, endVerdict, ending, readFrom, readSheet}
+use Rattle.frame.specs.Frames.{WholeFrame, NoneHolds, FirstTest, readOn, Reached, start, past-foreign, past-sound, FaultHere, ends-inside, in-frame, no-end, heavy-hyper-edge, SheetFault, SheetSound, Judgement, too-long, faulty, sound}
 use Rattle.frame.proofs.WholeFrames.{verdict-cases, whole-unique, frames-induction, readOn-past-foreign, readOn-past-sound, readOn-in-frame, readOn-cut, readSheet-within}
 
 -- ── the tests at a frame ──
@@ -134,51 +132,6 @@ faultsAt-in-frame g at frame =
 pub in-frame-number : (g : Progress) (at : ℕ) (frame : List ℕ) (f : Fault) → FirstTest (faultsAt g at frame) f
     → (3 ≤ numberOf f) × (numberOf f ≤ 11) × (placeOf f ≡ at)
 in-frame-number g at frame f t = every-found (InFrame at) (faultsAt g at frame) f (faultsAt-in-frame g at frame) (first-test-holds t)
-
--- ── 12 ──
-
-abbrev lowestVerdict : ℕ → (ℕ → Bool) → Verdict
-lowestVerdict n f = cond (ltb (least n f) n) (Refused (HeavyHyperEdge (least n f))) Accepted
-
-hyperEdgeVerdict-least : (h : Head) (js : List Job) → hyperEdgeVerdict h js ≡ lowestVerdict (length js) (heavyHyperEdgeAt h js)
-unfolding hyperEdgeVerdict
-hyperEdgeVerdict-least h js = refl
-
-module _ (n : ℕ) (f : ℕ → Bool) where
-  lowest-refused : (x : Fault) → lowestVerdict n f ≡ Refused x → (least n f < n) × (x ≡ HeavyHyperEdge (least n f))
-  lowest-refused x e = elim (split (ltb (least n f) n)) [
-    | inl p ↦ (omega tests, cc)
-    | inr p ↦ let z : _≡_ {A = ℕ} 0 1 = cc in absurd (omega arith)
-  ]
-
-  lowest-accepted : lowestVerdict n f ≡ Accepted → (i : ℕ) → i < n → f i ≡ false
-  lowest-accepted e i l = elim (split (ltb (least n f) n)) [
-    | inl p ↦ let z : _≡_ {A = ℕ} 0 1 = cc in absurd (omega arith)
-    | inr p ↦ least-before n f i (omega tests)
-  ]
-
-  lowest-found : (i : ℕ) → i < n → f i ≡ true → ((k : ℕ) → k < i → f k ≡ false) → lowestVerdict n f ≡ Refused (HeavyHyperEdge i)
-  lowest-found i l p q = rw (least-found n f i l p q, lt-ltb i n l)
-
-  lowest-none : ((i : ℕ) → i < n → f i ≡ false) → lowestVerdict n f ≡ Accepted
-  lowest-none q = rw (least-none n f q, le-ltb n n (omega arith))
-
-pub lowest-hyper-edge : (h : Head) (js : List Job) (f : Fault) → hyperEdgeVerdict h js ≡ Refused f
-    → (n : ℕ) × (f ≡ HeavyHyperEdge n) × LowestHeavyHyperEdge h js n
-lowest-hyper-edge h js f e =
-    let s = heavyHyperEdgeAt h js in
-    let r = lowest-refused (length js) s f (sym (hyperEdgeVerdict-least h js) ∙ e) in
-    (least (length js) s, r .1, record { is-job = r .0; is-heavy = least-holds (length js) s (r .0); none-lower = least-before (length js) s })
-
-pub hyper-edge-lowest : (h : Head) (js : List Job) (n : ℕ) → LowestHeavyHyperEdge h js n → hyperEdgeVerdict h js ≡ Refused (HeavyHyperEdge n)
-hyper-edge-lowest h js n l =
-    hyperEdgeVerdict-least h js ∙ lowest-found (length js) (heavyHyperEdgeAt h js) n (l .is-job) (l .is-heavy) (l .none-lower)
-
-pub none-hyper-edge : (h : Head) (js : List Job) → hyperEdgeVerdict h js ≡ Accepted → (n : ℕ) → n < length js → heavyHyperEdgeAt h js n ≡ false
-none-hyper-edge h js e = lowest-accepted (length js) (heavyHyperEdgeAt h js) (sym (hyperEdgeVerdict-least h js) ∙ e)
-
-pub hyper-edge-none : (h : Head) (js : List Job) → ((n : ℕ) → n < length js → heavyHyperEdgeAt h js n ≡ false) → hyperEdgeVerdict h js ≡ Accepted
-hyper-edge-none h js q = hyperEdgeVerdict-least h js ∙ lowest-none (length js) (heavyHyperEdgeAt h js) q
 
 -- ── the places that reading comes to ──
 

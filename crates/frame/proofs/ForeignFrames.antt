@@ -31,17 +31,18 @@ use Rattle.bools.proofs.OrderLaws.{eq-or-ne}
 use Rattle.sums.specs.Search.{least}
 use Rattle.fields.specs.declared.sheet.Head.{Head}
 use Rattle.fields.specs.declared.sheet.Job.{Job}
-use Rattle.frame.specs.declared.reader.Stage.{Stage}
-use Rattle.frame.specs.declared.reader.Stage.the-variants.{Start, Open, Closed}
+use Rattle.judging.specs.declared.judge.Stage.{Stage}
+use Rattle.judging.specs.declared.judge.Stage.the-variants.{Start, Open, Closed}
 use Rattle.fields.specs.declared.fault.Fault.{Fault}
 use Rattle.fields.specs.declared.fault.Fault.the-variants.{TooLong, Truncated, UnknownKind, Misplaced, WrongLength, SpareBit, BenchCount, Share, JobCount, Minutes, Allowed, HeavyHyperEdge, Table}
 use Rattle.fields.specs.declared.fault.Verdict.{Verdict}
 use Rattle.fields.specs.declared.fault.Verdict.the-variants.{Accepted, Refused}
 use Rattle.fields.specs.Numbers.{numberOf}
 use Rattle.fields.specs.Format.{ours, headKind, jobKind, versionOf, kindOf, frameSize, bodyOf, headOf, jobOf}
-use Rattle.fields.specs.Tests.{Test, firstFault, headFaults, jobFaults, hyperEdgeVerdict}
-use Rattle.frame.specs.Reading.{Progress, Read, accepted, refused, nothingRead, frameFaults, faultsAt, after, cut, judged, endVerdict, ending, readFrom, readSheet}
-use Rattle.frame.specs.Frames.{WholeFrame, Foreign, Row, no-frame, a-frame, Padded, unchanged, kept, added, addedBefore, movedBy, fromOn, movedReadBy, movedRead, readOn, heavyHyperEdgeAt}
+use Rattle.fields.specs.Tests.{Test, firstFault, headFaults, jobFaults, heavyHyperEdgeAt, hyperEdgeVerdict}
+use Rattle.judging.specs.FrameTests.{frameFaults, cut}
+use Rattle.frame.specs.Reading.{Progress, Read, accepted, refused, nothingRead, faultsAt, after, judged, endVerdict, ending, readFrom, readSheet}
+use Rattle.frame.specs.Frames.{WholeFrame, Foreign, Row, no-frame, a-frame, Padded, unchanged, kept, added, addedBefore, movedBy, fromOn, movedReadBy, movedRead, readOn}
 use Rattle.frame.proofs.ReadLaws.{readFrom-over, readFrom-cut, readFrom-foreign, readFrom-fault, readFrom-next}
 use Rattle.frame.proofs.WholeFrames.{verdict-cases, readOn-past-foreign, readOn-past-sound, readOn-in-frame, readSheet-within}
 

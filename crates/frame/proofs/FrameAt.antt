@@ -1,9 +1,4 @@
--- The frame at the front of the bytes that are left, as the program finds it (`frameAt`).
--- From the program's tests to its answer:
---     Header                              the header that was read is that of the frame
---     at-short                            the bytes end inside the frame
---     at-foreign, at-ours                 a whole frame of another version; one of version 1, judged by its kind
--- From the answer to how reading goes on:
+-- From what the program finds at a frame (`frameAt`) to how reading goes on.
 --     found                               the answer, for the progress so far
 --     found-fault                         the sheet is refused
 --     found-foreign, found-ours           the frame is whole, and of another version; of version 1
@@ -23,52 +18,17 @@ use Rattle.fields.specs.declared.fault.Fault.{Fault}
 use Rattle.fields.specs.declared.fault.Fault.the-variants.{Truncated}
 use Rattle.fields.specs.declared.fault.Verdict.{Verdict}
 use Rattle.fields.specs.declared.fault.Verdict.the-variants.{Accepted, Refused}
-use Rattle.frame.specs.declared.reader.Stage.{Stage}
-use Rattle.frame.specs.declared.reader.Frame.{Frame}
-use Rattle.frame.specs.declared.reader.Frame.the-variants as frame
+use Rattle.judging.specs.declared.judge.Stage.{Stage}
+use Rattle.judging.specs.declared.judge.Frame.{Frame}
+use Rattle.judging.specs.declared.judge.Frame.the-variants as frame
 use Rattle.fields.specs.Format.{ours, headKind, jobKind, versionOf, kindOf, lengthOf, frameSize, bodyOf, headOf, jobOf}
 use Rattle.fields.specs.Tests.{firstFault}
-use Rattle.frame.specs.Reading.{Progress, refused, faultsAt, cut}
+use Rattle.judging.specs.FrameTests.{cut}
+use Rattle.frame.specs.Reading.{Progress, refused, faultsAt}
 use Rattle.frame.specs.Frames.{readOn}
-use Rattle.frame.specs.Steps.{frameOf, frameAt, contentOf, sound}
+use Rattle.judging.specs.Steps.{frameOf, frameAt, contentOf, sound}
 use Rattle.frame.proofs.WholeFrames.{readOn-cut}
 use Rattle.frame.proofs.JudgeLaws.{readOn-fault, judgement, frameOf-fault}
-
--- ── from the tests to the answer ──
-
-pub record Header (rest : List ℕ) (version kind size : ℕ) : Type 0 where
-  pub version-is : version ≡ versionOf rest
-  pub kind-is : kind ≡ kindOf rest
-  pub size-is : size ≡ lengthOf rest
-
-module _ (stage : Stage) (m n at : ℕ) (rest : List ℕ) where
-  at-cut : cut rest ≡ true → frame.Faulty (Truncated at) ≡ frameAt stage m n at rest
-  unfolding frameAt
-  at-cut c = rw c
-
-  module _ (version kind size : ℕ) (h : Header rest version kind size) where
-    pub at-short : length rest < 3 + size → frame.Faulty (Truncated at) ≡ frameAt stage m n at rest
-    at-short l =
-        at-cut (or-right (ltb (length rest) 3) (lt-ltb (length rest) (frameSize rest) (omega (arith, h .size-is))))
-
-    module _ (fits : 3 + size ≤ length rest) where
-      at-whole : cut rest ≡ false
-      at-whole =
-          or-false (le-ltb (length rest) 3 (omega arith)) (le-ltb (length rest) (frameSize rest) (omega (arith, h .size-is)))
-
-      pub at-foreign : (version ≡ 1 → ⊥) → frame.Foreign ≡ frameAt stage m n at rest
-      unfolding frameAt
-      at-foreign v = rw (at-whole, ne-eqb (versionOf rest) ours (λ e. v (h .version-is ∙ e)))
-
-      pub at-ours : version ≡ 1 → (x : Frame) → x ≡ frameOf stage m n at kind (take (3 + size - 3) (drop 3 rest))
-          → x ≡ frameAt stage m n at rest
-      unfolding frameAt
-      at-ours v x e =
-          let whole-size : 3 + size - 3 ≡ lengthOf rest = omega (arith, h .size-is) in
-          rw (at-whole, eq-eqb (versionOf rest) ours (sym (h .version-is) ∙ v))
-          (e ∙ ap₂ (λ (k z : ℕ). frameOf stage m n at k (take z (drop 3 rest))) (h .kind-is) whole-size)
-
--- ── from the answer to how reading goes on ──
 
 -- A frame of version 1 without a fault.
 abbrev pub holdsSomething : Frame → Bool

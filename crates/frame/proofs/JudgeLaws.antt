@@ -12,18 +12,19 @@ use lib.Dec.{eqb}
 use borrow.Author.Tests.{ne-eqb}
 use Rattle.fields.specs.declared.sheet.Head.{Head}
 use Rattle.fields.specs.declared.sheet.Job.{Job}
-use Rattle.frame.specs.declared.reader.Stage.the-variants.{Open, Closed}
-use Rattle.frame.specs.declared.reader.Frame.{Frame}
-use Rattle.frame.specs.declared.reader.Frame.the-variants as frame
+use Rattle.judging.specs.declared.judge.Stage.the-variants.{Open, Closed}
+use Rattle.judging.specs.declared.judge.Frame.{Frame}
+use Rattle.judging.specs.declared.judge.Frame.the-variants as frame
 use Rattle.fields.specs.declared.fault.Fault.{Fault}
 use Rattle.fields.specs.declared.fault.Verdict.{Verdict}
 use Rattle.fields.specs.declared.fault.Verdict.the-variants.{Accepted, Refused}
 use Rattle.fields.specs.Format.{ours, headKind, jobKind, versionOf, kindOf, frameSize, bodyOf, headOf, jobOf}
 use Rattle.fields.specs.Tests.{firstFault, jobFaults}
 use Rattle.frame.specs.Sound.{SoundJob}
-use Rattle.frame.specs.Reading.{Progress, refused, faultsAt, after, cut, readFrom}
+use Rattle.judging.specs.FrameTests.{cut}
+use Rattle.frame.specs.Reading.{Progress, refused, faultsAt, after, readFrom}
 use Rattle.frame.specs.Frames.{readOn}
-use Rattle.frame.specs.Steps.{frameOf, contentOf, sound}
+use Rattle.judging.specs.Steps.{frameOf, contentOf, sound}
 use Rattle.frame.proofs.ReadLaws.{cut-false, frameSize-pos, readFrom-foreign, readFrom-fault, readFrom-next, readFrom-enough}
 use Rattle.frame.proofs.AcceptedLaws.{content-accepted}
 use Rattle.frame.proofs.WriterLaws.{job-sound}

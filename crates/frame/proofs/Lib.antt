@@ -1,12 +1,10 @@
 pub mod ReadLaws
 pub mod WriterLaws
 pub mod RoundTrip
-pub mod StageLaws
 pub mod WholeFrames
 pub mod ForeignFrames
 pub mod FirstFault
 pub mod ReadPrefix
-pub mod HyperEdges
 pub mod SheetArrays
 pub mod JudgeLaws
 pub mod FrameAt

@@ -35,9 +35,11 @@ use Rattle.fields.specs.Numbers.{placeOf}
 use Rattle.fields.specs.Format.{headKind, jobKind, kindOf, bodyOf, sheetBytes}
 use Rattle.fields.specs.Tests.{firstFault, headFaults, jobFaults, benchCountFault, shareFault, jobCountFault, minutesFault, allowedFault, hyperEdgeVerdict}
 use Rattle.frame.specs.Writing.{andThen, jobsVerdict, writerVerdict, writeSheet}
-use Rattle.frame.specs.Reading.{Progress, accepted, refused, frameFaults, faultsAt, after, readSheet}
+use Rattle.judging.specs.FrameTests.{frameFaults}
+use Rattle.frame.specs.Reading.{Progress, accepted, refused, faultsAt, after, readSheet}
 use Rattle.frame.specs.Frames.{NoneHolds, Reached, start, past-foreign, past-sound, FaultHere, ends-inside, in-frame, no-end, heavy-hyper-edge}
-use Rattle.frame.proofs.WriterLaws.{length-sheetBytes, job-sound, jobs-bound, writerVerdict-sound}
+use Rattle.fields.proofs.FormatLaws.{length-sheetBytes}
+use Rattle.frame.proofs.WriterLaws.{job-sound, jobs-bound, writerVerdict-sound}
 use Rattle.frame.proofs.WholeFrames.{verdict-cases}
 use Rattle.frame.proofs.FirstFault.{in-frame-number, lowest-hyper-edge, reached-length, read-too-long, read-fault, read-accepted}
 

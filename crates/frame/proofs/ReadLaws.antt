@@ -21,7 +21,8 @@ use Rattle.fields.specs.declared.fault.Verdict.{Verdict}
 use Rattle.fields.specs.declared.fault.Verdict.the-variants.{Accepted, Refused}
 use Rattle.fields.specs.Format.{ours, headerSize, versionOf, kindOf, frameSize, bodyOf}
 use Rattle.fields.specs.Tests.{firstFault}
-use Rattle.frame.specs.Reading.{Progress, refused, faultsAt, after, cut, ending, readFrom}
+use Rattle.judging.specs.FrameTests.{cut}
+use Rattle.frame.specs.Reading.{Progress, refused, faultsAt, after, ending, readFrom}
 
 pub frameSize-pos : (rest : List ℕ) → 3 ≤ frameSize rest
 frameSize-pos rest = omega arith

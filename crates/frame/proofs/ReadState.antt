@@ -21,19 +21,20 @@ use Rattle.fields.specs.declared.sheet.Head.{Head}
 use Rattle.fields.specs.declared.sheet.Job.{Job}
 use Rattle.fields.specs.declared.sheet.Sheet.{Sheet}
 use Rattle.fields.specs.declared.sheet.Reading.{Reading}
-use Rattle.frame.specs.declared.reader.Stage.{Stage}
-use Rattle.frame.specs.declared.reader.Stage.the-variants.{Start, Open, Closed}
-use Rattle.frame.specs.declared.reader.Frame.{Frame}
-use Rattle.frame.specs.declared.reader.Frame.the-variants as frame
+use Rattle.judging.specs.declared.judge.Stage.{Stage}
+use Rattle.judging.specs.declared.judge.Stage.the-variants.{Start, Open, Closed}
+use Rattle.judging.specs.declared.judge.Frame.{Frame}
+use Rattle.judging.specs.declared.judge.Frame.the-variants as frame
 use Rattle.fields.specs.declared.fault.Fault.{Fault}
 use Rattle.fields.specs.declared.fault.Verdict.{Verdict}
 use Rattle.fields.specs.declared.fault.Verdict.the-variants.{Accepted, Refused}
 use Rattle.fields.specs.Format.{ours, versionOf, kindOf, lengthOf, frameSize, bodyOf}
 use Rattle.fields.specs.Tests.{firstFault, jobTable, jobAt, noJob}
 use Rattle.frame.specs.Sound.{SoundJob}
-use Rattle.frame.specs.Reading.{Progress, refused, faultsAt, after, cut, endVerdict, judged, readSheet, stored, padded, sheetOf, noHead}
+use Rattle.judging.specs.FrameTests.{cut}
+use Rattle.frame.specs.Reading.{Progress, refused, faultsAt, after, endVerdict, judged, readSheet, stored, padded, sheetOf, noHead, readingOf}
 use Rattle.frame.specs.Frames.{readOn}
-use Rattle.frame.specs.Steps.{frameAt, readingOf}
+use Rattle.judging.specs.Steps.{frameAt}
 use Rattle.frame.proofs.ReadLaws.{cut-false, readFrom-over}
 use Rattle.frame.proofs.WholeFrames.{readSheet-within}
 use Rattle.frame.proofs.SheetArrays.{getD-padded, set-padded, table-padded}

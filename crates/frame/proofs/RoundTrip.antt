@@ -26,19 +26,22 @@ use lib.Seq.{take-at, drop-at}
 use lib.Dec.{eqb, ltb, lit<}
 use borrow.Author.Tests.{eq-eqb, ne-eqb, le-ltb}
 use Rattle.bools.proofs.BoolLaws.{or-false}
+use Rattle.bits.specs.Bits.{bytesOf}
 use Rattle.bits.specs.Layout.{packed, field, Fit}
 use Rattle.bits.proofs.LayoutLaws.{length-packed, field-packed, field-packed-append}
 use Rattle.fields.specs.declared.sheet.Head.{Head}
 use Rattle.fields.specs.declared.sheet.Job.{Job}
-use Rattle.frame.specs.declared.reader.Stage.the-variants.{Start, Open, Closed}
+use Rattle.judging.specs.declared.judge.Stage.the-variants.{Start, Open, Closed}
 use Rattle.fields.specs.declared.fault.Verdict.the-variants.{Accepted}
 use Rattle.fields.specs.Format.{ours, headKind, jobKind, endKind, headerLayout, headLayout, jobLayout, headerSize, versionOf, kindOf, lengthOf, frameSize, bodyOf, headOf, jobOf, spareOf, frameBytes, headFrame, jobFrame, endFrame, jobFrames, sheetBytes}
 use Rattle.fields.specs.Tests.{firstFault, headFaults, jobFaults, jobAt}
-use Rattle.frame.specs.Reading.{Progress, accepted, nothingRead, frameFaults, faultsAt, after, cut, readFrom, readSheet}
+use Rattle.judging.specs.FrameTests.{frameFaults, cut}
+use Rattle.frame.specs.Reading.{Progress, accepted, nothingRead, faultsAt, after, readFrom, readSheet}
 use Rattle.frame.specs.Writing.{writerVerdict}
 use Rattle.frame.specs.Sound.{SoundHead, SoundJob}
 use Rattle.frame.proofs.ReadLaws.{readFrom-over, readFrom-next, readFrom-enough}
-use Rattle.frame.proofs.WriterLaws.{headValues, jobValues, headBody, jobBody, length-frameBytes, length-headBody, length-jobBody, length-sheetBytes, sound-head, sound-job, writerVerdict-sound}
+use Rattle.fields.proofs.FormatLaws.{headValues, jobValues, headBody, jobBody, length-frameBytes, length-headBody, length-jobBody, length-sheetBytes}
+use Rattle.frame.proofs.WriterLaws.{sound-head, sound-job, writerVerdict-sound}
 
 -- ── a frame at the front ──
 
@@ -153,7 +156,7 @@ readFrom-jobFrame h js j s w k rest at =
 
 pub readFrom-endFrame : (h : Head) (js : List Job) (k : ℕ) (rest : List ℕ) (at : ℕ)
     → readFrom (suc k) (endFrame ++ rest) at (reading h js) ≡ readFrom k rest (at + length endFrame) (record { stage = Closed; head = h; jobs = js })
-unfolding frameFaults after
+unfolding frameFaults after bytesOf
 readFrom-endFrame h js k rest at = readFrom-frame endKind [] rest (lit< tt) (lit< tt) k at (reading h js) refl
 
 -- By induction on the jobs: each job joins those read before it, so its number is how many these are.

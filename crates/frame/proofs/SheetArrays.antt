@@ -11,7 +11,7 @@ use lib.ListN.{length, getD, set, replicate, length-map, length-append, length-r
 use lib.Seq.{set-at, append-snoc}
 use Rattle.sums.proofs.TableLaws.{table-cong, table-getD}
 use Rattle.fields.specs.declared.sheet.Job.{Job}
-use Rattle.frame.specs.declared.reader.Frame.the-variants as frame
+use Rattle.judging.specs.declared.judge.Frame.the-variants as frame
 use Rattle.fields.specs.Tests.{jobTable, jobAt, noJob}
 use Rattle.frame.specs.Reading.{padded}
 

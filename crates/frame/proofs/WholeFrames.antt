@@ -36,7 +36,8 @@ use Rattle.fields.specs.declared.fault.Verdict.{Verdict}
 use Rattle.fields.specs.declared.fault.Verdict.the-variants.{Accepted, Refused}
 use Rattle.fields.specs.Format.{ours, headerLayout, headerSize, versionOf, kindOf, lengthOf, frameSize, bodyOf}
 use Rattle.fields.specs.Tests.{firstFault}
-use Rattle.frame.specs.Reading.{Progress, refused, nothingRead, faultsAt, after, cut, readFrom, readSheet}
+use Rattle.judging.specs.FrameTests.{cut}
+use Rattle.frame.specs.Reading.{Progress, refused, nothingRead, faultsAt, after, readFrom, readSheet}
 use Rattle.frame.specs.Frames.{WholeFrame, readOn}
 use Rattle.frame.proofs.ReadLaws.{cut-false, frameSize-pos, readFrom-enough, readFrom-cut, readFrom-foreign, readFrom-fault, readFrom-next}
 

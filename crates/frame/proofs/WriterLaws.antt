@@ -1,14 +1,4 @@
--- What the writer gives, in bytes, and what it means that the tests 7 to 12, by which it refuses, find no fault.
--- Bytes:
---     headValues, jobValues   the values of the packed fields of a head and of a job
---     headBody, jobBody       the body of a head frame and of a job frame
---     length-headBody, length-jobBody     a head's body has 7 bytes, a job's 11
---     length-frameBytes       a frame has 3 bytes more than its body
---     length-headFrame, length-jobFrame, length-endFrame      a head frame has 10 bytes, a job frame 14, an end frame 3
---     length-jobFrames        n jobs make 14 n bytes
---     length-sheetBytes       a sheet of n jobs has 13 + 14 n bytes
---     jobFrames-append        the frames of two lists of jobs, one list after the other
--- Verdicts:
+-- What it means that the tests 7 to 12, by which the writer refuses, find no fault.
 --     cond-accepted           a test and then a verdict accept: the test does not hold, and the verdict accepts
 --     andThen-accepted        two verdicts one after the other accept: each of them does
 --     head-sound, sound-head  the tests 7 and 8 find no fault in a head: then it is sound, and back
@@ -36,66 +26,15 @@ use Rattle.bools.proofs.BoolLaws.{split, clash, tests, and-intro, and-false-lef
 use Rattle.bools.proofs.OrderLaws.{lt-or-le}
 use Rattle.sums.specs.Search.{any}
 use Rattle.sums.proofs.SearchLaws.{any-intro, any-elim, any-false, any-none}
-use Rattle.bits.specs.Layout.{packed}
-use Rattle.bits.proofs.LayoutLaws.{length-packed}
 use Rattle.fields.specs.declared.sheet.Head.{Head}
 use Rattle.fields.specs.declared.sheet.Job.{Job}
 use Rattle.fields.specs.declared.fault.Fault.{Fault}
 use Rattle.fields.specs.declared.fault.Verdict.{Verdict}
 use Rattle.fields.specs.declared.fault.Verdict.the-variants.{Accepted, Refused}
-use Rattle.fields.specs.Format.{headerLayout, headLayout, jobLayout, ours, headKind, jobKind, endKind, headFrame, jobFrame, endFrame, jobFrames, sheetBytes, frameBytes, allows}
+use Rattle.fields.specs.Format.{allows}
 use Rattle.fields.specs.Tests.{firstFault, headFaults, jobFaults, noJob, jobAt, benchCountFault, shareFault, jobCountFault, minutesFault, allowedFault}
 use Rattle.frame.specs.Writing.{andThen, jobsVerdict, writerVerdict}
 use Rattle.frame.specs.Sound.{SoundHead, SoundJob, SoundSheet}
-
--- ── bytes ──
-
-abbrev pub headValues : Head → List ℕ
-headValues h = h .benches ∷ h .p ∷ h .q ∷ h .target ∷ 0 ∷ []
-
-abbrev pub jobValues : Job → List ℕ
-jobValues j = j .minutes ∷ j .allowed ∷ 0 ∷ []
-
-abbrev pub headBody : Head → List ℕ
-headBody h = packed headLayout (headValues h)
-
-abbrev pub jobBody : Job → List ℕ
-jobBody j = packed jobLayout (jobValues j)
-
-pub length-frameBytes : (kind : ℕ) (body : List ℕ) → length (frameBytes kind body) ≡ 3 + length body
-length-frameBytes kind body =
-    let header = packed headerLayout (ours ∷ kind ∷ length body ∷ []) in
-    length-append header body ∙ ap (λ (n : ℕ). n + length body) (length-packed headerLayout (ours ∷ kind ∷ length body ∷ []) 3 refl)
-
-pub length-headBody : (h : Head) → length (headBody h) ≡ 7
-length-headBody h = length-packed headLayout (headValues h) 7 refl
-
-pub length-jobBody : (j : Job) → length (jobBody j) ≡ 11
-length-jobBody j = length-packed jobLayout (jobValues j) 11 refl
-
-pub length-headFrame : (h : Head) → length (headFrame h) ≡ 10
-length-headFrame h = length-frameBytes headKind (headBody h) ∙ ap (λ (n : ℕ). 3 + n) (length-headBody h)
-
-pub length-jobFrame : (j : Job) → length (jobFrame j) ≡ 14
-length-jobFrame j = length-frameBytes jobKind (jobBody j) ∙ ap (λ (n : ℕ). 3 + n) (length-jobBody j)
-
-pub length-endFrame : length endFrame ≡ 3
-length-endFrame = length-frameBytes endKind []
-
-pub length-jobFrames : (js : List Job) → length (jobFrames js) ≡ 14 * length js
-unfolding jobFrames
-length-jobFrames [] = refl
-length-jobFrames (j ∷ js) = length-append (jobFrame j) (jobFrames js) ∙ omega (arith, length-jobFrame j, length-jobFrames js)
-
-pub length-sheetBytes : (h : Head) (js : List Job) → length (sheetBytes h js) ≡ 13 + 14 * length js
-length-sheetBytes h js =
-    length-append (headFrame h ++ jobFrames js) endFrame
-    ∙ omega (arith, length-append (headFrame h) (jobFrames js), length-headFrame h, length-jobFrames js, length-endFrame)
-
-pub jobFrames-append : (first second : List Job) → jobFrames (first ++ second) ≡ jobFrames first ++ jobFrames second
-unfolding jobFrames
-jobFrames-append [] second = refl
-jobFrames-append (j ∷ first) second = rw (jobFrames-append first second, append-assoc (jobFrame j))
 
 -- ── verdicts ──
 

@@ -1,10 +1,6 @@
 -- What each step of the writer does to its output and to its verdict. A law's premises are what the calls before it ensure.
 -- Bytes of the output:
---     written out at s end    out with its bytes from at up to end replaced by s
---     written-after           a second write where the first one ends: the two are one write of both strings
---     put-byte, put-all       a turn of the loop that puts the k bytes of v stores the next of them; after k turns they all stand there
---     head-put                a header and a head's body, put one behind the other, are the head's frame
---     job-put                 a header and the two parts of a job's body are the job's frame
+--     written, written-after  passed on from packing PutLaws
 --     jobs-none, jobs-more    no job makes no bytes; a job's frame behind those of the first i
 --     sheet-put               the head, the jobs and the end are the sheet
 -- Jobs of two tables:
@@ -18,22 +14,16 @@
 -- What is returned:
 --     refused, no-room, all-written       the check refuses, the output is too short, or the sheet is written
 --     head-ready, few-jobs, minutes-ready     where the check accepts, head and jobs fit their fields
-use Prim.Native.Nat.{ℕ, _+_, _-_, _*_, _/_, _%_, _^_, _≤_, _<_}
-use native.Mathlib.Nat.{zero-add, add-sub-of-le}
+use Prim.Native.Nat.{ℕ, _+_, _-_, _*_, _^_, _≤_, _<_}
+use native.Mathlib.Nat.{zero-add}
 use native.Mathlib.Numerals.{add-one}
 use native.Mathlib.Omega.{arith}
 use mathlib.Core.Path.{_≡_, sym, ap, _∙_}
-use mathlib.Core.List.{List, [], _∷_, _++_, append-assoc, append-nil}
-use lib.ListN.{length, getD, take, drop, set, length-append, take-append-drop}
-use lib.Seq.{length-take-le, take-all, take-at, drop-at, drop-drop, paste, paste-suc}
-use lib.Dec.{lit≤}
+use mathlib.Core.List.{List, [], _∷_, _++_, append-nil}
+use lib.ListN.{length, getD, take, drop, length-append, take-append-drop}
 use borrow.Author.Tests.{le-leb, lt-leb}
 use Rattle.sums.specs.Table.{table}
 use Rattle.sums.proofs.TableLaws.{length-table, getD-table, table-snoc}
-use Rattle.bits.specs.Bits.{bytesOf}
-use Rattle.bits.specs.Layout.{joined}
-use Rattle.bits.proofs.BitsLaws.{pow-256}
-use Rattle.bits.proofs.BytesLaws.{length-bytesOf, getD-bytesOf, bytesOf-append}
 use Rattle.fields.specs.declared.sheet.Head.{Head}
 use Rattle.fields.specs.declared.sheet.Job.{Job}
 use Rattle.fields.specs.declared.fault.Fault.{Fault}
@@ -41,78 +31,13 @@ use Rattle.fields.specs.declared.fault.Fault.the-variants.{Table}
 use Rattle.fields.specs.declared.fault.Verdict.{Verdict}
 use Rattle.fields.specs.declared.fault.Verdict.the-variants.{Accepted, Refused}
 use Rattle.frame.specs.declared.writer.Written.the-variants.{Length, Refusal}
-use Rattle.fields.specs.Format.{ours, headKind, jobKind, endKind, headerLayout, headLayout, jobLayout, headFrame, jobFrame, jobFrames, sheetBytes}
+use Rattle.fields.specs.Format.{headFrame, jobFrame, endFrame, jobFrames, sheetBytes}
 use Rattle.fields.specs.Tests.{firstFault, headFaults, jobFaults, noJob, jobAt, jobTable, hyperEdgeVerdict}
 use Rattle.frame.specs.Writing.{jobsVerdict, writerVerdict, fitted, writeSheet}
 use Rattle.frame.specs.Sound.{SoundSheet}
-use Rattle.frame.proofs.WriterLaws.{headValues, jobValues, length-headBody, length-jobBody, length-headFrame, length-jobFrames, length-sheetBytes, jobFrames-append, head-sound, jobsVerdict-sound, writerVerdict-sound, jobsVerdict-drop, jobsVerdict-fault, jobsVerdict-over}
-
--- ── two writes, one behind the other ──
-
-abbrev pub written : List ℕ → ℕ → List ℕ → ℕ → List ℕ
-written out at s end = take at out ++ s ++ drop end out
-
-length-front : (out : List ℕ) (at : ℕ) (s : List ℕ) → at ≤ length out → length (take at out ++ s) ≡ at + length s
-length-front out at s h = length-append (take at out) s ∙ ap (λ (n : ℕ). n + length s) (length-take-le at out h)
-
-pub written-after : (out : List ℕ) (at : ℕ) (a b : List ℕ) (mid end : ℕ) → at ≤ length out → at + length a ≡ mid → mid ≤ end
-    → written (written out at a mid) mid b end ≡ written out at (a ++ b) end
-written-after out at a b mid end h e l =
-    let front : length (take at out ++ a) ≡ mid = length-front out at a h ∙ e in
-    let rest : drop end (written out at a mid) ≡ drop end out =
-    ap (λ (n : ℕ). drop n (written out at a mid)) (sym (add-sub-of-le l))
-    ∙ sym (drop-drop (end - mid) mid (written out at a mid))
-    ∙ ap (drop (end - mid)) (drop-at (take at out ++ a) (drop mid out) mid front)
-    ∙ drop-drop (end - mid) mid out
-    ∙ ap (λ (n : ℕ). drop n out) (add-sub-of-le l) in
-    rw (take-at (take at out ++ a) (drop mid out) mid front, rest, append-assoc (take at out) a b)
-
--- ── the bytes of a number ──
-
-pub put-byte : (out : List ℕ) (at k v i : ℕ) → i < k → at + k ≤ length out
-    → set (paste out at (bytesOf k v) i) (at + i) (v / 2 ^ (8 * (k - 1 - i)) % 256) ≡ paste out at (bytesOf k v) (i + 1)
-put-byte out at k v i l h =
-    rw (← pow-256 (k - 1 - i), ← getD-bytesOf k v i l, add-one i)
-    (paste-suc out at (bytesOf k v) i 0 (omega arith) (omega (arith, length-bytesOf k v)))
-
-pub put-all : (out : List ℕ) (at k v i : ℕ) → i ≡ k → paste out at (bytesOf k v) i ≡ written out at (bytesOf k v) (at + k)
-put-all out at k v i e = rw (e, take-all k (bytesOf k v) (omega (arith, length-bytesOf k v)))
-
--- ── a frame ──
-
-pub head-put : (out : List ℕ) (h : Head) {header : ℕ} {one two : List ℕ} → 10 ≤ length out
-    → header ≡ joined headerLayout (ours ∷ headKind ∷ 7 ∷ []) → one ≡ written out 0 (bytesOf 3 header) 3
-    → two ≡ written one 3 (bytesOf 7 ((((h .benches * 128 + h .p) * 128 + h .q) * 1073741824 + h .target) * 32)) 10
-    → two ≡ headFrame h ++ drop 10 out
-head-put out h {header} {two = two} l e first second =
-    let a = bytesOf 3 header in
-    let fields = (((h .benches * 128 + h .p) * 128 + h .q) * 1073741824 + h .target) * 32 in
-    let body : fields ≡ joined headLayout (headValues h) = omega arith in
-    let header-end : 0 + length a ≡ 3 = omega (arith, length-bytesOf 3 header) in
-    let both : two ≡ written out 0 (a ++ bytesOf 7 fields) 10 =
-    second ∙ rw first (written-after out 0 a (bytesOf 7 fields) 3 10 (omega arith) header-end (lit≤ tt)) in
-    both ∙ rw (e, length-headBody h, body)
-
--- The body's eleven bytes are eight of its high part and three of its low one.
-pub job-put : (out : List ℕ) (j : Job) (at : ℕ) {header : ℕ} {one two three : List ℕ} → at + 14 ≤ length out
-    → header ≡ joined headerLayout (ours ∷ jobKind ∷ 11 ∷ []) → one ≡ written out at (bytesOf 3 header) (at + 3)
-    → two ≡ written one (at + 3) (bytesOf 8 (j .minutes * 17592186044416 + j .allowed / 1048576)) (at + 3 + 8)
-    → three ≡ written two (at + 11) (bytesOf 3 (j .allowed % 1048576 * 16)) (at + 11 + 3)
-    → three ≡ written out at (jobFrame j) (at + 14)
-job-put out j at {header} {two = two} {three = three} l e first second third =
-    let a = bytesOf 3 header in
-    let high = j .minutes * 17592186044416 + j .allowed / 1048576 in
-    let low = j .allowed % 1048576 * 16 in
-    let body : high * 256 ^ 3 + low ≡ joined jobLayout (jobValues j) = omega arith in
-    let middle : at + 3 + 8 ≡ at + 11 = omega arith in
-    let end : at + 11 + 3 ≡ at + 14 = omega arith in
-    let header-end : at + length a ≡ at + 3 = omega (arith, length-bytesOf 3 header) in
-    let high-end : at + length (a ++ bytesOf 8 high) ≡ at + 11 = omega (arith, header-end, length-append a (bytesOf 8 high), length-bytesOf 8 high) in
-    let both : two ≡ written out at (a ++ bytesOf 8 high) (at + 11) =
-    second ∙ rw (first, middle) (written-after out at a (bytesOf 8 high) (at + 3) (at + 11) (omega arith) header-end (omega arith)) in
-    let all : three ≡ written out at (a ++ bytesOf 8 high ++ bytesOf 3 low) (at + 14) =
-    third ∙ rw (both, end) (written-after out at (a ++ bytesOf 8 high) (bytesOf 3 low) (at + 11) (at + 14) (omega arith) high-end (omega arith)) in
-    all ∙ rw (append-assoc a (bytesOf 8 high) (bytesOf 3 low), e, length-jobBody j, ← body, bytesOf-append 8 3 high low (omega arith))
+pub use Rattle.packing.proofs.PutLaws.{written, written-after}
+use Rattle.fields.proofs.FormatLaws.{length-headFrame, length-jobFrames, length-sheetBytes, jobFrames-append}
+use Rattle.frame.proofs.WriterLaws.{head-sound, jobsVerdict-sound, writerVerdict-sound, jobsVerdict-drop, jobsVerdict-fault, jobsVerdict-over}
 
 -- ── the jobs of two tables ──
 
@@ -153,13 +78,12 @@ jobs-more out ms bs i j l first m b second =
     ∙ rw (first, m, b, end, jobFrames-more i job)
     (written-after out 10 (jobFrames (table i job)) (jobFrame (job i)) (10 + 14 * i) (10 + 14 * (i + 1)) l size (omega arith))
 
-pub sheet-put : (out : List ℕ) (h : Head) (ms bs : List ℕ) (n : ℕ) {header : ℕ} {one two three : List ℕ} → 13 + 14 * n ≤ length out
+pub sheet-put : (out : List ℕ) (h : Head) (ms bs : List ℕ) (n : ℕ) {one two three : List ℕ} → 13 + 14 * n ≤ length out
     → one ≡ headFrame h ++ drop 10 out
     → two ≡ written one 10 (jobFrames (jobTable n ms bs)) (10 + 14 * n)
-    → header ≡ joined headerLayout (ours ∷ endKind ∷ 0 ∷ [])
-    → three ≡ written two (13 + 14 * n - 3) (bytesOf 3 header) (13 + 14 * n - 3 + 3)
+    → three ≡ written two (13 + 14 * n - 3) endFrame (13 + 14 * n - 3 + 3)
     → three ≡ sheetBytes h (jobTable n ms bs) ++ drop (13 + 14 * n) out
-sheet-put out h ms bs n {header} {two = two} {three = three} l first second e third =
+sheet-put out h ms bs n {two = two} l first second third =
     let js = jobTable n ms bs in
     let front = headFrame h ++ jobFrames js in
     let middle : 13 + 14 * n - 3 ≡ 10 + 14 * n = omega arith in
@@ -169,9 +93,7 @@ sheet-put out h ms bs n {header} {two = two} {three = three} l first second e th
     omega (arith, head-end, length-append (headFrame h) (jobFrames js), length-jobFrames js, length-jobTable n ms bs) in
     let both : two ≡ written out 0 front (10 + 14 * n) =
     second ∙ rw first (written-after out 0 (headFrame h) (jobFrames js) 10 (10 + 14 * n) (omega arith) head-end (omega arith)) in
-    let all : three ≡ written out 0 (front ++ bytesOf 3 header) (13 + 14 * n) =
-    third ∙ rw (both, middle, end) (written-after out 0 front (bytesOf 3 header) (10 + 14 * n) (13 + 14 * n) (omega arith) jobs-end (omega arith)) in
-    all ∙ rw (e, append-nil)
+    third ∙ rw (both, middle, end) (written-after out 0 front endFrame (10 + 14 * n) (13 + 14 * n) (omega arith) jobs-end (omega arith))
 
 -- ── the verdict on the jobs ──
 

@@ -15,8 +15,6 @@
 -- The judgement of a sheet:
 --     readOn rest at g        what is read from byte at on, with the bytes rest left and the progress g
 --     Reached s at rest g     reading s comes to byte at with the bytes rest left and the progress g
---     heavyHyperEdgeAt h js n       12 holds of job n
---     LowestHeavyHyperEdge h js n   n is the lowest such job
 --     FaultHere s at rest g f       at this place the fault f is found
 --     SheetFault s f          reading s comes to such a place
 --     SheetSound s h js       reading s comes to its end with the head h and the jobs js, and finds no fault
@@ -30,12 +28,13 @@ use lib.ListN.{length}
 use lib.Dec.{leb, ltb}
 use Rattle.fields.specs.declared.sheet.Head.{Head}
 use Rattle.fields.specs.declared.sheet.Job.{Job}
-use Rattle.frame.specs.declared.reader.Stage.the-variants.{Closed}
+use Rattle.judging.specs.declared.judge.Stage.the-variants.{Closed}
 use Rattle.fields.specs.declared.fault.Fault.{Fault}
 use Rattle.fields.specs.declared.fault.Fault.the-variants.{TooLong, Truncated, UnknownKind, Misplaced, WrongLength, SpareBit, BenchCount, Share, JobCount, Minutes, Allowed, HeavyHyperEdge, Table}
 use Rattle.fields.specs.Format.{ours, headerSize, versionOf, kindOf, frameSize, bodyOf}
-use Rattle.fields.specs.Tests.{Test, longest, jobAt, heavyHyperEdge}
-use Rattle.frame.specs.Reading.{Progress, Read, accepted, refused, nothingRead, faultsAt, after, cut, readFrom}
+use Rattle.fields.specs.Tests.{Test, heavyHyperEdgeAt, LowestHeavyHyperEdge}
+use Rattle.judging.specs.FrameTests.{cut}
+use Rattle.frame.specs.Reading.{Progress, Read, accepted, refused, nothingRead, faultsAt, after, readFrom}
 
 -- ── whole frames ──
 
@@ -125,16 +124,6 @@ pub data Reached (s : List ℕ) : ℕ → List ℕ → Progress → Type 0 where
   past-foreign : {at : ℕ} {f rest : List ℕ} {g : Progress} → Reached s at (f ++ rest) g → Foreign f → Reached s (at + length f) rest g
   past-sound : {at : ℕ} {f rest : List ℕ} {g : Progress} → Reached s at (f ++ rest) g → WholeFrame f → versionOf f ≡ ours
       → NoneHolds (faultsAt g at f) → Reached s (at + length f) rest (after g (kindOf f) (bodyOf f))
-
--- "12. … a job allows three or more benches and q × minutes > p × W"
-abbrev pub heavyHyperEdgeAt : Head → List Job → ℕ → Bool
-heavyHyperEdgeAt h js n = heavyHyperEdge h (longest js) (jobAt js n)
-
--- "(place: the lowest such job number)"
-pub record LowestHeavyHyperEdge (h : Head) (js : List Job) (n : ℕ) : Type 0 where
-  pub is-job : n < length js
-  pub is-heavy : heavyHyperEdgeAt h js n ≡ true
-  pub none-lower : (i : ℕ) → i < n → heavyHyperEdgeAt h js i ≡ false
 
 -- "numbers 2 to 11 are tried in this order at each frame", and what is judged after the last one.
 pub data FaultHere (s : List ℕ) (at : ℕ) (rest : List ℕ) (g : Progress) : Fault → Type 0 where

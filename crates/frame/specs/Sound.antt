@@ -1,7 +1,11 @@
--- The heads, jobs and sheets in which the tests 7 to 12 find no fault, in terms of their numbers.
---     SoundHead h         7 and 8 find nothing in the head h
---     SoundJob m n j      9 to 11 find nothing in the job j, of number n, on a sheet of m benches
---     SoundSheet h js     7 to 12 find nothing in the head h and the jobs js
+-- What the tests 7 to 12 leave: the heads, jobs and sheets in which they find no fault, in terms of their numbers.
+--     SoundHead h         7 and 8 find no fault in the head h
+--     SoundJob m n j      9 to 11 find none in the job j, of number n (from 0), on a sheet of m benches
+--     SoundSheet h js     7 to 12 find none in the head h and the jobs js, numbered in order; 12 by its verdict
+-- Each is equivalent to its tests, for any numbers: WriterLaws head-sound and sound-head, job-sound and sound-job,
+-- writerVerdict-sound and sound-writerVerdict. What is read is sound: AcceptedLaws accepted-sound. The tests 1 to 6 are
+-- about bytes, and a sound sheet says nothing of them; but if its benches allowed fit 64 bits, it is what its own bytes
+-- are read as: RoundTrip write-read.
 use Prim.Native.Nat.{ℕ, _*_, _^_, _≤_, _<_}
 use mathlib.Core.Bool.{true}
 use mathlib.Core.List.{List}
@@ -30,6 +34,7 @@ pub record SoundJob (m n : ℕ) (j : Job) : Type 0 where
   pub allows-some : (b : ℕ) × (b < 64) × (allows j b ≡ true)
   pub allows-below : (b : ℕ) → b < 64 → allows j b ≡ true → b < m
 
+-- That there are at most 512 jobs follows from their numbers.
 pub record SoundSheet (h : Head) (js : List Job) : Type 0 where
   pub head : SoundHead h
   pub jobs : (i : ℕ) → i < length js → SoundJob (h .benches) i (jobAt js i)

@@ -1,17 +1,16 @@
 // The sheet: bytes to a head and jobs, or to the first fault, and back.
 // `read` and `write` are the entry points; neither asks anything of its caller.
-mod hyper_edges;
 mod reader;
 mod writer;
 
 pub use fields::Fault;
-pub use fields::FrameHeader;
 pub use fields::Head;
 pub use fields::Job;
 pub use fields::Reading;
 pub use fields::Sheet;
 pub use fields::Verdict;
-pub use fields::byte;
 pub use reader::read;
+pub use unpacking::FrameHeader;
+pub use unpacking::byte;
 pub use writer::Written;
 pub use writer::write;

@@ -71,16 +71,16 @@ fn little8(s: &[u8]) -> u64
 fn part8(s: &[u8]) -> u64
     ensures { λ r. ⌜ r ≡ little (now (s .entry)) 8 ⌝ }
 {
-    ((((((fields::byte(s, 7) * 256 + fields::byte(s, 6)) * 256 + fields::byte(s, 5)) * 256
-        + fields::byte(s, 4))
+    ((((((unpacking::byte(s, 7) * 256 + unpacking::byte(s, 6)) * 256 + unpacking::byte(s, 5)) * 256
+        + unpacking::byte(s, 4))
         * 256
-        + fields::byte(s, 3))
+        + unpacking::byte(s, 3))
         * 256
-        + fields::byte(s, 2))
+        + unpacking::byte(s, 2))
         * 256
-        + fields::byte(s, 1))
+        + unpacking::byte(s, 1))
         * 256
-        + fields::byte(s, 0)
+        + unpacking::byte(s, 0)
 }
 
 // Entry n of a table becomes v; a table without room for the entry keeps its contents.

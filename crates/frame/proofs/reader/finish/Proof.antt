@@ -16,7 +16,7 @@ enum-told-3 : tie.Need-enum-told-3
 enum-told-3 c = search needs
 
 returns : tie.Need-returns
-returns c = rw (c .before .enum-told .given .1) (c .check-hyper-edges .ensures)
+returns c = rw (c .before .enum-told .given .1) (c .check-hyper-edges .ensures (c .before .before .before .before .before .pre))
 
 returns-2 : tie.Need-returns-2
 returns-2 c = rw (c .enum-told2 .given .1)

@@ -2,13 +2,12 @@
 -- law of ReadState.
 use borrow.Author.Needs.{needs}
 use Rattle.fields.specs.declared.fault.Verdict.{Verdict}
-use Rattle.frame.specs.Steps.{readingOf}
 use Prim.Native.Nat.{_-_, _<_}
 use mathlib.Core.Path.{sym, ap, _∙_}
 use native.Mathlib.Omega.{arith}
 use lib.ListN.{length}
 use denote.Ref.{now}
-use Rattle.frame.specs.Reading.{stored}
+use Rattle.frame.specs.Reading.{stored, readingOf}
 use Rattle.frame.proofs.FirstFault.{read-too-long}
 use Rattle.frame.proofs.ReadState.{ReadState, next-is, found-is, job-room, state-start, state-foreign, state-fault, state-head, state-job, state-end, state-minutes, state-over}
 use Rattle.frame.proofs.reader.read.Statement.{statement}

@@ -25,11 +25,7 @@ enum-told-2 : tie.Need-enum-told-2
 enum-told-2 c = search needs
 
 check-hyper-edges-requires : tie.Need-check-hyper-edges-requires
-check-hyper-edges-requires c κs =
-    let head = c .before .before .before .before .before in
-    let a = head .before .before .before .args in
-    hyper-edges-ready (a .h) (a .n) (now (a .minutes)) (now (a .allowed)) (head .check-head .ensures) (c .before .before .before .enum-told .given .1)
-    (c .before .before .check-jobs .ensures) (c .enum-told2 .given .1)
+check-hyper-edges-requires c κs = search needs
 
 returns : tie.Need-returns
 returns c =
@@ -52,8 +48,10 @@ returns-3 c =
     let head = jobs .before .before .before in
     let a = head .before .before .before .args in
     let js = jobTable (a .n) (now (a .minutes)) (now (a .allowed)) in
+    let ready = hyper-edges-ready (a .h) (a .n) (now (a .minutes)) (now (a .allowed)) (head .check-head .ensures) (jobs .before .enum-told .given .1)
+    (jobs .check-jobs .ensures) (c .before .enum-told2 .given .1) in
     all-checked (a .h) js (head .check-head .ensures) (jobs .before .enum-told .given .1) (jobs .check-jobs .ensures) (c .before .enum-told2 .given .1)
-    (c .check-hyper-edges .ensures)
+    (c .check-hyper-edges .ensures ready)
 
 pub check-spec : {M : Type 1} → statement M
 check-spec =

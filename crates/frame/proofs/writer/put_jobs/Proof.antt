@@ -34,10 +34,7 @@ add-put-job : tie.Need-add-put-job Inv-loop μ-loop
 add-put-job c = omega arith
 
 put-job-requires : tie.Need-put-job-requires Inv-loop μ-loop
-put-job-requires c κs =
-    let l = c .before .before .before .before in
-    let fits = l .before .before .before .before .pre .2 (l .loop .i) (c .before .before .before .loop-test .taken) in
-    (omega (arith, c .before .before .entry .ensures, fits), omega arith)
+put-job-requires c κs = search needs
 
 add-i : tie.Need-add-i Inv-loop μ-loop
 add-i c = omega arith
@@ -50,8 +47,9 @@ loop-again c =
     let put = c .before .before in
     let l = put .before .before .before .before .before in
     let a = l .before .before .before .before .args in
+    let fits = l .before .before .before .before .pre .2 (l .loop .i) (put .before .before .before .before .loop-test .taken) in
     let more = jobs-more (now (a .out)) (now (a .minutes)) (now (a .allowed)) (l .loop .i) _ (omega arith) (l .loop .inv .2)
-    (put .before .before .before .entry .ensures) (put .before .before .entry2 .ensures) (put .put-job .ensures) in
+    (put .before .before .before .entry .ensures) (put .before .before .entry2 .ensures) (put .put-job .ensures (omega (arith, put .before .before .before .entry .ensures, fits), omega arith)) in
     (omega arith, put .put-job .kept .1 .0 ∙ l .loop .inv .1, more)
 
 same-length : tie.Need-same-length Inv-loop μ-loop

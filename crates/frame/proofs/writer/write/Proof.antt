@@ -40,12 +40,7 @@ returns c =
     (rw (← n .ensures) returned, refl)
 
 put-head-requires : tie.Need-put-head-requires
-put-head-requires c κs =
-    let told = c .before .before in
-    let checked = told .before .before in
-    let n = checked .before .longer in
-    let a = checked .before .before .before .before .before .args in
-    omega (arith, head-ready (a .h) (n .result) (now (a .minutes)) (now (a .allowed)) (checked .check .ensures) (told .enum-told .given .1))
+put-head-requires c κs = search needs
 
 put-jobs-requires : tie.Need-put-jobs-requires
 put-jobs-requires c κs =
@@ -57,14 +52,11 @@ put-jobs-requires c κs =
     let fit = minutes-ready (a .h) (n .result) (now (a .minutes)) (now (a .allowed)) (checked .check .ensures) (told .enum-told .given .1) in
     (few, omega arith, fit)
 
-sub-put : tie.Need-sub-put
-sub-put c = search needs
+sub-put-end : tie.Need-sub-put-end
+sub-put-end c = search needs
 
-packed-requires : tie.Need-packed-requires
-packed-requires c κs = search needs
-
-put-requires : tie.Need-put-requires
-put-requires c κs = search needs
+put-end-requires : tie.Need-put-end-requires
+put-end-requires c κs = search needs
 
 returns-2 : tie.Need-returns-2
 unfolding output
@@ -81,17 +73,13 @@ same-length c = search needs
 returns-3 : tie.Need-returns-3
 unfolding output
 returns-3 c =
-    let jobs = c .before .before .before .before .before .before .before in
-    let head = jobs .before .before .before .before in
-    let room = head .before .before in
-    let told = room .before in
-    let checked = told .before .before in
-    let n = checked .before .longer in
-    let a = checked .before .before .before .before .before .args in
-    let returned = all-written (a .h) (n .result) (now (a .minutes)) (now (a .allowed)) (checked .check .ensures) (told .enum-told .given .1)
-    (length (now (a .out))) (room .if1 .left) in
-    let sheet = sheet-put (now (a .out)) (a .h) (now (a .minutes)) (now (a .allowed)) (n .result) (room .if1 .left)
-    (head .put-head .ensures) (jobs .put-jobs .ensures) (c .before .before .before .packed .ensures) (c .before .before .put .ensures) in
+    let n = c .before .before .before .before .before .before .before .before .before .before .before .before .before .before .before .before .longer in
+    let a = c .before .before .before .before .before .before .before .before .before .before .before .before .before .before .before .before .before .before .before .before .args in
+    let ready = head-ready (a .h) (n .result) (now (a .minutes)) (now (a .allowed)) (c .before .before .before .before .before .before .before .before .before .before .before .before .before .before .before .check .ensures) (c .before .before .before .before .before .before .before .before .before .before .before .before .before .enum-told .given .1) in
+    let returned = all-written (a .h) (n .result) (now (a .minutes)) (now (a .allowed)) (c .before .before .before .before .before .before .before .before .before .before .before .before .before .before .before .check .ensures) (c .before .before .before .before .before .before .before .before .before .before .before .before .before .enum-told .given .1)
+    (length (now (a .out))) (c .before .before .before .before .before .before .before .before .before .before .before .before .if1 .left) in
+    let sheet = sheet-put (now (a .out)) (a .h) (now (a .minutes)) (now (a .allowed)) (n .result) (c .before .before .before .before .before .before .before .before .before .before .before .before .if1 .left)
+    (c .before .before .before .before .before .before .before .before .before .before .put-head .ensures (omega (arith, ready, c .before .before .before .before .before .before .before .before .before .before .before .before .if1 .left))) (c .before .before .before .before .before .before .put-jobs .ensures) (c .before .before .put-end .ensures (omega arith)) in
     (rw (← n .ensures) returned, rw (← n .ensures) sheet)
 
 pub write-spec : {M : Type 1} → statement M
@@ -107,9 +95,8 @@ write-spec =
     returns
     put-head-requires
     put-jobs-requires
-    sub-put
-    packed-requires
-    put-requires
+    sub-put-end
+    put-end-requires
     returns-2
     same-length
     returns-3)

@@ -1,7 +1,7 @@
 -- The numbers of faults end at 13, so the word fits.
 use native.Mathlib.Omega.{arith}
 use borrow.Author.Needs.{needs}
-use Rattle.tables.proofs.WordLaws.{number-small}
+use Rattle.fields.proofs.NumberLaws.{number-small}
 use Rattle.tables.proofs.words.fault_word.Statement.{statement}
 use Rattle.tables.proofs.words.fault_word.Tie as tie
 

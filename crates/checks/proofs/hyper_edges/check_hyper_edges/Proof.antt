@@ -1,0 +1,115 @@
+-- `check_hyper_edges`: no job passed has fault 12; the number of set bits is the number of benches allowed (HyperEdges).
+use borrow.Author.Needs.{needs}
+use borrow.Author.Count.{below-more}
+use Prim.Native.Nat.{ℕ, _≤_, _<_, _-_, _^_}
+use mathlib.Core.Path.{_≡_, sym}
+use mathlib.Core.Bool.{false}
+use mathlib.Core.Logic.{⊎-elim}
+use native.Mathlib.Omega.{arith}
+use lib.ListN.{getD}
+use denote.Ref.{now}
+use Rattle.sums.proofs.LargestLaws.{largest-le, largest-bound}
+use Rattle.fields.specs.Tests.{heavyHyperEdge}
+use Rattle.checks.proofs.HyperEdges.{tableJob, product-fits, heavy-job, light-benches, light-minutes, heavy-found, heavy-none}
+use Rattle.checks.proofs.hyper_edges.check_hyper_edges.Statement.{statement}
+use Rattle.checks.proofs.hyper_edges.check_hyper_edges.Tie as tie
+
+abbrev Inv-loop : tie.InvT-loop
+Inv-loop h count minutes allowed w n₀ n =
+    (n ≤ count) × ((k : ℕ) → k < n → heavyHyperEdge h w (tableJob minutes allowed k) ≡ false)
+
+abbrev μ-loop : tie.MeasureT-loop
+μ-loop h count minutes allowed w n₀ n = count - n
+
+longest-requires : tie.Need-longest-requires Inv-loop μ-loop
+longest-requires c κs = search needs
+
+returns : tie.Need-returns Inv-loop μ-loop
+returns c = λ narrow. absurd (omega (arith, narrow .0))
+
+returns-2 : tie.Need-returns-2 Inv-loop μ-loop
+returns-2 c = λ narrow. absurd (omega (arith, narrow .1))
+
+returns-3 : tie.Need-returns-3 Inv-loop μ-loop
+returns-3 c = λ narrow.
+    let a = c .before .before .before .before .before .before .before .before .args in
+    let small = largest-le (a .count) (λ i. getD (now (a .minutes)) i 0) 1048575 (λ i lt. omega (arith, narrow .2 i lt)) in
+    absurd (omega (arith, small, c .before .before .before .before .before .longest .ensures))
+
+loop-holds : tie.Need-loop-holds Inv-loop μ-loop
+loop-holds c = (omega arith, λ k below. absurd (omega arith))
+
+mul-if4 : tie.Need-mul-if4 Inv-loop μ-loop
+mul-if4 c = record { fits = product-fits (c .before .before .before .before .before .before .before .before .before .before .before .args .h .p) (c .before .before .before .before .before .before .before .before .longest .result) (c .before .before .before .before .before .before .if1 .left) (c .before .before .before .if3 .left) }
+
+entry-requires : tie.Need-entry-requires Inv-loop μ-loop
+entry-requires c κs = search needs
+
+mul-if4-2 : tie.Need-mul-if4-2 Inv-loop μ-loop
+mul-if4-2 c =
+    let a = c .before .before .before .before .before .before .before .before .before .before .before .before .before .args in
+    let at-most = largest-bound (a .count) (λ i. getD (now (a .minutes)) i 0) (c .before .before .before .before .loop .n) (c .before .before .before .loop-test .taken) in
+    record { fits = product-fits (a .h .q) (c .before .entry .result) (c .before .before .before .before .before .before .if2 .left) (omega (arith, at-most, c .before .before .before .before .before .before .before .before .before .before .longest .ensures, c .before .entry .ensures, c .before .before .before .before .before .if3 .left)) }
+
+entry-requires-2 : tie.Need-entry-requires-2 Inv-loop μ-loop
+entry-requires-2 c κs = search needs
+
+returns-4 : tie.Need-returns-4 Inv-loop μ-loop
+returns-4 c = λ narrow.
+    let a = c .before .before .before .before .before .before .before .before .before .before .before .before .before .before .before .before .args in
+    let ms = now (a .minutes) in
+    let bs = now (a .allowed) in
+    let n = c .before .before .before .before .before .before .before .loop .n in
+    let w = c .before .before .before .before .before .before .before .before .before .before .before .before .before .longest in
+    sym (heavy-found ms bs (a .count) (a .h) (w .result) (w .ensures) n (c .before .before .before .before .before .before .loop-test .taken)
+    (heavy-job (a .h) (w .result) (tableJob ms bs n) (omega (arith, c .before .before .before .before .before .before .before .before .before .before .before .before .before .before .shared-slice-known2 .given n))
+    (rw (← c .before .entry2 .ensures) (c .if5 .taken)) (rw (← c .before .before .before .before .entry .ensures) (c .before .before .if4 .taken)))
+    (c .before .before .before .before .before .before .before .loop .inv .1))
+
+add-n : tie.Need-add-n Inv-loop μ-loop
+add-n c = omega arith
+
+loop-less : tie.Need-loop-less Inv-loop μ-loop
+loop-less c = omega arith
+
+loop-again : tie.Need-loop-again Inv-loop μ-loop
+loop-again c =
+    let a = c .before .before .before .before .before .before .before .before .before .before .before .before .before .before .args in
+    let bs = now (a .allowed) in
+    let n = c .before .before .before .before .before .loop .n in
+    let w = c .before .before .before .before .before .before .before .before .before .before .before .longest .result in
+    let job = tableJob (now (a .minutes)) bs n in
+    let fits : getD bs n 0 < 2 ^ 64 = omega (arith, c .before .before .before .before .before .before .before .before .before .before .before .before .shared-slice-known2 .given n) in (
+      omega arith,
+      below-more _ _ (c .before .before .before .before .before .loop .inv .1)
+          (⊎-elim (λ k. light-benches (a .h) w job fits (rw (← k .1 .ensures) (k .2 .left)))
+          (λ k. light-minutes (a .h) w job fits (rw (← c .before .before .entry .ensures) (k .left)))
+          (c .if4 .came)),
+    )
+
+returns-5 : tie.Need-returns-5 Inv-loop μ-loop
+returns-5 c = λ narrow.
+    let a = c .before .before .before .before .before .before .before .before .before .before .args in
+    sym (heavy-none (now (a .minutes)) (now (a .allowed)) (a .count) (a .h) (c .before .before .before .before .before .before .before .longest .result) (c .before .before .before .before .before .before .before .longest .ensures)
+    (λ k lt. c .before .loop .inv .1 k (omega arith)))
+
+pub check-hyper-edges-spec : {M : Type 1} → statement M
+check-hyper-edges-spec =
+    tie.close
+    (tie.spec
+    Inv-loop
+    μ-loop
+    longest-requires
+    returns
+    returns-2
+    returns-3
+    loop-holds
+    mul-if4
+    entry-requires
+    mul-if4-2
+    entry-requires-2
+    returns-4
+    add-n
+    loop-less
+    loop-again
+    returns-5)

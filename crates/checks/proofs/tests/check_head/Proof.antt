@@ -1,0 +1,24 @@
+-- `check_head`: at each return the tests that led there decide fault 7; fault 8 is `check_share`'s.
+use borrow.Author.Tests.{eq-eqb, ne-eqb, lt-ltb, le-ltb, le-leb, lt-leb}
+use mathlib.Core.Bool.{or-true}
+use borrow.Author.Needs.{needs}
+use Rattle.checks.proofs.tests.check_head.Statement.{statement}
+use Rattle.checks.proofs.tests.check_head.Tie as tie
+
+returns : tie.Need-returns
+returns c = rw (eq-eqb (c .before .before .args .h .benches) 0 (c .if1 .taken))
+
+returns-2 : tie.Need-returns-2
+returns-2 c = simp (lt-ltb 64 (c .before .before .before .before .args .h .benches) (c .if2 .taken), or-true)
+
+returns-3 : tie.Need-returns-3
+returns-3 c = simp (le-leb 1073741824 (c .before .before .before .before .before .before .args .h .target) (c .if3 .taken), or-true)
+
+check-share-requires : tie.Need-check-share-requires
+check-share-requires c κs = search needs
+
+returns-4 : tie.Need-returns-4
+returns-4 c = rw (ne-eqb (c .before .before .before .before .before .before .before .args .h .benches) 0 (c .before .before .before .before .before .if1 .left), le-ltb 64 (c .before .before .before .before .before .before .before .args .h .benches) (c .before .before .before .if2 .left), lt-leb 1073741824 (c .before .before .before .before .before .before .before .args .h .target) (c .before .if3 .left)) (c .check-share .ensures)
+
+pub check-head-spec : {M : Type 1} → statement M
+check-head-spec = tie.close (tie.spec returns returns-2 returns-3 check-share-requires returns-4)

@@ -1,0 +1,66 @@
+// The test of fault 12, for the reader and the writer alike.
+use fields::Fault;
+use fields::Head;
+use fields::Verdict;
+ghost use mathlib.Core.Path.{_≡_};
+ghost use Prim.Native.Nat.{ℕ, _<_, _^_};
+ghost use lib.ListN.{getD};
+ghost use Rattle.sums.specs.Sum.{largest};
+ghost use Rattle.fields.specs.Tests.{jobTable, hyperEdgeVerdict};
+
+// Entry n of a table, and 0 past its end.
+pub fn entry(t: &[u64], n: usize) -> u64
+    ensures { λ r. ⌜ r ≡ getD (now (t .entry)) n 0 ⌝ }
+{
+    if n < t.len() { t[n] } else { 0 }
+}
+
+// The greatest of the first count entries.
+fn longest(count: usize, minutes: &[u64]) -> u64
+    ensures { λ r. ⌜ r ≡ largest count (λ n. getD (now (minutes .entry)) n 0) ⌝ }
+{
+    let mut w = 0;
+    let mut n = 0;
+    while n < count {
+        let m = entry(minutes, n);
+        if w < m {
+            w = m;
+        }
+        n += 1;
+    }
+    w
+}
+
+// Fault 12, for the first count jobs of two tables, if no number is too wide for its field (that is fault 8 or 10).
+pub fn check_hyper_edges<'a>(
+    h: Head,
+    count: usize,
+    minutes: &'a [u64],
+    allowed: &'a [u64],
+) -> Verdict
+    ensures { λ r. ⌜
+        ((h .p < 128) × (h .q < 128) × ((n : ℕ) → n < count → getD (now (minutes .entry)) n 0 < 2 ^ 20)
+        → r ≡ hyperEdgeVerdict h (jobTable count (now (minutes .entry)) (now (allowed .entry))))
+        ⌝ }
+{
+    let w = longest(count, minutes);
+    if 128 <= h.p {
+        return Verdict::Accepted;
+    }
+    if 128 <= h.q {
+        return Verdict::Accepted;
+    }
+    if 1048576 <= w {
+        return Verdict::Accepted;
+    }
+    let mut n = 0;
+    while n < count {
+        if h.p * w < h.q * entry(minutes, n) {
+            if 3 <= u64::count_ones(entry(allowed, n)) {
+                return Verdict::Refused(Fault::HeavyHyperEdge(n));
+            }
+        }
+        n += 1;
+    }
+    Verdict::Accepted
+}

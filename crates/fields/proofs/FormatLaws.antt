@@ -1,0 +1,74 @@
+-- The frames that the writer gives, and their lengths in bytes.
+--     headValues, jobValues   the values of the packed fields of a head and of a job
+--     headBody, jobBody, endBody      the body of a head frame, of a job frame and of an end frame
+--     length-headBody, length-jobBody     a head's body has 7 bytes, a job's 11; endBody-empty: an end has none
+--     length-frameBytes       a frame has 3 bytes more than its body
+--     length-headFrame, length-jobFrame, length-endFrame      a head frame has 10 bytes, a job frame 14, an end frame 3
+--     length-jobFrames        n jobs make 14 n bytes
+--     length-sheetBytes       a sheet of n jobs has 13 + 14 n bytes
+--     jobFrames-append        the frames of two lists of jobs, one list after the other
+use Prim.Native.Nat.{ℕ, _+_, _*_}
+use native.Mathlib.Omega.{arith}
+use mathlib.Core.Path.{_≡_, refl, ap, _∙_}
+use mathlib.Core.List.{List, [], _∷_, _++_, append-assoc}
+use lib.ListN.{length, length-append}
+use Rattle.bits.specs.Bits.{bytesOf}
+use Rattle.bits.specs.Layout.{packed}
+use Rattle.bits.proofs.LayoutLaws.{length-packed}
+use Rattle.fields.specs.declared.sheet.Head.{Head}
+use Rattle.fields.specs.declared.sheet.Job.{Job}
+use Rattle.fields.specs.Format.{headerLayout, headLayout, jobLayout, endLayout, ours, headKind, jobKind, endKind, headFrame, jobFrame, endFrame, jobFrames, sheetBytes, frameBytes}
+
+abbrev pub headValues : Head → List ℕ
+headValues h = h .benches ∷ h .p ∷ h .q ∷ h .target ∷ 0 ∷ []
+
+abbrev pub jobValues : Job → List ℕ
+jobValues j = j .minutes ∷ j .allowed ∷ 0 ∷ []
+
+abbrev pub headBody : Head → List ℕ
+headBody h = packed headLayout (headValues h)
+
+abbrev pub jobBody : Job → List ℕ
+jobBody j = packed jobLayout (jobValues j)
+
+abbrev pub endBody : List ℕ
+endBody = packed endLayout []
+
+pub length-frameBytes : (kind : ℕ) (body : List ℕ) → length (frameBytes kind body) ≡ 3 + length body
+length-frameBytes kind body =
+    let header = packed headerLayout (ours ∷ kind ∷ length body ∷ []) in
+    length-append header body ∙ ap (λ (n : ℕ). n + length body) (length-packed headerLayout (ours ∷ kind ∷ length body ∷ []) 3 refl)
+
+pub length-headBody : (h : Head) → length (headBody h) ≡ 7
+length-headBody h = length-packed headLayout (headValues h) 7 refl
+
+pub length-jobBody : (j : Job) → length (jobBody j) ≡ 11
+length-jobBody j = length-packed jobLayout (jobValues j) 11 refl
+
+pub endBody-empty : endBody ≡ []
+unfolding bytesOf
+endBody-empty = refl
+
+pub length-headFrame : (h : Head) → length (headFrame h) ≡ 10
+length-headFrame h = length-frameBytes headKind (headBody h) ∙ ap (λ (n : ℕ). 3 + n) (length-headBody h)
+
+pub length-jobFrame : (j : Job) → length (jobFrame j) ≡ 14
+length-jobFrame j = length-frameBytes jobKind (jobBody j) ∙ ap (λ (n : ℕ). 3 + n) (length-jobBody j)
+
+pub length-endFrame : length endFrame ≡ 3
+length-endFrame = length-frameBytes endKind endBody ∙ ap (λ (s : List ℕ). 3 + length s) endBody-empty
+
+pub length-jobFrames : (js : List Job) → length (jobFrames js) ≡ 14 * length js
+unfolding jobFrames
+length-jobFrames [] = refl
+length-jobFrames (j ∷ js) = length-append (jobFrame j) (jobFrames js) ∙ omega (arith, length-jobFrame j, length-jobFrames js)
+
+pub length-sheetBytes : (h : Head) (js : List Job) → length (sheetBytes h js) ≡ 13 + 14 * length js
+length-sheetBytes h js =
+    length-append (headFrame h ++ jobFrames js) endFrame
+    ∙ omega (arith, length-append (headFrame h) (jobFrames js), length-headFrame h, length-jobFrames js, length-endFrame)
+
+pub jobFrames-append : (first second : List Job) → jobFrames (first ++ second) ≡ jobFrames first ++ jobFrames second
+unfolding jobFrames
+jobFrames-append [] second = refl
+jobFrames-append (j ∷ first) second = rw (jobFrames-append first second, append-assoc (jobFrame j))

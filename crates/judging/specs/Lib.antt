@@ -1,0 +1,2 @@
+pub mod FrameTests
+pub mod Steps

@@ -1,0 +1,103 @@
+-- What the functions that put frames do to their output. A law's premises are what the calls before it ensure.
+--     written out at s end    out with its bytes from at up to end replaced by s
+--     written-after           a second write where the first one ends: the two are one write of both strings
+--     put-byte, put-all       a turn of the loop that puts the k bytes of v stores the next of them; after k turns they all stand there
+--     head-put                a header and a head's body, put one behind the other, are the head's frame
+--     job-put                 a header and the two parts of a job's body are the job's frame
+--     high-fits               the first eight bytes of a job's body are a number below 2 ^ 64
+--     end-put                 a header is the end's frame
+use Prim.Native.Nat.{ℕ, _+_, _-_, _*_, _/_, _%_, _^_, _≤_, _<_}
+use native.Mathlib.Nat.{add-sub-of-le, mod-lt}
+use native.Mathlib.Numerals.{add-one}
+use native.Mathlib.Omega.{arith}
+use mathlib.Core.Path.{_≡_, sym, ap, _∙_}
+use mathlib.Core.List.{List, [], _∷_, _++_, append-assoc, append-nil}
+use lib.ListN.{length, take, drop, set, length-append}
+use lib.Seq.{length-take-le, take-all, take-at, drop-at, drop-drop, paste, paste-suc}
+use lib.Dec.{lit≤}
+use Rattle.bits.specs.Bits.{bytesOf}
+use Rattle.bits.specs.Layout.{joined}
+use Rattle.bits.proofs.BitsLaws.{pow-256}
+use Rattle.bits.proofs.BytesLaws.{length-bytesOf, getD-bytesOf, bytesOf-append}
+use Rattle.fields.specs.declared.sheet.Head.{Head}
+use Rattle.fields.specs.declared.sheet.Job.{Job}
+use Rattle.fields.specs.Format.{ours, headKind, jobKind, endKind, headerLayout, headLayout, jobLayout, headFrame, jobFrame, endFrame}
+use Rattle.fields.proofs.FormatLaws.{headValues, jobValues, endBody-empty, length-headBody, length-jobBody}
+
+-- ── two writes, one behind the other ──
+
+abbrev pub written : List ℕ → ℕ → List ℕ → ℕ → List ℕ
+written out at s end = take at out ++ s ++ drop end out
+
+length-front : (out : List ℕ) (at : ℕ) (s : List ℕ) → at ≤ length out → length (take at out ++ s) ≡ at + length s
+length-front out at s h = length-append (take at out) s ∙ ap (λ (n : ℕ). n + length s) (length-take-le at out h)
+
+pub written-after : (out : List ℕ) (at : ℕ) (a b : List ℕ) (mid end : ℕ) → at ≤ length out → at + length a ≡ mid → mid ≤ end
+    → written (written out at a mid) mid b end ≡ written out at (a ++ b) end
+written-after out at a b mid end h e l =
+    let front : length (take at out ++ a) ≡ mid = length-front out at a h ∙ e in
+    let rest : drop end (written out at a mid) ≡ drop end out =
+    ap (λ (n : ℕ). drop n (written out at a mid)) (sym (add-sub-of-le l))
+    ∙ sym (drop-drop (end - mid) mid (written out at a mid))
+    ∙ ap (drop (end - mid)) (drop-at (take at out ++ a) (drop mid out) mid front)
+    ∙ drop-drop (end - mid) mid out
+    ∙ ap (λ (n : ℕ). drop n out) (add-sub-of-le l) in
+    rw (take-at (take at out ++ a) (drop mid out) mid front, rest, append-assoc (take at out) a b)
+
+-- ── the bytes of a number ──
+
+pub put-byte : (out : List ℕ) (at k v i : ℕ) → i < k → at + k ≤ length out
+    → set (paste out at (bytesOf k v) i) (at + i) (v / 2 ^ (8 * (k - 1 - i)) % 256) ≡ paste out at (bytesOf k v) (i + 1)
+put-byte out at k v i l h =
+    rw (← pow-256 (k - 1 - i), ← getD-bytesOf k v i l, add-one i)
+    (paste-suc out at (bytesOf k v) i 0 (omega arith) (omega (arith, length-bytesOf k v)))
+
+pub put-all : (out : List ℕ) (at k v i : ℕ) → i ≡ k → paste out at (bytesOf k v) i ≡ written out at (bytesOf k v) (at + k)
+put-all out at k v i e = rw (e, take-all k (bytesOf k v) (omega (arith, length-bytesOf k v)))
+
+-- ── a frame ──
+
+pub head-put : (out : List ℕ) (h : Head) {header : ℕ} {one two : List ℕ} → h .benches < 128 → h .p < 128 → h .q < 128 → h .target < 2 ^ 30
+    → 10 ≤ length out
+    → header ≡ joined headerLayout (ours ∷ headKind ∷ 7 ∷ []) → one ≡ written out 0 (bytesOf 3 header) 3
+    → two ≡ written one 3 (bytesOf 7 ((((h .benches % 128 * 128 + h .p % 128) * 128 + h .q % 128) * 1073741824 + h .target % 1073741824) * 32)) 10
+    → two ≡ headFrame h ++ drop 10 out
+head-put out h {header} {two = two} narrow-benches narrow-p narrow-q narrow-target l e first second =
+    let a = bytesOf 3 header in
+    let fields = (((h .benches % 128 * 128 + h .p % 128) * 128 + h .q % 128) * 1073741824 + h .target % 1073741824) * 32 in
+    let body : fields ≡ joined headLayout (headValues h) = omega arith in
+    let header-end : 0 + length a ≡ 3 = omega (arith, length-bytesOf 3 header) in
+    let both : two ≡ written out 0 (a ++ bytesOf 7 fields) 10 =
+    second ∙ rw first (written-after out 0 a (bytesOf 7 fields) 3 10 (omega arith) header-end (lit≤ tt)) in
+    both ∙ rw (e, length-headBody h, body)
+
+joined-fits : (x y : ℕ) → x < 1048576 → y < 17592186044416 → x * 17592186044416 + y < 2 ^ 64
+joined-fits x y hx hy = omega arith
+
+pub high-fits : (m a : ℕ) → a < 2 ^ 64 → m % 1048576 * 17592186044416 + a / 1048576 < 2 ^ 64
+high-fits m a h = joined-fits (m % 1048576) (a / 1048576) (mod-lt m (lit≤ tt)) (omega arith)
+
+-- The body's eleven bytes are eight of its high part and three of its low one.
+pub job-put : (out : List ℕ) (j : Job) (at : ℕ) {header : ℕ} {one two three : List ℕ} → j .minutes < 2 ^ 20 → at + 14 ≤ length out
+    → header ≡ joined headerLayout (ours ∷ jobKind ∷ 11 ∷ []) → one ≡ written out at (bytesOf 3 header) (at + 3)
+    → two ≡ written one (at + 3) (bytesOf 8 (j .minutes % 1048576 * 17592186044416 + j .allowed / 1048576)) (at + 3 + 8)
+    → three ≡ written two (at + 11) (bytesOf 3 (j .allowed % 1048576 * 16)) (at + 11 + 3)
+    → three ≡ written out at (jobFrame j) (at + 14)
+job-put out j at {header} {two = two} {three = three} narrow l e first second third =
+    let a = bytesOf 3 header in
+    let high = j .minutes % 1048576 * 17592186044416 + j .allowed / 1048576 in
+    let low = j .allowed % 1048576 * 16 in
+    let body : high * 256 ^ 3 + low ≡ joined jobLayout (jobValues j) = omega arith in
+    let middle : at + 3 + 8 ≡ at + 11 = omega arith in
+    let end : at + 11 + 3 ≡ at + 14 = omega arith in
+    let header-end : at + length a ≡ at + 3 = omega (arith, length-bytesOf 3 header) in
+    let high-end : at + length (a ++ bytesOf 8 high) ≡ at + 11 = omega (arith, header-end, length-append a (bytesOf 8 high), length-bytesOf 8 high) in
+    let both : two ≡ written out at (a ++ bytesOf 8 high) (at + 11) =
+    second ∙ rw (first, middle) (written-after out at a (bytesOf 8 high) (at + 3) (at + 11) (omega arith) header-end (omega arith)) in
+    let all : three ≡ written out at (a ++ bytesOf 8 high ++ bytesOf 3 low) (at + 14) =
+    third ∙ rw (both, end) (written-after out at (a ++ bytesOf 8 high) (bytesOf 3 low) (at + 11) (at + 14) (omega arith) high-end (omega arith)) in
+    all ∙ rw (append-assoc a (bytesOf 8 high) (bytesOf 3 low), e, length-jobBody j, ← body, bytesOf-append 8 3 high low (omega arith))
+
+pub end-put : (out : List ℕ) (at : ℕ) {header : ℕ} {one : List ℕ} → header ≡ joined headerLayout (ours ∷ endKind ∷ 0 ∷ [])
+    → one ≡ written out at (bytesOf 3 header) (at + 3) → one ≡ written out at endFrame (at + 3)
+end-put out at {header} e first = first ∙ rw (e, endBody-empty, append-nil)

@@ -1,0 +1,10 @@
+// Fields out of bytes: frame headers, and what the bodies of heads and jobs hold.
+mod bytes;
+mod header;
+
+pub use bytes::byte;
+pub use header::FrameHeader;
+pub use header::head_spare;
+pub use header::job_spare;
+pub use header::read_head;
+pub use header::read_job;
