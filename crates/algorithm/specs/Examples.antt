@@ -47,15 +47,18 @@ examples =
 
 unfoldable pub errorExamples : List Example
 errorExamples =
-    -- "Trusting a forced orientation": at first bench 0 forces job 0 to bench 1 and so overloads it. After job 2 has moved to bench 2, bench 1
-    -- forces job 0 to bench 0. Kept on bench 1 it would end the run with none, bench 1; and yet the rival keeps every bench within 3, with job 0
-    -- on bench 0 and jobs 2 and 3 on bench 2.
+    -- "Trusting a forced orientation": at first bench 0 forces job 0 to bench 1 and so overloads it. After job 2 has
+    -- moved to bench 2, bench 1 forces job 0 to bench 0. Kept on bench 1 it would end the run with none, bench 1; and
+    -- yet the rival keeps every bench within 3, with job 0 on bench 0 and jobs 2 and 3 on bench 2.
     row (bay 3 2 3 3) (both 3 ∷ second 3 ∷ outside 1 ∷ three 2 ∷ []) (plan 5 1 (0 ∷ 1 ∷ 2 ∷ 0 ∷ []) (5 ∷ 3 ∷ 1 ∷ []))
-    -- "Rounding (2q + p) × T / (3q) down": the jobs of 6 are under the limit of Rule 2 (126 < 144), so bench 1 has level 0 like bench 0, and no
-    -- job can be pushed. With the limit rounded to 6 bench 1 would have level 1, and job 0 be pushed there: plan, 13, 1 move.
+    -- "Rounding (2q + p) × T / (3q) down": the jobs of 6 are under the limit of Rule 2 (126 < 144), so bench 1 has
+    -- level 0 like bench 0, and no job can be pushed. With the limit rounded to 6 bench 1 would have level 1, and job
+    -- 0 be pushed there: plan, 13, 1 move.
     ∷ row (bay 2 4 7 8) (both 3 ∷ both 6 ∷ both 6 ∷ first 7 ∷ second 3 ∷ []) (none (0 ∷ 1 ∷ []) 0)
-    -- With one loop over all benches in FORCED ORIENTATIONS, bench 1 would be given both rocks in one turn: none, benches 0 and 1, 0 moves.
+    -- With one loop over all benches in FORCED ORIENTATIONS, bench 1 would be given both rocks in one turn: none,
+    -- benches 0 and 1, 0 moves.
     ∷ row (bay 2 4 7 3) (both 3 ∷ both 1 ∷ first 2 ∷ both 3 ∷ []) (plan 5 1 (1 ∷ 1 ∷ 0 ∷ 0 ∷ []) (5 ∷ 4 ∷ []))
-    -- With PUSH up to the bound, job 3 would be pushed to bench 1, whose load is above (5q − 2p) × T (84 > 81): none, bench 0, 1 move.
+    -- With PUSH up to the bound, job 3 would be pushed to bench 1, whose load is above (5q − 2p) × T (84 > 81): none,
+    -- bench 0, 1 move.
     ∷ row (bay 2 4 7 3) (both 2 ∷ first 3 ∷ first 3 ∷ both 1 ∷ both 2 ∷ []) (none (0 ∷ 1 ∷ []) 0)
     ∷ []

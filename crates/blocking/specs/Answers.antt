@@ -20,8 +20,8 @@ use Rattle.algorithm.specs.Start.{State, component, crowded}
 use Rattle.algorithm.specs.Run.{Outcome, long, blocked, canMove, answerAt, budget}
 use Rattle.algorithm.specs.States.{Reached}
 use Rattle.algorithm.specs.Answer.{Answer, plan, tooLong, none, fault}
-use Rattle.demand.specs.Demand.{minutesOf, Assignment, loadOf, withinBound, keepsTarget, SomeOver, Blocking, LongJob, EachFits}
-use Rattle.demand.specs.Demand.{moveBound}
+use Rattle.demand.specs.Demand.{minutesOf, Assignment, loadOf, withinBound, keepsTarget, SomeOver, Blocking}
+use Rattle.demand.specs.Demand.{LongJob, EachFits, moveBound}
 
 -- "Entry j of the first table is job j's bench"
 abbrev pub placeIn : List ℕ → ℕ → ℕ
@@ -32,7 +32,8 @@ oneOf benches v = any (length benches) (λ i. eqb (getD benches i 0) v)
 
 -- ── the three answers ──
 
--- "A plan is the assignment in the first table, the second table has its loads, and the largest load is the greatest of them."
+-- "A plan is the assignment in the first table, the second table has its loads, and the largest load is the greatest
+-- of them."
 pub record SoundPlan (h : Head) (js : List Job) (largest moves : ℕ) (places loads : List ℕ) : Type 0 where
   pub one-to-a-job : length places ≡ length js
   pub assignment : Assignment h js (placeIn places)
@@ -90,10 +91,12 @@ pub record WholeClaim (h : Head) (js : List Job) (a : Answer) : Type 0 where
 
 -- ── the run ──
 
--- A long job or a crowded component ends the run before it begins. Else it ends at the first state in which no move is left, within the
--- budget: with a plan where no bench is overloaded, with none where one is.
+-- A long job or a crowded component ends the run before it begins. Else it ends at the first state in which no move is
+-- left, within the budget: with a plan where no bench is overloaded, with none where one is.
 pub data RunEnd (d : Day) : Outcome → Type 0 where
   long-job : ltb (longJob d) (d .jobs) ≡ true → RunEnd d (long (longJob d))
   -- "the component with the lowest bench"
-  crowded-component : (v : ℕ) → v < d .benches → crowded d v ≡ true → ((u : ℕ) → u < v → crowded d u ≡ false) → RunEnd d (blocked (component d v) 0)
-  no-move-left : (s : State) (moves : ℕ) → Reached d moves s → moves ≤ budget d → canMove d s ≡ false → RunEnd d (answerAt d s moves)
+  crowded-component : (v : ℕ) → v < d .benches → crowded d v ≡ true → ((u : ℕ) → u < v → crowded d u ≡ false)
+      → RunEnd d (blocked (component d v) 0)
+  no-move-left : (s : State) (moves : ℕ) → Reached d moves s → moves ≤ budget d → canMove d s ≡ false
+      → RunEnd d (answerAt d s moves)

@@ -26,7 +26,8 @@ use Rattle.fields.specs.declared.sheet.Job.{Job}
 use Rattle.frame.specs.Reading.{accepted, refused, readSheet}
 use Rattle.planning.specs.declared.answer.Answer.{Answer}
 use Rattle.planning.specs.declared.answer.Answer.the-variants.{Plan, Long, None, Fault as Faulty}
-use Rattle.demand.specs.Demand.{Assignment, loadOf, withinBound, keepsTarget, SomeOver, Blocking, LongJob, EachFits, moveBound}
+use Rattle.demand.specs.Demand.{Assignment, loadOf, withinBound, keepsTarget, SomeOver, Blocking, moveBound}
+use Rattle.demand.specs.Demand.{LongJob, EachFits}
 use Rattle.blocking.specs.Answers.{placeIn, SoundLong}
 
 -- ── the three kinds of calls ──
@@ -71,9 +72,11 @@ pub data OneOfThree : Answer → Type 0 where
   a-long : (j : ℕ) → OneOfThree (Long j)
   a-none : (set moves : ℕ) → OneOfThree (None set moves)
 
--- "A plan is the assignment in the first table, the second table has its loads, and the largest load is the greatest of them."
--- "Entry j of the first table is job j's bench, entry b of the second is bench b's load; later entries keep their contents."
-pub record PlanInTables (h : Head) (js : List Job) (places loads : List ℕ) (largest moves : ℕ) (places′ loads′ : List ℕ) : Type 0 where
+-- "A plan is the assignment in the first table, the second table has its loads, and the largest load is the greatest
+-- of them." "Entry j of the first table is job j's bench, entry b of the second is bench b's load; later entries keep
+-- their contents."
+pub record PlanInTables (h : Head) (js : List Job) (places loads : List ℕ) (largest moves : ℕ)
+    (places′ loads′ : List ℕ) : Type 0 where
   pub assignment : Assignment h js (placeIn places′)
   pub its-loads : (v : ℕ) → v < h .benches → getD loads′ v 0 ≡ loadOf js (placeIn places′) v
   pub within-bound : (v : ℕ) → v < h .benches → withinBound h (getD loads′ v 0) ≡ true
@@ -124,7 +127,8 @@ pub record PlannerClaim (s places loads : List ℕ) (r : Answer) (places′ load
       → (set moves : ℕ) → r ≡ None set moves → NamedSet h js set moves × Untouched places loads places′ loads′
   -- If any assignment at all keeps every bench within T, a plan is given.
   pub rival-planned : (h : Head) (js : List Job) → Answerable s places loads h js
-      → (a : ℕ → ℕ) → Assignment h js a → keepsTarget h js a ≡ true → (largest : ℕ) × (moves : ℕ) × (r ≡ Plan largest moves)
+      → (a : ℕ → ℕ) → Assignment h js a → keepsTarget h js a ≡ true
+      → (largest : ℕ) × (moves : ℕ) × (r ≡ Plan largest moves)
   -- After long or none every assignment leaves some bench above T.
   pub over-after-long : (h : Head) (js : List Job) → Answerable s places loads h js
       → (j : ℕ) → r ≡ Long j → (a : ℕ → ℕ) → Assignment h js a → SomeOver h js a

@@ -1,7 +1,8 @@
--- Demand 3 as a C caller sees it: from the bytes of a sheet to the returned word and the bytes of the three tables (blocking's specs/Claim
--- says the same of an answer and tables of numbers, the header yinqocha.h says it in words).
+-- Demand 3 as a C caller sees it: from the bytes of a sheet to the returned word and the bytes of the three tables
+-- (blocking's specs/Claim says the same of an answer and tables of numbers, the header yinqocha.h says it in words).
 --     s                            the bytes of the sheet
---     places, loads, numbers       the bytes of the three tables before; places′, loads′ and numbers′ are the bytes after
+--     places, loads, numbers       the bytes of the three tables before
+--     places′, loads′, numbers′    the bytes after
 --     r                            the returned word: 1 plan, 2 long, 3 none, or the word of a fault
 --     entryOf t n                  entry n of a table: 8 bytes, the lowest first (tables' specs/Tables)
 --     NoRoomFor, TablesShort       the sheet is accepted, and a table is too short for it
@@ -37,7 +38,8 @@ abbrev pub TablesShort : List ℕ → List ℕ → List ℕ → List ℕ → Typ
 TablesShort s places loads numbers =
     (h : Head) × (js : List Job) × (readSheet s ≡ accepted h js) × NoRoomFor h js places loads numbers
 
--- "Every table must have its room whatever the answer will be: places one entry for each job, loads one for each bench, answer two."
+-- "Every table must have its room whatever the answer will be: places one entry for each job, loads one for each bench,
+-- answer two."
 pub record RoomFor (s places loads numbers : List ℕ) (h : Head) (js : List Job) : Type 0 where
   pub sheet-accepted : readSheet s ≡ accepted h js
   pub place-to-a-job : 8 * length js ≤ length places
@@ -54,7 +56,8 @@ pub record AllKept (places loads numbers places′ loads′ numbers′ : List �
   pub both-tables : Untouched places loads places′ loads′
   pub same-numbers : numbers′ ≡ numbers
 
--- "Entry j is the bench of job j. Entry b is the load of bench b in minutes. Later bytes of a table keep their contents."
+-- "Entry j is the bench of job j. Entry b is the load of bench b in minutes. Later bytes of a table keep their
+-- contents."
 -- The answer's two entries are the largest load and the moves made.
 pub record PlanInBytes (h : Head) (js : List Job) (places loads places′ loads′ numbers′ : List ℕ) : Type 0 where
   pub assignment : Assignment h js (entryOf places′)
@@ -73,7 +76,8 @@ pub record DoorClaim (s places loads numbers : List ℕ) (r : ℕ) (places′ lo
   -- Every call is one of three: the sheet is refused, the tables are short, or the sheet can be answered.
   pub one-case : OneCase (SheetRefused s) (TablesShort s places loads numbers) (CanAnswer s places loads numbers)
   -- A fault returns its word and writes to no table. First the faults of the sheet, then fault 13.
-  pub sheet-refused : (f : Fault) → readSheet s ≡ refused f → (r ≡ faultWord f) × AllKept places loads numbers places′ loads′ numbers′
+  pub sheet-refused : (f : Fault) → readSheet s ≡ refused f
+      → (r ≡ faultWord f) × AllKept places loads numbers places′ loads′ numbers′
   pub tables-short : (h : Head) (js : List Job) → readSheet s ≡ accepted h js → NoRoomFor h js places loads numbers
       → (r ≡ faultWord (Table 0)) × AllKept places loads numbers places′ loads′ numbers′
   -- Else the answer is one of the three.

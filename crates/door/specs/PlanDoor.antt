@@ -1,5 +1,5 @@
 -- Planning and comparing for C (the header yinqocha.h says the same in words).
---     doorAnswer s np nl na     the answer to the bytes s, with room for np places, nl loads and na numbers of the answer
+--     doorAnswer s np nl na     the answer to the bytes s, with room for np places, nl loads and na answer numbers
 --     planWord a            what planning returns: 1 plan, 2 long, 3 none, or the fault
 --     answerNumbers a       the two numbers of the answer table: largest load and moves, job and 0, set and moves
 --     placesIn a, loadsIn a     the numbers of the other two tables: a plan has them, no other answer does
@@ -20,7 +20,7 @@ use Rattle.planning.specs.Planner.{setOf, shortTables}
 use Rattle.tables.specs.Tables.{putNumbers}
 use Rattle.tables.specs.Words.{faultWord}
 
--- Fault 13, after the faults of the sheet: a table is shorter than the jobs, the benches or the two numbers of an answer.
+-- Fault 13, after the faults of the sheet: a table is shorter than the jobs, the benches or an answer's two numbers.
 unfoldable pub doorAnswer : List ℕ → ℕ → ℕ → ℕ → Answer
 doorAnswer s np nl na =
     elim (readSheet s) [

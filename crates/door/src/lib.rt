@@ -1,1 +1,2 @@
-// What the C door promises: definitions in specs/, and in proofs/ the demand over its bytes and the laws of its words. No code.
+// What the C door promises: definitions in specs/; in proofs/ the demand over its bytes, and the laws of its words.
+// No code.

@@ -30,7 +30,9 @@ use Rattle.fields.specs.declared.sheet.Head.{Head}
 use Rattle.fields.specs.declared.sheet.Job.{Job}
 use Rattle.judging.specs.declared.judge.Stage.the-variants.{Closed}
 use Rattle.fields.specs.declared.fault.Fault.{Fault}
-use Rattle.fields.specs.declared.fault.Fault.the-variants.{TooLong, Truncated, UnknownKind, Misplaced, WrongLength, SpareBit, BenchCount, Share, JobCount, Minutes, Allowed, HeavyHyperEdge, Table}
+use Rattle.fields.specs.declared.fault.Fault.the-variants.{TooLong, Truncated, UnknownKind, Misplaced, WrongLength}
+use Rattle.fields.specs.declared.fault.Fault.the-variants.{SpareBit, BenchCount, Share, JobCount, Minutes, Allowed}
+use Rattle.fields.specs.declared.fault.Fault.the-variants.{HeavyHyperEdge, Table}
 use Rattle.fields.specs.Format.{ours, headerSize, versionOf, kindOf, frameSize, bodyOf}
 use Rattle.fields.specs.Tests.{Test, heavyHyperEdgeAt, LowestHeavyHyperEdge}
 use Rattle.judging.specs.FrameTests.{cut}
@@ -55,8 +57,9 @@ pub data Row : List ℕ → Type 0 where
 
 -- ── added frames ──
 
--- "Adding whole frames of other versions between frames": frame by frame, t has a frame more, or the next frame of s, or all that is
--- left of s, which need not be whole frames. Any number of frames is added: before the head, between, and after the end.
+-- "Adding whole frames of other versions between frames": frame by frame, t has a frame more, or the next frame of s, or
+-- all that is left of s, which need not be whole frames. Any number of frames is added: before the head, between, and
+-- after the end.
 pub data Padded : List ℕ → List ℕ → Type 0 where
   unchanged : {s : List ℕ} → Padded s s
   kept : {f s t : List ℕ} → WholeFrame f → Padded s t → Padded (f ++ s) (f ++ t)
@@ -118,11 +121,14 @@ pub record FirstTest (ts : List Test) (f : Fault) : Type 0 where
 abbrev pub readOn : List ℕ → ℕ → Progress → Read
 readOn rest at g = readFrom (length rest) rest at g
 
--- "Frames are judged in sheet order": every frame before byte at is whole, and is foreign or one of version 1 in which no test holds.
+-- "Frames are judged in sheet order": every frame before byte at is whole, and is foreign or one of version 1 in which no
+-- test holds.
 pub data Reached (s : List ℕ) : ℕ → List ℕ → Progress → Type 0 where
   start : Reached s 0 s nothingRead
-  past-foreign : {at : ℕ} {f rest : List ℕ} {g : Progress} → Reached s at (f ++ rest) g → Foreign f → Reached s (at + length f) rest g
-  past-sound : {at : ℕ} {f rest : List ℕ} {g : Progress} → Reached s at (f ++ rest) g → WholeFrame f → versionOf f ≡ ours
+  past-foreign : {at : ℕ} {f rest : List ℕ} {g : Progress} → Reached s at (f ++ rest) g → Foreign f
+      → Reached s (at + length f) rest g
+  past-sound : {at : ℕ} {f rest : List ℕ} {g : Progress} → Reached s at (f ++ rest) g → WholeFrame f
+      → versionOf f ≡ ours
       → NoneHolds (faultsAt g at f) → Reached s (at + length f) rest (after g (kindOf f) (bodyOf f))
 
 -- "numbers 2 to 11 are tried in this order at each frame", and what is judged after the last one.
@@ -135,7 +141,8 @@ pub data FaultHere (s : List ℕ) (at : ℕ) (rest : List ℕ) (g : Progress) : 
   -- "2. … or its frames are over and none was an end frame (place: the sheet's length)"
   no-end : rest ≡ [] → g .stage ≢ Closed → FaultHere s at rest g (Truncated (length s))
   -- "12. After the whole sheet: …"
-  heavy-hyper-edge : {n : ℕ} → rest ≡ [] → g .stage ≡ Closed → LowestHeavyHyperEdge (g .head) (g .jobs) n → FaultHere s at rest g (HeavyHyperEdge n)
+  heavy-hyper-edge : {n : ℕ} → rest ≡ [] → g .stage ≡ Closed → LowestHeavyHyperEdge (g .head) (g .jobs) n
+      → FaultHere s at rest g (HeavyHyperEdge n)
 
 -- The first fault of a sheet: the place is reached, so no frame before it has a fault.
 pub record SheetFault (s : List ℕ) (f : Fault) : Type 0 where

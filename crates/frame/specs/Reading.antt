@@ -1,7 +1,7 @@
 -- What a sheet is read as: its head and jobs, or its first fault (document 01, "Faults, in checking order").
 --     Progress                what has been read so far
 --     Read                    what a sheet is read as
---     faultsAt                numbers 3 to 11 at a frame of version 1, in this order (judging FrameTests: frameFaults, passed on)
+--     faultsAt                numbers 3 to 11 at a frame of version 1, in this order (judging FrameTests: frameFaults)
 --     after                   the progress after a sound frame of version 1
 --     endVerdict, ending      after the last frame
 --     readFrom                the frames from byte at on. The first argument bounds the frames that are left to read
@@ -81,7 +81,9 @@ readFrom (suc k) rest at g =
                   | true ↦
                       elim (firstFault (faultsAt g at rest)) [
                         | Refused f ↦ refused f
-                        | Accepted ↦ readFrom k (drop (frameSize rest) rest) (at + frameSize rest) (after g (kindOf rest) (bodyOf rest))
+                        | Accepted ↦
+                            readFrom k (drop (frameSize rest) rest) (at + frameSize rest)
+                            (after g (kindOf rest) (bodyOf rest))
                       ]
                 ]
           ]

@@ -29,5 +29,6 @@ inspectWord (accepted h js) room = cond (ltb room (sizeRead js)) (faultWord (Tab
 inspectWord (refused f) room = faultWord f
 
 unfoldable pub inspectTable : Read → List ℕ → List ℕ
-inspectTable (accepted h js) t = cond (ltb (length t) (sizeRead js)) t (littleAll 8 (numbersRead h js) ++ drop (sizeRead js) t)
+inspectTable (accepted h js) t =
+    cond (ltb (length t) (sizeRead js)) t (littleAll 8 (numbersRead h js) ++ drop (sizeRead js) t)
 inspectTable (refused f) t = t

@@ -14,7 +14,8 @@ ghost use Rattle.inspect.specs.Inspect.{inspectWord, inspectTable, jobNu
 // Reads a sheet and puts what was read into the table.
 #[no_mangle]
 pub extern "C" fn yinqocha_inspect(sheet: &[u8], table: &mut [u8]) -> u64
-    ensures { λ r. ⌜ (r ≡ inspectWord (readSheet (now (sheet .entry))) (length (now (table .entry)))) × (now (table .exit) ≡ inspectTable (readSheet (now (sheet .entry))) (now (table .entry))) ⌝ }
+    ensures { λ r. ⌜ (r ≡ inspectWord (readSheet (now (sheet .entry))) (length (now (table .entry))))
+        × (now (table .exit) ≡ inspectTable (readSheet (now (sheet .entry))) (now (table .entry))) ⌝ }
 {
     let reading = frame::read(sheet);
     let verdict = reading.verdict;
@@ -46,7 +47,9 @@ fn put_head(h: Head, table: &mut [u8])
 
 fn put_jobs<'a>(n: usize, minutes: &'a [u64], allowed: &'a [u64], table: &mut [u8])
     requires { ⌜ (n ≤ length (now minutes)) × (n ≤ length (now allowed)) × (32 + 16 * n ≤ length (now table)) ⌝ }
-    ensures { λ _. ⌜ now (table .exit) ≡ take 32 (now (table .entry)) ++ littleAll 8 (jobNumbers (jobTable n (now (minutes .entry)) (now (allowed .entry)))) ++ drop (32 + 16 * n) (now (table .entry)) ⌝ }
+    ensures { λ _. ⌜ now (table .exit) ≡ take 32 (now (table .entry))
+        ++ littleAll 8 (jobNumbers (jobTable n (now (minutes .entry)) (now (allowed .entry))))
+        ++ drop (32 + 16 * n) (now (table .entry)) ⌝ }
 {
     let mut i = 0;
     while i < n {

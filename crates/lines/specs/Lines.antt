@@ -58,9 +58,11 @@ noneLetters = 110 ∷ 111 ∷ 110 ∷ 101 ∷ []
 abbrev pub faultLetters : List ℕ
 faultLetters = 102 ∷ 97 ∷ 117 ∷ 108 ∷ 116 ∷ []
 
--- "`plan 5 0` (largest load, moves) .. Else one line: `long` and the job; `none`, the moves and the benches rising; `fault`, number and place."
+-- "`plan 5 0` (largest load, moves) .. Else one line: `long` and the job; `none`, the moves and the benches rising;
+-- `fault`, number and place."
 unfoldable pub linesOf : Answer → List ℕ → List ℕ
-linesOf (Plan largest moves) places = line (planLetters ∷ digits largest ∷ digits moves ∷ []) ++ jobLines (length places) places
+linesOf (Plan largest moves) places =
+    line (planLetters ∷ digits largest ∷ digits moves ∷ []) ++ jobLines (length places) places
 linesOf (Long job) places = line (longLetters ∷ digits job ∷ [])
 linesOf (None set moves) places = line (noneLetters ∷ digits moves ∷ map digits (members 64 (isSet 64 set)))
 linesOf (Fault f) places = line (faultLetters ∷ digits (numberOf f) ∷ digits (placeOf f) ∷ [])

@@ -8,7 +8,8 @@ ghost use Rattle.door.specs.PlanDoor.{comparedWord};
 // Whether two lists of places give every bench the same load.
 #[no_mangle]
 pub extern "C" fn yinqocha_compare(sheet: &[u8], first: &[u8], second: &[u8]) -> u64
-    ensures { λ r. ⌜ r ≡ comparedWord (comparePlans (now (sheet .entry)) (numbersOf (now (first .entry))) (numbersOf (now (second .entry)))) ⌝ }
+    ensures { λ r. ⌜ r ≡ comparedWord
+        (comparePlans (now (sheet .entry)) (numbersOf (now (first .entry))) (numbersOf (now (second .entry)))) ⌝ }
 {
     // A list of 513 places is as wrong as any longer one.
     let one = tables::load(first);

@@ -19,8 +19,14 @@ pub extern "C" fn yinqocha_plan(
     loads: &mut [u8],
     answer: &mut [u8],
 ) -> u64
-    ensures called { λ r. ⌜ Called (doorAnswer (now (sheet .entry)) (roomOf (now (places .entry))) (roomOf (now (loads .entry))) (roomOf (now (answer .entry)))) r (now (places .entry)) (now (loads .entry)) (now (answer .entry)) (now (places .exit)) (now (loads .exit)) (now (answer .exit)) ⌝ }
-    ensures demand { λ r. ⌜ DoorClaim (now (sheet .entry)) (now (places .entry)) (now (loads .entry)) (now (answer .entry)) r (now (places .exit)) (now (loads .exit)) (now (answer .exit)) ⌝ }
+    ensures called { λ r. ⌜ Called
+        (doorAnswer (now (sheet .entry))
+        (roomOf (now (places .entry))) (roomOf (now (loads .entry))) (roomOf (now (answer .entry)))) r
+        (now (places .entry)) (now (loads .entry)) (now (answer .entry))
+        (now (places .exit)) (now (loads .exit)) (now (answer .exit)) ⌝ }
+    ensures demand { λ r. ⌜ DoorClaim (now (sheet .entry))
+        (now (places .entry)) (now (loads .entry)) (now (answer .entry)) r
+        (now (places .exit)) (now (loads .exit)) (now (answer .exit)) ⌝ }
 {
     let mut p = [tables::UNUSED; 512];
     let mut l = [tables::UNUSED; 64];

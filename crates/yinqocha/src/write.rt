@@ -17,7 +17,11 @@ pub extern "C" fn yinqocha_write(
     allowed: &[u8],
     out: &mut [u8],
 ) -> u64
-    ensures { λ r. ⌜ (r ≡ writtenWord (writeSheet (headOf benches p q target) (jobsIn (now (minutes .entry)) (now (allowed .entry))) (length (now (out .entry))))) × (now (out .exit) ≡ output (writeSheet (headOf benches p q target) (jobsIn (now (minutes .entry)) (now (allowed .entry))) (length (now (out .entry)))) (headOf benches p q target) (jobsIn (now (minutes .entry)) (now (allowed .entry))) (now (out .entry))) ⌝ }
+    ensures { λ r. ⌜ (r ≡ writtenWord (writeSheet (headOf benches p q target)
+        (jobsIn (now (minutes .entry)) (now (allowed .entry))) (length (now (out .entry)))))
+        × (now (out .exit) ≡ output (writeSheet (headOf benches p q target)
+        (jobsIn (now (minutes .entry)) (now (allowed .entry))) (length (now (out .entry))))
+        (headOf benches p q target) (jobsIn (now (minutes .entry)) (now (allowed .entry))) (now (out .entry))) ⌝ }
 {
     // 513 jobs are enough to meet fault 9.
     let first = tables::load(minutes);
