@@ -7,7 +7,7 @@
 --     found-first-faulty, found-second-faulty, found-same, found-different     the four answers for a sound sheet
 --     refused-is, accepted-is   the answer for the bytes
 use Prim.Native.Nat.{ℕ, _+_, _*_, _≤_, _<_, _^_}
-use mathlib.Core.Path.{_≡_, refl, sym, ap, ap₂, _∙_}
+use mathlib.Core.Path.{_≡_, sym, ap, ap₂, _∙_}
 use mathlib.Core.Bool.{Bool, true, false, not, _&&_}
 use mathlib.Core.Logic.{inl, inr}
 use mathlib.Core.List.{List}
@@ -192,8 +192,7 @@ module _ (h : Head) (js : List Job) (benches jobs : ℕ) (minutes allowed : List
 module _ (s first second : List ℕ) where
   pub refused-is : {x : Reading} {f : Fault} → x ≡ stored (readSheet s) → x .verdict ≡ Refused f → ComparedFault f ≡ comparePlans s first second
   unfolding comparePlans
-  refused-is e a =
-      rw (verdict-refused (readSheet s) e a, comparePlans)
+  refused-is e a = rw (verdict-refused (readSheet s) e a, comparePlans)
 
   pub accepted-is : (x : Reading) {r : Compared} → x ≡ stored (readSheet s) → x .verdict ≡ Accepted
       → ((h : Head) → (js : List Job) → Tables h js (x .sheet .head .benches) (x .sheet .count) (x .sheet .minutes) (x .sheet .allowed)

@@ -29,7 +29,6 @@ use Rattle.frame.specs.Reading.{accepted, refused, readSheet}
 use Rattle.frame.proofs.Stored.{read-cases}
 use Rattle.algorithm.specs.Day.{Day, dayOf}
 use Rattle.algorithm.specs.Answer.{loadOf}
-use Rattle.comparison.specs.declared.compared.Compared.{Compared}
 use Rattle.comparison.specs.declared.compared.Compared.the-variants.{Same, Different, Fault as ComparedFault}
 use Rattle.comparison.specs.Comparison.{givesEach, sameLoads, comparedBy, comparedOf, comparePlans, Gives, Good, EqualLoads}
 use Rattle.comparison.proofs.ComparedCases.{first-faulty, second-faulty, all-same, not-same, of-first-fault, of-second-fault, of-same, of-different}
