@@ -31,14 +31,14 @@ use Rattle.frame.proofs.AcceptedLaws.{accepted-sound}
 use Rattle.frame.proofs.Places.{read-place}
 use Rattle.algorithm.specs.Answer.{Answer, plan, tooLong, none, fault}
 use Rattle.planning.specs.declared.answer.Answer.{Answer as Given}
-use Rattle.planning.specs.Planner.{given, shortTables, answerFor, placesAfter, Answered}
+use Rattle.planning.specs.Planner.{given, shortTables, answerFor, placesAfter, Answered, placesIn}
 use Rattle.demand.specs.Demand.{withinBound, moveBound, lightJob, allowed}
 use Rattle.blocking.specs.Answers.{SoundPlan, SoundAnswer, plan-sound, long-sound, none-sound}
 use Rattle.blocking.proofs.Theorems.{whole-claim}
 use Rattle.lines.specs.Buffer.{Front}
 use Rattle.lines.specs.Lines.{linesOf}
 use Rattle.lines.proofs.TextSize.{text-size}
-use Rattle.bay.specs.Printed.{jobPlaces, printedLines, Prints}
+use Rattle.bay.specs.Printed.{printedLines, Prints}
 
 -- ── the answer to a sheet ──
 
@@ -64,7 +64,7 @@ unfolding stored
 count-read s h js e = rw e (omega (arith, accepted-sound s h js e .at-most-512-jobs))
 
 found-text : (s before : List ℕ) (n : ℕ) → n ≡ min 512 (stored (readSheet s) .sheet .count) → {a : Answer} → Found s a
-    → linesOf (given a) (take n (placesAfter a before)) ≡ linesOf (given a) (jobPlaces a)
+    → linesOf (given a) (take n (placesAfter a before)) ≡ linesOf (given a) (placesIn a)
 unfolding linesOf
 found-text s before n e (a-fault f small) = refl
 found-text s before n e (an-answer h js taken (plan-sound {largest = largest} {moves = moves} {places = ps} {loads = ls} p)) =
@@ -103,7 +103,7 @@ module _ (h : Head) (js : List Job) (S : SoundSheet h js) where
       let below : getD ps j 0 < h .benches = ltb-true (getD ps j 0) (h .benches) (and-left _ _ (p .assignment .on-allowed j (omega (arith, p .one-to-a-job)))) in
       omega (arith, S .head .at-most-64-benches)
 
-  answer-size : {a : Answer} → SoundAnswer h js a → length (linesOf (given a) (jobPlaces a)) ≤ 32768
+  answer-size : {a : Answer} → SoundAnswer h js a → length (linesOf (given a) (placesIn a)) ≤ 32768
   answer-size (plan-sound {largest = largest} {moves = moves} {places = ps} {loads = ls} p) =
       let (v, l, e) = p .one-of-them in
       text-size (given (plan largest moves ps ls)) ps (subst (λ (n : ℕ). n < 10 ^ 20) e (load-small (getD ls v 0) (p .within-bound v l)), moves-small moves (p .few-moves))
@@ -113,7 +113,7 @@ module _ (h : Head) (js : List Job) (S : SoundSheet h js) where
   answer-size (none-sound {benches = benches} {moves = moves} n) =
       text-size (given (none benches moves)) [] (moves-small moves (n .few-moves)) (omega arith) (λ i b. absurd (omega arith))
 
-found-size : (s : List ℕ) {a : Answer} → Found s a → length (linesOf (given a) (jobPlaces a)) ≤ 32768
+found-size : (s : List ℕ) {a : Answer} → Found s a → length (linesOf (given a) (placesIn a)) ≤ 32768
 found-size s (a-fault f small) = text-size (given (fault f)) [] (omega (arith, number-small f), omega arith) (omega arith) (λ i b. absurd (omega arith))
 found-size s (an-answer h js taken sound) = answer-size h js (accepted-sound s h js taken) sound
 
@@ -145,7 +145,7 @@ answer-read s s′ np nl e = rw (e, answerFor)
 pub prints-read : {s s′ out : List ℕ} {r : ℕ} → readSheet s ≡ readSheet s′ → Prints s out r → Prints s′ out r
 unfolding printedLines
 prints-read {s} {s′} {out} {r} e p =
-    let same : printedLines s ≡ printedLines s′ = ap (λ (a : Answer). linesOf (given a) (jobPlaces a)) (answer-read s s′ 512 64 e) in
+    let same : printedLines s ≡ printedLines s′ = ap (λ (a : Answer). linesOf (given a) (placesIn a)) (answer-read s s′ 512 64 e) in
     record { end = p .end ∙ ap length same; bytes = p .bytes ∙ same }
 
 -- What is printed lies within its buffer: the input can be the bytes that were read.

@@ -21,7 +21,7 @@ use Rattle.fields.specs.declared.sheet.Job.{Job}
 use Rattle.frame.specs.Reading.{accepted, readSheet}
 use Rattle.frame.proofs.AcceptedLaws.{accepted-sound}
 use Rattle.algorithm.specs.Answer.{Answer, plan, tooLong, none, fault}
-use Rattle.planning.specs.Planner.{setOf, shortTables}
+use Rattle.planning.specs.Planner.{setOf, shortTables, placesIn, loadsIn}
 use Rattle.demand.specs.Demand.{loadOf}
 use Rattle.blocking.specs.Answers.{placeIn, SoundPlan, SoundLong, SoundAnswer, plan-sound, long-sound, none-sound, isPlan, isLong, WholeClaim}
 use Rattle.blocking.specs.Claim.{SheetRefused, OneCase, Untouched, NamedSet}
@@ -33,7 +33,7 @@ use Rattle.tables.specs.Words.{faultWord}
 use Rattle.tables.proofs.EntryLaws.{entry-put, later-kept}
 use Rattle.tables.proofs.NumberSteps.{length-putNumbers, put-nothing}
 use Rattle.door.specs.DoorClaim.{NoRoomFor, TablesShort, RoomFor, CanAnswer, AllKept, PlanInBytes, DoorClaim}
-use Rattle.door.specs.PlanDoor.{doorAnswer, planWord, answerNumbers, placesIn, loadsIn, Called}
+use Rattle.door.specs.PlanDoor.{doorAnswer, planWord, answerNumbers, Called}
 use Rattle.door.proofs.PlanLaws.{AnswerFits, answer-fits}
 use Rattle.door.proofs.AnswerLaws.{door-refused, door-read, verdictOn}
 

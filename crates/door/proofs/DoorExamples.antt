@@ -4,23 +4,21 @@
 --     called-exact        what a call returns, and every byte that it leaves in the tables
 --     numbers-short       with one byte less for the answer the call is fault 13, and changes nothing
 use Prim.Native.Nat.{ℕ}
-use mathlib.Core.Path.{_≡_, refl, sym, ap, _∙_}
-use mathlib.Core.Logic.{inl, inr}
-use mathlib.Core.Bool.{false, _||_}
-use mathlib.Core.List.{List, [], _∷_, _++_}
+use mathlib.Core.Path.{_≡_, ap, _∙_}
+use mathlib.Core.Logic.{inr}
+use mathlib.Core.List.{List, [], _∷_}
 use native.Mathlib.Omega.{arith}
-use lib.ListN.{length, replicate}
-use lib.Dec.{ltb}
+use lib.ListN.{replicate}
 use Rattle.bits.specs.Little.{littleOf, littleAll}
 use Rattle.fields.specs.declared.fault.Fault.the-variants.{Table}
 use Rattle.algorithm.specs.Answer.{Answer, plan}
-use Rattle.planning.specs.Planner.{shortTables}
+use Rattle.planning.specs.Planner.{placesIn, loadsIn}
 use Rattle.blocking.proofs.ClaimExamples.{head8, jobs8, sheet8, read-8, run-8}
-use Rattle.tables.specs.Tables.{roomOf, putNumbers}
+use Rattle.tables.specs.Tables.{putNumbers}
 use Rattle.tables.specs.Words.{faultWord}
 use Rattle.door.specs.DoorClaim.{RoomFor, AllKept}
-use Rattle.door.specs.PlanDoor.{doorAnswer, placesIn, loadsIn, answerNumbers, planWord, Called}
-use Rattle.door.proofs.AnswerLaws.{door-read, verdictOn}
+use Rattle.door.specs.PlanDoor.{doorAnswer, answerNumbers, planWord, Called}
+use Rattle.door.proofs.AnswerLaws.{door-read}
 use Rattle.door.proofs.DoorDemand.{door-claim}
 
 -- Bytes before the call.

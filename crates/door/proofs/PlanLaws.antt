@@ -25,7 +25,7 @@ use Rattle.frame.specs.Sound.{SoundSheet}
 use Rattle.frame.proofs.AcceptedLaws.{accepted-sound}
 use Rattle.frame.proofs.Places.{read-place}
 use Rattle.algorithm.specs.Answer.{Answer, plan, tooLong, none, fault}
-use Rattle.planning.specs.Planner.{shortTables}
+use Rattle.planning.specs.Planner.{shortTables, placesIn, loadsIn}
 use Rattle.demand.specs.Demand.{lightJob, allowed, moveBound}
 use Rattle.blocking.specs.Answers.{SoundPlan, SoundAnswer, plan-sound, long-sound, none-sound}
 use Rattle.blocking.proofs.SetLaws.{setOf-lt}
@@ -33,7 +33,7 @@ use Rattle.blocking.proofs.Theorems.{whole-claim}
 use Rattle.tables.specs.Tables.{entryOf}
 use Rattle.tables.proofs.EntryLaws.{Fit, entry-put}
 use Rattle.tables.proofs.WordLaws.{fault-word-number, fault-word-place}
-use Rattle.door.specs.PlanDoor.{doorAnswer, planWord, answerNumbers, placesIn, loadsIn, Called}
+use Rattle.door.specs.PlanDoor.{doorAnswer, planWord, answerNumbers, Called}
 use Rattle.frame.proofs.Stored.{read-cases}
 use Rattle.door.proofs.AnswerLaws.{door-refused, door-read, verdictOn, isFault, roomy, places-used, loads-used}
 

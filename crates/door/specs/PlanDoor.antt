@@ -2,7 +2,6 @@
 --     doorAnswer s np nl na     the answer to the bytes s, with room for np places, nl loads and na answer numbers
 --     planWord a            what planning returns: 1 plan, 2 long, 3 none, or the fault
 --     answerNumbers a       the two numbers of the answer table: largest load and moves, job and 0, set and moves
---     placesIn a, loadsIn a     the numbers of the other two tables: a plan has them, no other answer does
 --     Called                what a call returns, and what it leaves in the three tables
 --     comparedWord c        what comparing returns: 1 same, 0 different, or the fault
 use Prim.Native.Nat.{ℕ}
@@ -16,7 +15,7 @@ use Rattle.algorithm.specs.Day.{dayOf}
 use Rattle.algorithm.specs.Answer.{Answer, plan, tooLong, none, fault, answerTo}
 use Rattle.comparison.specs.declared.compared.Compared.{Compared}
 use Rattle.comparison.specs.declared.compared.Compared.the-variants.{Same, Different, Fault as ComparedFault}
-use Rattle.planning.specs.Planner.{setOf, shortTables}
+use Rattle.planning.specs.Planner.{setOf, shortTables, placesIn, loadsIn}
 use Rattle.tables.specs.Tables.{putNumbers}
 use Rattle.tables.specs.Words.{faultWord}
 
@@ -39,18 +38,6 @@ answerNumbers (plan largest moves places loads) = largest ∷ moves ∷ []
 answerNumbers (tooLong j) = j ∷ 0 ∷ []
 answerNumbers (none benches moves) = setOf benches ∷ moves ∷ []
 answerNumbers (fault f) = []
-
-abbrev pub placesIn : Answer → List ℕ
-placesIn (plan largest moves places loads) = places
-placesIn (tooLong j) = []
-placesIn (none benches moves) = []
-placesIn (fault f) = []
-
-abbrev pub loadsIn : Answer → List ℕ
-loadsIn (plan largest moves places loads) = loads
-loadsIn (tooLong j) = []
-loadsIn (none benches moves) = []
-loadsIn (fault f) = []
 
 pub record Called (a : Answer) (r : ℕ) (places loads numbers places′ loads′ numbers′ : List ℕ) : Type 0 where
   pub word : r ≡ planWord a

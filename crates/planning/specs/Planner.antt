@@ -4,6 +4,7 @@
 --     given a                   the program's answer: each case with its values
 --     shortTables               fault 13: a table is shorter than the jobs or the benches
 --     answerFor s np nl         the answer to the bytes s, with tables of np and nl entries
+--     placesIn, loadsIn         the numbers of both tables: a plan has them, no other answer does
 --     placesAfter, loadsAfter   the tables after an answer
 --     Answered                  an answer with both tables after it
 use Prim.Native.Nat.{ℕ, _+_, _-_, _^_}
@@ -42,6 +43,18 @@ answerFor s np nl =
       | refused f ↦ fault f
       | accepted h js ↦ cond (shortTables h js np nl) (fault (Table 0)) (answerTo (dayOf h js))
     ]
+
+abbrev pub placesIn : Answer → List ℕ
+placesIn (plan largest moves places loads) = places
+placesIn (tooLong j) = []
+placesIn (none benches moves) = []
+placesIn (fault f) = []
+
+abbrev pub loadsIn : Answer → List ℕ
+loadsIn (plan largest moves places loads) = loads
+loadsIn (tooLong j) = []
+loadsIn (none benches moves) = []
+loadsIn (fault f) = []
 
 -- "Entry j of the first table is job j's bench, entry b of the second is bench b's load; later entries keep their
 -- contents."
