@@ -2,26 +2,24 @@
 --     found                               the answer, for the progress so far
 --     found-fault                         the sheet is refused
 --     found-foreign, found-ours           the frame is whole, and of another version; of version 1
-use Prim.Native.Nat.{ℕ, _+_, _-_, _≤_, _<_}
-use mathlib.Core.Path.{_≡_, refl, sym, ap, ap₂, _∙_}
+use Prim.Native.Nat.{ℕ, _-_, _<_}
+use mathlib.Core.Path.{_≡_, refl, sym, ap, _∙_}
 use mathlib.Core.Logic.{_⊎_, inl, inr, ⊎-elim}
 use mathlib.Core.Bool.{Bool, true, false, cond}
 use mathlib.Core.List.{List}
 use native.Mathlib.Omega.{arith}
-use lib.ListN.{length, take, drop}
-use lib.Dec.{eqb, ltb}
-use borrow.Author.Tests.{lt-ltb, le-ltb, eq-eqb, ne-eqb}
-use Rattle.bools.proofs.BoolLaws.{clash, or-right, or-false}
+use lib.ListN.{length}
+use lib.Dec.{eqb}
+use Rattle.bools.proofs.BoolLaws.{clash}
 use Rattle.fields.specs.declared.sheet.Head.{Head}
 use Rattle.fields.specs.declared.sheet.Job.{Job}
 use Rattle.fields.specs.declared.fault.Fault.{Fault}
 use Rattle.fields.specs.declared.fault.Fault.the-variants.{Truncated}
 use Rattle.fields.specs.declared.fault.Verdict.{Verdict}
 use Rattle.fields.specs.declared.fault.Verdict.the-variants.{Accepted, Refused}
-use Rattle.judging.specs.declared.judge.Stage.{Stage}
 use Rattle.judging.specs.declared.judge.Frame.{Frame}
 use Rattle.judging.specs.declared.judge.Frame.the-variants as frame
-use Rattle.fields.specs.Format.{ours, headKind, jobKind, versionOf, kindOf, lengthOf, frameSize, bodyOf, headOf, jobOf}
+use Rattle.fields.specs.Format.{ours, headKind, jobKind, versionOf, kindOf, bodyOf, headOf, jobOf}
 use Rattle.fields.specs.Tests.{firstFault}
 use Rattle.judging.specs.FrameTests.{cut}
 use Rattle.frame.specs.Reading.{Progress, refused, faultsAt}

@@ -12,9 +12,7 @@ use mathlib.Core.List.{List, [], _∷_, _++_, map}
 use native.Mathlib.Omega.{arith}
 use lib.ListN.{length, getD, set, drop, take, length-append, length-drop, List·getD-append}
 use lib.Seq.{getD-append-seam, drop-drop, take-all}
-use lib.Dec.{eqb, ltb}
-use borrow.Author.Tests.{lt-ltb, le-ltb}
-use Rattle.bools.proofs.BoolLaws.{or-left, or-right, or-false}
+use lib.Dec.{eqb}
 use Rattle.bools.proofs.OrderLaws.{lt-or-le}
 use Rattle.bits.proofs.BitsLaws.{bits-lt}
 use Rattle.fields.specs.declared.sheet.Head.{Head}
@@ -28,7 +26,7 @@ use Rattle.judging.specs.declared.judge.Frame.the-variants as frame
 use Rattle.fields.specs.declared.fault.Fault.{Fault}
 use Rattle.fields.specs.declared.fault.Verdict.{Verdict}
 use Rattle.fields.specs.declared.fault.Verdict.the-variants.{Accepted, Refused}
-use Rattle.fields.specs.Format.{ours, versionOf, kindOf, lengthOf, frameSize, bodyOf}
+use Rattle.fields.specs.Format.{ours, versionOf, kindOf, frameSize, bodyOf}
 use Rattle.fields.specs.Tests.{firstFault, jobTable, jobAt, noJob}
 use Rattle.frame.specs.Sound.{SoundJob}
 use Rattle.judging.specs.FrameTests.{cut}

@@ -2,6 +2,7 @@
 --     version-digits, kind-digits, length-digits        of the header's three bytes
 --     benches-digits, p-digits, q-digits, target-digits, headSpare-digits    of the head's seven bytes
 --     minutes-digits, allowed-digits, jobSpare-digits    of the job's first eight bytes and its last three
+--     head-digits, job-digits     the whole head, the whole job
 use Prim.Native.Nat.{ℕ, _+_, _*_, _/_, _%_}
 use mathlib.Core.Path.{_≡_, sym, ap, _∙_}
 use mathlib.Core.List.{List}
@@ -11,7 +12,9 @@ use lib.Dec.{lit≤}
 use Rattle.bits.specs.Bits.{Bytes, bits, big}
 use Rattle.bits.specs.Layout.{field}
 use Rattle.bits.proofs.BitsLaws.{bits-big, bits-split, bits-drop, Bytes-drop}
-use Rattle.fields.specs.Format.{versionOf, kindOf, lengthOf, headLayout, jobLayout}
+use Rattle.fields.specs.declared.sheet.Head.{Head}
+use Rattle.fields.specs.declared.sheet.Job.{Job}
+use Rattle.fields.specs.Format.{versionOf, kindOf, lengthOf, headLayout, jobLayout, headOf, jobOf}
 
 module _ (s : List ℕ) (ok : Bytes s) where
   pub version-digits : big s 3 / 1048576 % 16 ≡ versionOf s
@@ -35,6 +38,18 @@ module _ (s : List ℕ) (ok : Bytes s) where
   pub target-digits : big s 7 / 32 % 1073741824 ≡ field headLayout 3 s
   target-digits = sym (bits-big s 7 21 30 ok (lit≤ tt))
 
+  abbrev pub headDigits : Head
+  headDigits =
+      record {
+        benches = big s 7 / 562949953421312 % 128;
+        p = big s 7 / 4398046511104 % 128;
+        q = big s 7 / 34359738368 % 128;
+        target = big s 7 / 32 % 1073741824;
+      }
+
+  pub head-digits : headDigits ≡ headOf s
+  head-digits = rw (benches-digits, p-digits, q-digits, target-digits)
+
   pub headSpare-digits : big s 7 % 32 ≡ field headLayout 4 s
   headSpare-digits = ap (λ (n : ℕ). n % 32) (sym (div-one (big s 7))) ∙ sym (bits-big s 7 51 5 ok (lit≤ tt))
 
@@ -50,6 +65,16 @@ module _ (s : List ℕ) (ok : Bytes s) where
 
   pub allowed-digits : big s 8 % 17592186044416 * 1048576 + big (drop 8 s) 3 / 16 % 1048576 ≡ field jobLayout 1 s
   allowed-digits = rw (high-allowed, low-allowed) (sym (bits-split s 20 44 20))
+
+  abbrev pub jobDigits : Job
+  jobDigits =
+      record {
+        minutes = big s 8 / 17592186044416 % 1048576;
+        allowed = big s 8 % 17592186044416 * 1048576 + big (drop 8 s) 3 / 16 % 1048576;
+      }
+
+  pub job-digits : jobDigits ≡ jobOf s
+  job-digits = rw (minutes-digits, allowed-digits)
 
   pub jobSpare-digits : big (drop 8 s) 3 % 16 ≡ field jobLayout 2 s
   jobSpare-digits =

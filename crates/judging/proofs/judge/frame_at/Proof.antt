@@ -3,7 +3,7 @@ use borrow.Author.Needs.{needs}
 use native.Mathlib.Omega.{arith}
 use mathlib.Core.Path.{_≡_}
 use denote.Ref.{now}
-use Rattle.judging.proofs.HeaderLaws.{Header, at-short, at-foreign, at-ours}
+use Rattle.judging.proofs.HeaderLaws.{at-short, at-foreign, at-ours}
 use Rattle.judging.proofs.judge.frame_at.Statement.{statement}
 use Rattle.judging.proofs.judge.frame_at.Tie as tie
 

@@ -2,7 +2,7 @@
 use native.Mathlib.Omega.{arith}
 use denote.Ref.{now}
 use Rattle.bits.specs.Bits.{Bytes}
-use Rattle.unpacking.proofs.FieldLaws.{benches-digits, p-digits, q-digits, target-digits}
+use Rattle.unpacking.proofs.FieldLaws.{head-digits}
 use borrow.Author.Needs.{needs}
 use Rattle.unpacking.proofs.header.read_head.Statement.{statement}
 use Rattle.unpacking.proofs.header.read_head.Tie as tie
@@ -14,7 +14,7 @@ returns : tie.Need-returns
 returns c =
     let s = now (c .before .before .args .body) in
     let ok : Bytes s = λ i. omega (arith, c .before .shared-slice-known .given i) in
-    rw (c .big7 .ensures .0, benches-digits s ok, p-digits s ok, q-digits s ok, target-digits s ok)
+    rw (c .big7 .ensures .0) (head-digits s ok)
 
 pub read-head-spec : {M : Type 1} → statement M
 read-head-spec = tie.close (tie.spec big7-requires returns)

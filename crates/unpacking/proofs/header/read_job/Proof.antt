@@ -2,7 +2,7 @@
 use native.Mathlib.Omega.{arith}
 use denote.Ref.{now}
 use Rattle.bits.specs.Bits.{Bytes}
-use Rattle.unpacking.proofs.FieldLaws.{minutes-digits, allowed-digits}
+use Rattle.unpacking.proofs.FieldLaws.{job-digits}
 use borrow.Author.Needs.{needs}
 use Rattle.unpacking.proofs.header.read_job.Statement.{statement}
 use Rattle.unpacking.proofs.header.read_job.Tie as tie
@@ -23,7 +23,7 @@ returns : tie.Need-returns
 returns c =
     let s = now (c .before .before .before .args .body) in
     let ok : Bytes s = λ i. omega (arith, c .before .before .shared-slice-known .given i) in
-    rw (c .before .big8 .ensures, c .job-back .ensures .0, minutes-digits s ok, allowed-digits s ok)
+    rw (c .before .big8 .ensures, c .job-back .ensures .0) (job-digits s ok)
 
 pub read-job-spec : {M : Type 1} → statement M
 read-job-spec = tie.close (tie.spec big8-requires job-back-requires mul-t7 add-t10 returns)
