@@ -2,6 +2,7 @@
 --     named-set           the set of a none, as a number
 --     planner-claim       the claim holds of the answer to any bytes and any two tables, and of the tables after it
 --     equations-claim     so it holds of whatever is equal to these three: the three equations are what the planner's contract ensures
+--     answered-room       who gets one of the three answers had an accepted sheet and tables with room
 use Prim.Native.Nat.{ℕ, _≤_, _<_}
 use mathlib.Core.Path.{_≡_, refl, sym, ap, subst, _∙_}
 use mathlib.Core.Logic.{_⊎_, inl, inr}
@@ -254,3 +255,16 @@ module _ (s places loads : List ℕ) where
   pub equations-claim : (r : Given) (places′ loads′ : List ℕ) → r ≡ given answer → places′ ≡ placesAfter answer places → loads′ ≡ loadsAfter answer loads
       → PlannerClaim s places loads r places′ loads′
   equations-claim r places′ loads′ er ep el = rw (er, ep, el) planner-claim
+
+pub no-fault : {r : Given} {f : Fault} → OneOfThree r → r ≡ Faulty f → ⊥
+no-fault (a-plan largest moves) e = clash {b = true} refl cc
+no-fault (a-long j) e = clash {b = true} refl cc
+no-fault (a-none set moves) e = clash {b = true} refl cc
+
+pub answered-room : {s places loads : List ℕ} {r : Given} {places′ loads′ : List ℕ} → PlannerClaim s places loads r places′ loads′
+    → OneOfThree r → CanAnswer s places loads
+answered-room claim three = elim (claim .one-case .some) [
+  | inl (f, e) ↦ absurd (no-fault three (claim .sheet-refused f e .0))
+  | inr (inl (h, js, e, short)) ↦ absurd (no-fault three (claim .tables-short h js e short .0))
+  | inr (inr can) ↦ can
+]

@@ -2,6 +2,7 @@
 -- once with tables of exactly the needed size.
 --     read-8              its sheet is accepted
 --     run-8               the run's answer to it
+--     answer-8            the planner's, with any tables that are large enough
 --     answerable-8        the tables are large enough
 --     planned-8           the answer
 --     places-8, loads-8   both tables after it
@@ -49,10 +50,10 @@ abbrev pub sheet8 : List ℕ
 sheet8 = sheetBytes head8 jobs8
 
 -- Five places and three loads, one of each more than needed.
-abbrev places : List ℕ
+abbrev pub places : List ℕ
 places = 9 ∷ 9 ∷ 9 ∷ 9 ∷ 9 ∷ []
 
-abbrev loads : List ℕ
+abbrev pub loads : List ℕ
 loads = 9 ∷ 9 ∷ 9 ∷ []
 
 taken : writerVerdict head8 jobs8 ≡ Accepted
@@ -76,25 +77,25 @@ pub run-8 : answerTo (dayOf head8 jobs8) ≡ plan 6 1 (1 ∷ 0 ∷ 0 ∷ 0 ∷ [
 unfolding isSet grow closure reach lowest highest longJob rockLoad inner outer conflictSet construct activate openRound rounds explore follow settleFrom crowdedBench oneCycle peel start ownMinutes answerAt turns run members
 run-8 = refl
 
-answer8 : (np nl : ℕ) → shortTables head8 jobs8 np nl ≡ false → answerFor sheet8 np nl ≡ plan 6 1 (1 ∷ 0 ∷ 0 ∷ 0 ∷ []) (6 ∷ 2 ∷ [])
+pub answer-8 : (np nl : ℕ) → shortTables head8 jobs8 np nl ≡ false → answerFor sheet8 np nl ≡ plan 6 1 (1 ∷ 0 ∷ 0 ∷ 0 ∷ []) (6 ∷ 2 ∷ [])
 unfolding answerFor
-answer8 np nl enough = rw (read-8, enough, answerFor) run-8
+answer-8 np nl enough = rw (read-8, enough, answerFor) run-8
 
 pub planned-8 : given (answerFor sheet8 (length places) (length loads)) ≡ Plan 6 1
-planned-8 = ap given (answer8 5 3 refl)
+planned-8 = ap given (answer-8 5 3 refl)
 
 pub places-8 : placesAfter (answerFor sheet8 (length places) (length loads)) places ≡ 1 ∷ 0 ∷ 0 ∷ 0 ∷ 9 ∷ []
-places-8 = ap (λ (a : Answer). placesAfter a places) (answer8 5 3 refl)
+places-8 = ap (λ (a : Answer). placesAfter a places) (answer-8 5 3 refl)
 
 pub loads-8 : loadsAfter (answerFor sheet8 (length places) (length loads)) loads ≡ 6 ∷ 2 ∷ 9 ∷ []
-loads-8 = ap (λ (a : Answer). loadsAfter a loads) (answer8 5 3 refl)
+loads-8 = ap (λ (a : Answer). loadsAfter a loads) (answer-8 5 3 refl)
 
 -- ── tables of exactly the needed size ──
 
-abbrev exactPlaces : List ℕ
+abbrev pub exactPlaces : List ℕ
 exactPlaces = 9 ∷ 9 ∷ 9 ∷ 9 ∷ []
 
-abbrev exactLoads : List ℕ
+abbrev pub exactLoads : List ℕ
 exactLoads = 9 ∷ 9 ∷ []
 
 pub answerable-exact : Answerable sheet8 exactPlaces exactLoads head8 jobs8
@@ -103,7 +104,7 @@ answerable-exact = record { sheet-accepted = read-8; place-to-a-job = omega arit
 pub called-exact : {r : Given} {places′ loads′ : List ℕ} → Answered (answerFor sheet8 4 2) r exactPlaces exactLoads places′ loads′
     → (r ≡ Plan 6 1) × (places′ ≡ 1 ∷ 0 ∷ 0 ∷ 0 ∷ []) × (loads′ ≡ 6 ∷ 2 ∷ [])
 called-exact called =
-    let answered = answer8 4 2 refl in (
+    let answered = answer-8 4 2 refl in (
       called .answer ∙ ap given answered,
       called .new-places ∙ ap (λ (a : Answer). placesAfter a exactPlaces) answered,
       called .new-loads ∙ ap (λ (a : Answer). loadsAfter a exactLoads) answered,

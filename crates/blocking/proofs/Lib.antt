@@ -18,3 +18,4 @@ pub mod SetLaws
 pub mod Theorems
 pub mod Claim
 pub mod ClaimExamples
+pub mod ClaimRefusals

@@ -2,6 +2,7 @@
 --     one-case              every call is one of three, and no call is two of them
 --     door-claim            the claim holds of what a call returns and leaves in the three tables
 --     with-claim            the equation, and the claim with it
+--     answered-room         who gets the word 1, 2 or 3 had an accepted sheet and tables with room
 use Prim.Native.Nat.{ℕ, _*_, _<_}
 use native.Mathlib.Omega.{arith}
 use mathlib.Core.Path.{_≡_, refl, sym, ap, subst, _∙_}
@@ -30,6 +31,7 @@ use Rattle.blocking.proofs.Claim.{named-set}
 use Rattle.blocking.proofs.Theorems.{whole-claim}
 use Rattle.tables.specs.Tables.{entryOf, roomOf, putNumbers}
 use Rattle.tables.specs.Words.{faultWord}
+use Rattle.tables.proofs.WordLaws.{fault-word-large}
 use Rattle.tables.proofs.EntryLaws.{entry-put, later-kept}
 use Rattle.tables.proofs.NumberSteps.{length-putNumbers, put-nothing}
 use Rattle.door.specs.DoorClaim.{NoRoomFor, TablesShort, RoomFor, CanAnswer, AllKept, PlanInBytes, DoorClaim}
@@ -253,3 +255,14 @@ module _ (s places loads numbers : List ℕ) where
   pub with-claim : {r : ℕ} {places′ loads′ numbers′ : List ℕ} → Called answer r places loads numbers places′ loads′ numbers′
       → Called answer r places loads numbers places′ loads′ numbers′ × DoorClaim s places loads numbers r places′ loads′ numbers′
   with-claim called = (called, door-claim called)
+
+-- The word of a fault is none of the three.
+pub answered-room : {s places loads numbers : List ℕ} {r : ℕ} {places′ loads′ numbers′ : List ℕ}
+    → DoorClaim s places loads numbers r places′ loads′ numbers′ → (r ≡ 1) ⊎ ((r ≡ 2) ⊎ (r ≡ 3)) → CanAnswer s places loads numbers
+answered-room {r = r} claim word =
+    let small : r < 4 = elim word [ inl e ↦ omega arith | inr (inl e) ↦ omega arith | inr (inr e) ↦ omega arith ] in
+    elim (claim .one-case .some) [
+      | inl (f, e) ↦ absurd (omega (arith, claim .sheet-refused f e .0, fault-word-large f))
+      | inr (inl (h, js, e, short)) ↦ absurd (omega (arith, claim .tables-short h js e short .0, fault-word-large (Table 0)))
+      | inr (inr can) ↦ can
+    ]

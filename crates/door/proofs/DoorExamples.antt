@@ -1,6 +1,7 @@
 -- Example 8 of document 01 through the C door, from the bytes of its sheet to the word and the bytes of the three tables: places for 4 jobs,
 -- loads for 2 benches, two numbers, so that each table has exactly the needed size.
 --     room-exact          these tables are large enough
+--     answer-8            the answer to it
 --     called-exact        what a call returns, and every byte that it leaves in the tables
 --     numbers-short       with one byte less for the answer the call is fault 13, and changes nothing
 use Prim.Native.Nat.{ℕ}
@@ -22,11 +23,11 @@ use Rattle.door.proofs.AnswerLaws.{door-read}
 use Rattle.door.proofs.DoorDemand.{door-claim}
 
 -- Bytes before the call.
-abbrev filled : ℕ → List ℕ
+abbrev pub filled : ℕ → List ℕ
 filled n = replicate n 165
 
 -- The numbers 1, 0, 0, 0 and the loads 6 and 2, eight bytes each, the lowest first; largest load 6, 1 move.
-abbrev placesBytes : List ℕ
+abbrev pub placesBytes : List ℕ
 placesBytes =
     1 ∷ 0 ∷ 0 ∷ 0 ∷ 0 ∷ 0 ∷ 0 ∷ 0
     ∷ 0 ∷ 0 ∷ 0 ∷ 0 ∷ 0 ∷ 0 ∷ 0 ∷ 0
@@ -34,13 +35,13 @@ placesBytes =
     ∷ 0 ∷ 0 ∷ 0 ∷ 0 ∷ 0 ∷ 0 ∷ 0 ∷ 0
     ∷ []
 
-abbrev loadsBytes : List ℕ
+abbrev pub loadsBytes : List ℕ
 loadsBytes =
     6 ∷ 0 ∷ 0 ∷ 0 ∷ 0 ∷ 0 ∷ 0 ∷ 0
     ∷ 2 ∷ 0 ∷ 0 ∷ 0 ∷ 0 ∷ 0 ∷ 0 ∷ 0
     ∷ []
 
-abbrev numbersBytes : List ℕ
+abbrev pub numbersBytes : List ℕ
 numbersBytes =
     6 ∷ 0 ∷ 0 ∷ 0 ∷ 0 ∷ 0 ∷ 0 ∷ 0
     ∷ 1 ∷ 0 ∷ 0 ∷ 0 ∷ 0 ∷ 0 ∷ 0 ∷ 0
@@ -49,18 +50,18 @@ numbersBytes =
 pub room-exact : RoomFor sheet8 (filled 32) (filled 16) (filled 16) head8 jobs8
 room-exact = record { sheet-accepted = read-8; place-to-a-job = omega arith; load-to-a-bench = omega arith; two-numbers = omega arith }
 
-answer8 : doorAnswer sheet8 4 2 2 ≡ plan 6 1 (1 ∷ 0 ∷ 0 ∷ 0 ∷ []) (6 ∷ 2 ∷ [])
-answer8 = door-read sheet8 4 2 2 head8 jobs8 read-8 ∙ run-8
+pub answer-8 : doorAnswer sheet8 4 2 2 ≡ plan 6 1 (1 ∷ 0 ∷ 0 ∷ 0 ∷ []) (6 ∷ 2 ∷ [])
+answer-8 = door-read sheet8 4 2 2 head8 jobs8 read-8 ∙ run-8
 
 pub called-exact : {r : ℕ} {places′ loads′ numbers′ : List ℕ}
     → Called (doorAnswer sheet8 4 2 2) r (filled 32) (filled 16) (filled 16) places′ loads′ numbers′
     → (r ≡ 1) × (places′ ≡ placesBytes) × (loads′ ≡ loadsBytes) × (numbers′ ≡ numbersBytes)
 unfolding putNumbers littleOf littleAll
 called-exact called = (
-  called .word ∙ ap planWord answer8,
-  called .new-places ∙ ap (λ (a : Answer). putNumbers (placesIn a) (filled 32)) answer8,
-  called .new-loads ∙ ap (λ (a : Answer). putNumbers (loadsIn a) (filled 16)) answer8,
-  called .new-numbers ∙ ap (λ (a : Answer). putNumbers (answerNumbers a) (filled 16)) answer8,
+  called .word ∙ ap planWord answer-8,
+  called .new-places ∙ ap (λ (a : Answer). putNumbers (placesIn a) (filled 32)) answer-8,
+  called .new-loads ∙ ap (λ (a : Answer). putNumbers (loadsIn a) (filled 16)) answer-8,
+  called .new-numbers ∙ ap (λ (a : Answer). putNumbers (answerNumbers a) (filled 16)) answer-8,
 )
 
 pub numbers-short : {r : ℕ} {places′ loads′ numbers′ : List ℕ}

@@ -1,5 +1,6 @@
 pub mod AnswerLaws
 pub mod DoorDemand
 pub mod DoorExamples
+pub mod DoorRefusals
 pub mod PlanLaws
 pub mod WordLaws

@@ -1,0 +1,228 @@
+-- Wrong answers that the claim refuses, each by one of its fields: so none of them can lose its meaning unnoticed.
+-- Example 8 of document 01 (two benches, four jobs of 2 on both, T = 4), with tables of exactly the needed size:
+--     right-claimed           the right answer is claimed
+--     load-not-its-own        a load that is not that of the places
+--     largest-too-small, largest-too-large    a largest load that is not the greatest of them
+--     load-above-bound        every job on its lowest bench: loads 8 and 0
+--     bench-lacking           a bench that the head lacks
+--     too-many-moves          9 moves; 2 benches × 4 light jobs are 8
+--     tables-untouched        a plan that is not in the tables
+--     table-grown             a table with an entry more
+--     long-for-none-long, none-for-a-rival, fault-for-an-answer   another answer; two-each is the rival's assignment
+-- The same with longer tables:
+--     later-place-changed, later-load-changed     an entry behind the plan's
+-- One bench, T = 4, jobs of 5 and 6 on it:
+--     only-long               no answer but long is claimed
+--     second-long-named       long with job 1
+--     plan-with-a-long-job, none-with-a-long-job      another answer
+--     long-changes-a-table    long, and a table changed
+-- Two benches, three jobs of 5 on both, T = 8 (example 4):
+--     set-of-no-bench, set-past-the-head      none with the empty set, none with bench 2
+-- Other calls:
+--     empty-sheet-planned     the empty sheet, planned
+--     short-table-planned     three places for four jobs, planned
+use Prim.Native.Nat.{ℕ, zero, suc, _*_, _/_, _^_, _≤_, _<_}
+use mathlib.Core.Path.{_≡_, refl, sym, ap}
+use mathlib.Core.Logic.{inl, inr}
+use mathlib.Core.Bool.{true, false}
+use mathlib.Core.List.{List, [], _∷_}
+use native.Mathlib.Omega.{arith}
+use lib.ListN.{length, getD}
+use Rattle.bools.proofs.BoolLaws.{clash}
+use Rattle.bits.specs.Bits.{isSet}
+use Rattle.fields.specs.declared.fault.Fault.{Fault}
+use Rattle.fields.specs.declared.fault.Fault.the-variants.{Truncated, Table}
+use Rattle.fields.specs.declared.fault.Verdict.the-variants.{Accepted}
+use Rattle.fields.specs.declared.sheet.Head.{Head}
+use Rattle.fields.specs.declared.sheet.Job.{Job}
+use Rattle.fields.specs.Format.{sheetBytes}
+use Rattle.fields.specs.Tests.{jobAt, hyperEdgeVerdict}
+use Rattle.frame.specs.Reading.{accepted, refused, readFrom, readSheet}
+use Rattle.frame.specs.Writing.{jobsVerdict, writerVerdict}
+use Rattle.frame.proofs.RoundTrip.{write-read}
+use Rattle.demand.specs.SmallSheets.{bay, first, both}
+use Rattle.demand.specs.Demand.{Assignment, allowed, keepsTarget, LongJob}
+use Rattle.algorithm.specs.Answer.{Answer}
+use Rattle.planning.specs.declared.answer.Answer.{Answer as Given}
+use Rattle.planning.specs.declared.answer.Answer.the-variants.{Plan, Long, None, Fault as Faulty}
+use Rattle.planning.specs.Planner.{given, placesAfter, loadsAfter}
+use Rattle.blocking.specs.Claim.{Answerable, PlannerClaim}
+use Rattle.blocking.proofs.Claim.{equations-claim, no-fault}
+use Rattle.blocking.proofs.ClaimExamples.{head8, jobs8, sheet8, read-8, answer-8, exactPlaces, exactLoads, answerable-exact, places, loads, answerable-8}
+
+-- ── example 8 ──
+
+abbrev Claimed : Given → List ℕ → List ℕ → Type 0
+Claimed r places′ loads′ = PlannerClaim sheet8 exactPlaces exactLoads r places′ loads′
+
+abbrev rightPlaces : List ℕ
+rightPlaces = 1 ∷ 0 ∷ 0 ∷ 0 ∷ []
+
+abbrev rightLoads : List ℕ
+rightLoads = 6 ∷ 2 ∷ []
+
+pub right-claimed : Claimed (Plan 6 1) rightPlaces rightLoads
+right-claimed =
+    let answered = answer-8 4 2 refl in
+    equations-claim sheet8 exactPlaces exactLoads (Plan 6 1) rightPlaces rightLoads
+    (sym (ap given answered)) (sym (ap (λ (a : Answer). placesAfter a exactPlaces) answered)) (sym (ap (λ (a : Answer). loadsAfter a exactLoads) answered))
+
+pub load-not-its-own : Claimed (Plan 6 1) rightPlaces (6 ∷ 3 ∷ []) → ⊥
+load-not-its-own c = omega (arith, c .plan-right head8 jobs8 answerable-exact 6 1 refl .its-loads 1 (omega arith))
+
+pub largest-too-small : Claimed (Plan 5 1) rightPlaces rightLoads → ⊥
+largest-too-small c = omega (arith, c .plan-right head8 jobs8 answerable-exact 5 1 refl .greatest 0 (omega arith))
+
+pub largest-too-large : Claimed (Plan 7 1) rightPlaces rightLoads → ⊥
+largest-too-large c = let (v, l, e) = c .plan-right head8 jobs8 answerable-exact 7 1 refl .one-of-them in omega (arith, e, at-most v l)
+  where
+    at-most : (v : ℕ) → v < 2 → getD rightLoads v 0 ≤ 6
+    at-most zero l = omega arith
+    at-most (suc zero) l = omega arith
+    at-most (suc (suc v)) l = absurd (omega arith)
+
+pub load-above-bound : Claimed (Plan 8 0) (0 ∷ 0 ∷ 0 ∷ 0 ∷ []) (8 ∷ 0 ∷ []) → ⊥
+load-above-bound c = clash (c .plan-right head8 jobs8 answerable-exact 8 0 refl .within-bound 0 (omega arith)) refl
+
+pub bench-lacking : Claimed (Plan 4 0) (0 ∷ 0 ∷ 2 ∷ 2 ∷ []) (4 ∷ 0 ∷ []) → ⊥
+unfolding isSet
+bench-lacking c = clash (c .plan-right head8 jobs8 answerable-exact 4 0 refl .assignment .on-allowed 2 (omega arith)) refl
+
+pub too-many-moves : Claimed (Plan 6 9) rightPlaces rightLoads → ⊥
+unfolding isSet
+too-many-moves c = omega (arith, c .plan-right head8 jobs8 answerable-exact 6 9 refl .few-moves)
+
+pub tables-untouched : Claimed (Plan 6 1) exactPlaces exactLoads → ⊥
+unfolding isSet
+tables-untouched c = clash (c .plan-right head8 jobs8 answerable-exact 6 1 refl .assignment .on-allowed 0 (omega arith)) refl
+
+pub table-grown : Claimed (Plan 6 1) rightPlaces (6 ∷ 2 ∷ 9 ∷ []) → ⊥
+table-grown c = omega (arith, c .plan-right head8 jobs8 answerable-exact 6 1 refl .as-many-loads)
+
+pub long-for-none-long : Claimed (Long 0) exactPlaces exactLoads → ⊥
+long-for-none-long c = clash (c .long-right head8 jobs8 answerable-exact 0 refl .0 .is-long .longer) refl
+
+-- Two jobs on each bench keep every bench within 4.
+pub two-each : Assignment head8 jobs8 (λ j. j / 2) × (keepsTarget head8 jobs8 (λ j. j / 2) ≡ true)
+unfolding isSet
+two-each = (record { on-allowed = on-both }, refl)
+  where
+    on-both : (j : ℕ) → j < 4 → allowed head8 jobs8 j (j / 2) ≡ true
+    on-both zero l = refl
+    on-both (suc zero) l = refl
+    on-both (suc (suc zero)) l = refl
+    on-both (suc (suc (suc zero))) l = refl
+    on-both (suc (suc (suc (suc j)))) l = absurd (omega arith)
+
+pub none-for-a-rival : (set moves : ℕ) → Claimed (None set moves) exactPlaces exactLoads → ⊥
+none-for-a-rival set moves c =
+    let (largest, m, e) = c .rival-planned head8 jobs8 answerable-exact (λ j. j / 2) (two-each .0) (two-each .1) in
+    clash {b = true} refl cc
+
+pub fault-for-an-answer : (f : Fault) → Claimed (Faulty f) exactPlaces exactLoads → ⊥
+fault-for-an-answer f c = no-fault (c .one-of-three head8 jobs8 answerable-exact) refl
+
+-- ── longer tables ──
+
+abbrev ClaimedLonger : List ℕ → List ℕ → Type 0
+ClaimedLonger places′ loads′ = PlannerClaim sheet8 places loads (Plan 6 1) places′ loads′
+
+pub later-place-changed : ClaimedLonger (1 ∷ 0 ∷ 0 ∷ 0 ∷ 8 ∷ []) (6 ∷ 2 ∷ 9 ∷ []) → ⊥
+later-place-changed c = omega (arith, ap (λ (xs : List ℕ). getD xs 0 0) (c .plan-right head8 jobs8 answerable-8 6 1 refl .later-places-kept))
+
+pub later-load-changed : ClaimedLonger (1 ∷ 0 ∷ 0 ∷ 0 ∷ 9 ∷ []) (6 ∷ 2 ∷ 8 ∷ []) → ⊥
+later-load-changed c = omega (arith, ap (λ (xs : List ℕ). getD xs 0 0) (c .plan-right head8 jobs8 answerable-8 6 1 refl .later-loads-kept))
+
+-- ── two long jobs ──
+
+abbrev longHead : Head
+longHead = bay 1 4 7 4
+
+abbrev longJobs : List Job
+longJobs = first 5 ∷ first 6 ∷ []
+
+abbrev longSheet : List ℕ
+longSheet = sheetBytes longHead longJobs
+
+long-taken : writerVerdict longHead longJobs ≡ Accepted
+unfolding isSet hyperEdgeVerdict jobsVerdict writerVerdict
+long-taken = refl
+
+long-fits : (i : ℕ) → i < length longJobs → jobAt longJobs i .allowed < 2 ^ 64
+long-fits zero h = omega arith
+long-fits (suc zero) h = omega arith
+long-fits (suc (suc i)) h = absurd (omega arith)
+
+long-read : readSheet longSheet ≡ accepted longHead longJobs
+long-read = write-read longHead longJobs long-taken long-fits
+
+abbrev ClaimedLong : Given → List ℕ → List ℕ → Type 0
+ClaimedLong r places′ loads′ = PlannerClaim longSheet exactLoads (9 ∷ []) r places′ loads′
+
+long-answerable : Answerable longSheet exactLoads (9 ∷ []) longHead longJobs
+long-answerable = record { sheet-accepted = long-read; place-to-a-job = omega arith; load-to-a-bench = omega arith }
+
+pub second-long-named : ClaimedLong (Long 1) exactLoads (9 ∷ []) → ⊥
+second-long-named c = omega (arith, c .long-right longHead longJobs long-answerable 1 refl .0 .lowest 0 (omega arith))
+
+pub plan-with-a-long-job : (largest moves : ℕ) (places′ loads′ : List ℕ) → ClaimedLong (Plan largest moves) places′ loads′ → ⊥
+plan-with-a-long-job largest moves places′ loads′ c = omega (arith, c .plan-fits longHead longJobs long-answerable largest moves refl 0 (omega arith))
+
+pub none-with-a-long-job : (set moves : ℕ) (places′ loads′ : List ℕ) → ClaimedLong (None set moves) places′ loads′ → ⊥
+none-with-a-long-job set moves places′ loads′ c = omega (arith, c .none-fits longHead longJobs long-answerable set moves refl 0 (omega arith))
+
+pub only-long : (r : Given) (places′ loads′ : List ℕ) → ClaimedLong r places′ loads′ → (i : ℕ) × (r ≡ Long i)
+only-long r places′ loads′ c = c .long-given longHead longJobs long-answerable 1 (record { is-job = omega arith; longer = refl })
+
+pub long-changes-a-table : ClaimedLong (Long 0) exactLoads (8 ∷ []) → ⊥
+long-changes-a-table c = omega (arith, ap (λ (xs : List ℕ). getD xs 0 0) (c .long-right longHead longJobs long-answerable 0 refl .1 .same-loads))
+
+-- ── sets that a none may not name ──
+
+abbrev fullHead : Head
+fullHead = bay 2 4 7 8
+
+abbrev fullJobs : List Job
+fullJobs = both 5 ∷ both 5 ∷ both 5 ∷ []
+
+abbrev fullSheet : List ℕ
+fullSheet = sheetBytes fullHead fullJobs
+
+full-taken : writerVerdict fullHead fullJobs ≡ Accepted
+unfolding isSet hyperEdgeVerdict jobsVerdict writerVerdict
+full-taken = refl
+
+full-fits : (i : ℕ) → i < length fullJobs → jobAt fullJobs i .allowed < 2 ^ 64
+full-fits zero h = omega arith
+full-fits (suc zero) h = omega arith
+full-fits (suc (suc zero)) h = omega arith
+full-fits (suc (suc (suc i))) h = absurd (omega arith)
+
+full-read : readSheet fullSheet ≡ accepted fullHead fullJobs
+full-read = write-read fullHead fullJobs full-taken full-fits
+
+abbrev ClaimedNone : ℕ → Type 0
+ClaimedNone set = PlannerClaim fullSheet exactPlaces exactLoads (None set 0) exactPlaces exactLoads
+
+full-answerable : Answerable fullSheet exactPlaces exactLoads fullHead fullJobs
+full-answerable = record { sheet-accepted = full-read; place-to-a-job = omega arith; load-to-a-bench = omega arith }
+
+pub set-of-no-bench : ClaimedNone 0 → ⊥
+unfolding isSet
+set-of-no-bench c = omega (arith, c .none-right fullHead fullJobs full-answerable 0 0 refl .0 .blocking .some-bench)
+
+-- Bench 2 is the bit of weight 2 ^ 61.
+pub set-past-the-head : ClaimedNone (2 ^ 61) → ⊥
+unfolding isSet
+set-past-the-head c = omega (arith, c .none-right fullHead fullJobs full-answerable (2 ^ 61) 0 refl .0 .of-the-head 2 refl)
+
+-- ── other calls ──
+
+pub empty-sheet-planned : (largest moves : ℕ) (places′ loads′ : List ℕ) → PlannerClaim [] exactPlaces exactLoads (Plan largest moves) places′ loads′ → ⊥
+unfolding readSheet readFrom
+empty-sheet-planned largest moves places′ loads′ c = let e = c .sheet-refused (Truncated 0) refl .0 in clash {b = true} refl cc
+
+pub short-table-planned : (largest moves : ℕ) (places′ loads′ : List ℕ)
+    → PlannerClaim sheet8 (9 ∷ 9 ∷ 9 ∷ []) exactLoads (Plan largest moves) places′ loads′ → ⊥
+short-table-planned largest moves places′ loads′ c =
+    let e = c .tables-short head8 jobs8 read-8 (inl (omega arith)) .0 in clash {b = true} refl cc
