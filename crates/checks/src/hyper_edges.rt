@@ -3,10 +3,10 @@ use fields::Fault;
 use fields::Head;
 use fields::Verdict;
 ghost use mathlib.Core.Path.{_≡_};
-ghost use Prim.Native.Nat.{ℕ, _<_, _^_};
 ghost use lib.ListN.{getD};
 ghost use Rattle.sums.specs.Sum.{largest};
-ghost use Rattle.fields.specs.Tests.{jobTable, hyperEdgeVerdict};
+ghost use Rattle.fields.specs.Tests.{jobTable};
+ghost use Rattle.checks.specs.HyperEdgeCheck.{hyperEdgesChecked};
 
 // Entry n of a table, and 0 past its end.
 pub fn entry(t: &[u64], n: usize) -> u64
@@ -38,10 +38,7 @@ pub fn check_hyper_edges<'a>(
     minutes: &'a [u64],
     allowed: &'a [u64],
 ) -> Verdict
-    ensures { λ r. ⌜
-        ((h .p < 128) × (h .q < 128) × ((n : ℕ) → n < count → getD (now (minutes .entry)) n 0 < 2 ^ 20)
-        → r ≡ hyperEdgeVerdict h (jobTable count (now (minutes .entry)) (now (allowed .entry))))
-        ⌝ }
+    ensures { λ r. ⌜ r ≡ hyperEdgesChecked h (jobTable count (now (minutes .entry)) (now (allowed .entry))) ⌝ }
 {
     let w = longest(count, minutes);
     if 128 <= h.p {

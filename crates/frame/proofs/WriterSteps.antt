@@ -36,6 +36,7 @@ use Rattle.fields.specs.Tests.{firstFault, headFaults, jobFaults, noJob, jobAt,
 use Rattle.frame.specs.Writing.{jobsVerdict, writerVerdict, fitted, writeSheet}
 use Rattle.frame.specs.Sound.{SoundSheet}
 pub use Rattle.packing.proofs.PutLaws.{written, written-after}
+use Rattle.packing.proofs.PutLaws.{NarrowHead}
 use Rattle.fields.proofs.FormatLaws.{length-headFrame, length-jobFrames, length-sheetBytes, jobFrames-append}
 use Rattle.frame.proofs.WriterLaws.{head-sound, jobsVerdict-sound, writerVerdict-sound, jobsVerdict-drop, jobsVerdict-fault, jobsVerdict-over}
 
@@ -161,7 +162,7 @@ module _ (h : Head) (n : ℕ) (ms bs : List ℕ) {v : Verdict} (e : v ≡ writer
   sound : SoundSheet h (jobTable n ms bs)
   sound = writerVerdict-sound h (jobTable n ms bs) (sym e ∙ a)
 
-  pub head-ready : (h .benches < 128) × (h .p < 128) × (h .q < 128) × (h .target < 2 ^ 30)
+  pub head-ready : NarrowHead h
   head-ready = omega (arith, sound .head)
 
   pub few-jobs : n ≤ 512

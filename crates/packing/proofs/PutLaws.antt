@@ -2,12 +2,17 @@
 --     written out at s end    out with its bytes from at up to end replaced by s
 --     written-after           a second write where the first one ends: the two are one write of both strings
 --     put-byte, put-all       a turn of the loop that puts the k bytes of v stores the next of them; after k turns they all stand there
+--     framePut-room, framePut-none    a frame put where there is room for it, and where there is none
+--     NarrowHead h            each number of the head h fits its field
+--     cutHead-fits, cutJob-fits       numbers that fit their fields are not cut
+--     head-fits, job-fits, end-fits   a frame of numbers that fit, put where there is room
+--     head-none, job-none, end-none   the output is too short: nothing is put
 --     head-put                a header and a head's body, put one behind the other, are the head's frame
 --     job-put                 a header and the two parts of a job's body are the job's frame
 --     high-fits               the first eight bytes of a job's body are a number below 2 ^ 64
 --     end-put                 a header is the end's frame
 use Prim.Native.Nat.{ℕ, _+_, _-_, _*_, _/_, _%_, _^_, _≤_, _<_}
-use native.Mathlib.Nat.{add-sub-of-le, mod-lt}
+use native.Mathlib.Nat.{add-sub-of-le, mod-eq-of-lt}
 use native.Mathlib.Numerals.{add-one}
 use native.Mathlib.Omega.{arith}
 use mathlib.Core.Path.{_≡_, sym, ap, _∙_}
@@ -15,6 +20,7 @@ use mathlib.Core.List.{List, [], _∷_, _++_, append-assoc, append-nil}
 use lib.ListN.{length, take, drop, set, length-append}
 use lib.Seq.{length-take-le, take-all, take-at, drop-at, drop-drop, paste, paste-suc}
 use lib.Dec.{lit≤}
+use borrow.Author.Tests.{le-leb, lt-leb}
 use Rattle.bits.specs.Bits.{bytesOf}
 use Rattle.bits.specs.Layout.{joined}
 use Rattle.bits.proofs.BitsLaws.{pow-256}
@@ -23,6 +29,8 @@ use Rattle.fields.specs.declared.sheet.Head.{Head}
 use Rattle.fields.specs.declared.sheet.Job.{Job}
 use Rattle.fields.specs.Format.{ours, headKind, jobKind, endKind, headerLayout, headLayout, jobLayout, headFrame, jobFrame, endFrame}
 use Rattle.fields.proofs.FormatLaws.{headValues, jobValues, endBody-empty, length-headBody, length-jobBody}
+use Rattle.fields.proofs.FormatLaws.{length-headFrame, length-jobFrame, length-endFrame}
+use Rattle.packing.specs.Packing.{cutHead, cutJob, framePut}
 
 -- ── two writes, one behind the other ──
 
@@ -55,38 +63,81 @@ put-byte out at k v i l h =
 pub put-all : (out : List ℕ) (at k v i : ℕ) → i ≡ k → paste out at (bytesOf k v) i ≡ written out at (bytesOf k v) (at + k)
 put-all out at k v i e = rw (e, take-all k (bytesOf k v) (omega (arith, length-bytesOf k v)))
 
+-- ── a frame where there is room, and where there is none ──
+
+module _ (frame : List ℕ) (at : ℕ) (out : List ℕ) (end : ℕ) (ends : at + length frame ≡ end) where
+  pub framePut-room : end ≤ length out → framePut frame at out ≡ written out at frame end
+  unfolding framePut
+  framePut-room l = rw (ends, le-leb end (length out) l)
+
+  pub framePut-none : length out < end → out ≡ framePut frame at out
+  unfolding framePut
+  framePut-none l = rw (ends, lt-leb end (length out) l)
+
+-- ── numbers that fit ──
+
+abbrev pub NarrowHead : Head → Type 0
+NarrowHead h = (h .benches < 128) × (h .p < 128) × (h .q < 128) × (h .target < 2 ^ 30)
+
+pub cutHead-fits : (h : Head) → NarrowHead h → cutHead h ≡ h
+cutHead-fits h (b, p, q, t) = rw (mod-eq-of-lt b, mod-eq-of-lt p, mod-eq-of-lt q, mod-eq-of-lt t)
+
+pub cutJob-fits : (j : Job) → j .minutes < 2 ^ 20 → cutJob j ≡ j
+cutJob-fits j m = rw (mod-eq-of-lt m)
+
+pub head-fits : (h : Head) (out : List ℕ) → NarrowHead h → 10 ≤ length out
+    → framePut (headFrame (cutHead h)) 0 out ≡ headFrame h ++ drop 10 out
+head-fits h out narrow l =
+    ap (λ (k : Head). framePut (headFrame k) 0 out) (cutHead-fits h narrow)
+    ∙ framePut-room (headFrame h) 0 out 10 (omega (arith, length-headFrame h)) l
+
+pub job-fits : (j : Job) (at : ℕ) (out : List ℕ) → j .minutes < 2 ^ 20 → at + 14 ≤ length out
+    → framePut (jobFrame (cutJob j)) at out ≡ written out at (jobFrame j) (at + 14)
+job-fits j at out m l =
+    ap (λ (k : Job). framePut (jobFrame k) at out) (cutJob-fits j m)
+    ∙ framePut-room (jobFrame j) at out (at + 14) (omega (arith, length-jobFrame j)) l
+
+pub end-fits : (at : ℕ) (out : List ℕ) → at + 3 ≤ length out
+    → framePut endFrame at out ≡ written out at endFrame (at + 3)
+end-fits at out l = framePut-room endFrame at out (at + 3) (omega (arith, length-endFrame)) l
+
 -- ── a frame ──
 
-pub head-put : (out : List ℕ) (h : Head) {header : ℕ} {one two : List ℕ} → h .benches < 128 → h .p < 128 → h .q < 128 → h .target < 2 ^ 30
-    → 10 ≤ length out
+pub head-none : (h : Head) (out : List ℕ) → length out < 10 → out ≡ framePut (headFrame h) 0 out
+head-none h out l = framePut-none (headFrame h) 0 out 10 (omega (arith, length-headFrame h)) l
+
+pub head-put : (out : List ℕ) (h : Head) {header fields : ℕ} {one two : List ℕ} → 10 ≤ length out
+    → fields ≡ joined headLayout (headValues h)
     → header ≡ joined headerLayout (ours ∷ headKind ∷ 7 ∷ []) → one ≡ written out 0 (bytesOf 3 header) 3
-    → two ≡ written one 3 (bytesOf 7 ((((h .benches % 128 * 128 + h .p % 128) * 128 + h .q % 128) * 1073741824 + h .target % 1073741824) * 32)) 10
-    → two ≡ headFrame h ++ drop 10 out
-head-put out h {header} {two = two} narrow-benches narrow-p narrow-q narrow-target l e first second =
+    → two ≡ written one 3 (bytesOf 7 fields) 10
+    → two ≡ framePut (headFrame h) 0 out
+head-put out h {header} {fields} {two = two} l body e first second =
     let a = bytesOf 3 header in
-    let fields = (((h .benches % 128 * 128 + h .p % 128) * 128 + h .q % 128) * 1073741824 + h .target % 1073741824) * 32 in
-    let body : fields ≡ joined headLayout (headValues h) = omega arith in
     let header-end : 0 + length a ≡ 3 = omega (arith, length-bytesOf 3 header) in
     let both : two ≡ written out 0 (a ++ bytesOf 7 fields) 10 =
     second ∙ rw first (written-after out 0 a (bytesOf 7 fields) 3 10 (omega arith) header-end (lit≤ tt)) in
-    both ∙ rw (e, length-headBody h, body)
+    let whole : two ≡ written out 0 (headFrame h) 10 = both ∙ rw (e, length-headBody h, body) in
+    whole ∙ sym (framePut-room (headFrame h) 0 out 10 (omega (arith, length-headFrame h)) l)
 
 joined-fits : (x y : ℕ) → x < 1048576 → y < 17592186044416 → x * 17592186044416 + y < 2 ^ 64
 joined-fits x y hx hy = omega arith
 
-pub high-fits : (m a : ℕ) → a < 2 ^ 64 → m % 1048576 * 17592186044416 + a / 1048576 < 2 ^ 64
-high-fits m a h = joined-fits (m % 1048576) (a / 1048576) (mod-lt m (lit≤ tt)) (omega arith)
+pub high-fits : (m a : ℕ) → m < 2 ^ 20 → a < 2 ^ 64 → m * 17592186044416 + a / 1048576 < 2 ^ 64
+high-fits m a l h = joined-fits m (a / 1048576) l (omega arith)
+
+pub job-none : (j : Job) (at : ℕ) (out : List ℕ) → length out < at + 14 → out ≡ framePut (jobFrame j) at out
+job-none j at out l = framePut-none (jobFrame j) at out (at + 14) (omega (arith, length-jobFrame j)) l
 
 -- The body's eleven bytes are eight of its high part and three of its low one.
-pub job-put : (out : List ℕ) (j : Job) (at : ℕ) {header : ℕ} {one two three : List ℕ} → j .minutes < 2 ^ 20 → at + 14 ≤ length out
+pub job-put : (out : List ℕ) (j : Job) (at : ℕ) {header high low : ℕ} {one two three : List ℕ}
+    → at + 14 ≤ length out
+    → high ≡ j .minutes * 17592186044416 + j .allowed / 1048576 → low ≡ j .allowed % 1048576 * 16
     → header ≡ joined headerLayout (ours ∷ jobKind ∷ 11 ∷ []) → one ≡ written out at (bytesOf 3 header) (at + 3)
-    → two ≡ written one (at + 3) (bytesOf 8 (j .minutes % 1048576 * 17592186044416 + j .allowed / 1048576)) (at + 3 + 8)
-    → three ≡ written two (at + 11) (bytesOf 3 (j .allowed % 1048576 * 16)) (at + 11 + 3)
-    → three ≡ written out at (jobFrame j) (at + 14)
-job-put out j at {header} {two = two} {three = three} narrow l e first second third =
+    → two ≡ written one (at + 3) (bytesOf 8 high) (at + 3 + 8)
+    → three ≡ written two (at + 11) (bytesOf 3 low) (at + 11 + 3)
+    → three ≡ framePut (jobFrame j) at out
+job-put out j at {header} {high} {low} {two = two} {three = three} l is-high is-low e first second third =
     let a = bytesOf 3 header in
-    let high = j .minutes % 1048576 * 17592186044416 + j .allowed / 1048576 in
-    let low = j .allowed % 1048576 * 16 in
     let body : high * 256 ^ 3 + low ≡ joined jobLayout (jobValues j) = omega arith in
     let middle : at + 3 + 8 ≡ at + 11 = omega arith in
     let end : at + 11 + 3 ≡ at + 14 = omega arith in
@@ -96,8 +147,18 @@ job-put out j at {header} {two = two} {three = three} narrow l e first second th
     second ∙ rw (first, middle) (written-after out at a (bytesOf 8 high) (at + 3) (at + 11) (omega arith) header-end (omega arith)) in
     let all : three ≡ written out at (a ++ bytesOf 8 high ++ bytesOf 3 low) (at + 14) =
     third ∙ rw (both, end) (written-after out at (a ++ bytesOf 8 high) (bytesOf 3 low) (at + 11) (at + 14) (omega arith) high-end (omega arith)) in
-    all ∙ rw (append-assoc a (bytesOf 8 high) (bytesOf 3 low), e, length-jobBody j, ← body, bytesOf-append 8 3 high low (omega arith))
+    let whole : three ≡ written out at (jobFrame j) (at + 14) =
+    all
+    ∙ rw (append-assoc a (bytesOf 8 high) (bytesOf 3 low), e, length-jobBody j, ← body)
+    (rw (bytesOf-append 8 3 high low (omega arith))) in
+    whole ∙ sym (framePut-room (jobFrame j) at out (at + 14) (omega (arith, length-jobFrame j)) l)
 
-pub end-put : (out : List ℕ) (at : ℕ) {header : ℕ} {one : List ℕ} → header ≡ joined headerLayout (ours ∷ endKind ∷ 0 ∷ [])
-    → one ≡ written out at (bytesOf 3 header) (at + 3) → one ≡ written out at endFrame (at + 3)
-end-put out at {header} e first = first ∙ rw (e, endBody-empty, append-nil)
+pub end-none : (at : ℕ) (out : List ℕ) → length out < at + 3 → out ≡ framePut endFrame at out
+end-none at out l = framePut-none endFrame at out (at + 3) (omega (arith, length-endFrame)) l
+
+pub end-put : (out : List ℕ) (at : ℕ) {header : ℕ} {one : List ℕ} → at + 3 ≤ length out
+    → header ≡ joined headerLayout (ours ∷ endKind ∷ 0 ∷ []) → one ≡ written out at (bytesOf 3 header) (at + 3)
+    → one ≡ framePut endFrame at out
+end-put out at {header} {one} l e first =
+    let whole : one ≡ written out at endFrame (at + 3) = first ∙ rw (e, endBody-empty, append-nil) in
+    whole ∙ sym (end-fits at out l)

@@ -3,18 +3,16 @@ use fields::Head;
 use fields::Job;
 use unpacking::FrameHeader;
 ghost use mathlib.Core.Path.{_≡_};
-ghost use Prim.Native.Nat.{_+_, _^_, _≤_, _<_};
+ghost use Prim.Native.Nat.{_+_, _≤_};
 ghost use mathlib.Core.List.{_++_};
 ghost use lib.ListN.{length, take, drop};
 ghost use Rattle.bits.specs.Bits.{bytesOf};
 ghost use Rattle.fields.specs.Format.{headFrame, jobFrame, endFrame};
+ghost use Rattle.packing.specs.Packing.{cutHead, cutJob, framePut};
 
 // The head's frame, at the front of the output.
 pub fn put_head(h: Head, out: &mut [u8])
-    ensures { λ _. ⌜
-        ((h .benches < 128) × (h .p < 128) × (h .q < 128) × (h .target < 2 ^ 30) × (10 ≤ length (now (out .entry)))
-        → now (out .exit) ≡ headFrame h ++ drop 10 (now (out .entry)))
-        ⌝ }
+    ensures { λ _. ⌜ now (out .exit) ≡ framePut (headFrame (cutHead h)) 0 (now (out .entry)) ⌝ }
 {
     if out.len() < 10 {
         return;
@@ -32,10 +30,7 @@ pub fn put_head(h: Head, out: &mut [u8])
 
 // A job's frame, at byte `at`.
 pub fn put_job(j: Job, out: &mut [u8], at: usize)
-    ensures { λ _. ⌜
-        ((j .minutes < 2 ^ 20) × (at + 14 ≤ length (now (out .entry)))
-        → now (out .exit) ≡ take at (now (out .entry)) ++ jobFrame j ++ drop (at + 14) (now (out .entry)))
-        ⌝ }
+    ensures { λ _. ⌜ now (out .exit) ≡ framePut (jobFrame (cutJob j)) at (now (out .entry)) ⌝ }
 {
     if out.len() < 14 {
         return;
@@ -60,10 +55,7 @@ pub fn put_job(j: Job, out: &mut [u8], at: usize)
 
 // The end's frame, at byte `at`.
 pub fn put_end(out: &mut [u8], at: usize)
-    ensures { λ _. ⌜
-        (at + 3 ≤ length (now (out .entry))
-        → now (out .exit) ≡ take at (now (out .entry)) ++ endFrame ++ drop (at + 3) (now (out .entry)))
-        ⌝ }
+    ensures { λ _. ⌜ now (out .exit) ≡ framePut endFrame at (now (out .entry)) ⌝ }
 {
     if out.len() < 3 {
         return;

@@ -2,15 +2,16 @@
 use borrow.Author.Needs.{needs}
 use borrow.Author.Count.{below-more}
 use Prim.Native.Nat.{ℕ, _≤_, _<_, _-_, _^_}
-use mathlib.Core.Path.{_≡_, sym}
+use mathlib.Core.Path.{_≡_, sym, _∙_}
 use mathlib.Core.Bool.{false}
 use mathlib.Core.Logic.{⊎-elim}
 use native.Mathlib.Omega.{arith}
 use lib.ListN.{getD}
 use denote.Ref.{now}
-use Rattle.sums.proofs.LargestLaws.{largest-le, largest-bound}
-use Rattle.fields.specs.Tests.{heavyHyperEdge}
+use Rattle.sums.proofs.LargestLaws.{largest-bound}
+use Rattle.fields.specs.Tests.{jobTable, heavyHyperEdge}
 use Rattle.checks.proofs.HyperEdges.{tableJob, product-fits, heavy-job, light-benches, light-minutes, heavy-found, heavy-none}
+use Rattle.checks.proofs.HyperEdges.{wide-p, wide-q, wide-minutes, none-wide}
 use Rattle.checks.proofs.hyper_edges.check_hyper_edges.Statement.{statement}
 use Rattle.checks.proofs.hyper_edges.check_hyper_edges.Tie as tie
 
@@ -25,22 +26,30 @@ longest-requires : tie.Need-longest-requires Inv-loop μ-loop
 longest-requires c κs = search needs
 
 returns : tie.Need-returns Inv-loop μ-loop
-returns c = λ narrow. absurd (omega (arith, narrow .0))
+returns c =
+    let a = c .before .before .before .before .before .args in
+    sym (wide-p (a .h) (jobTable (a .count) (now (a .minutes)) (now (a .allowed))) (c .if1 .taken))
 
 returns-2 : tie.Need-returns-2 Inv-loop μ-loop
-returns-2 c = λ narrow. absurd (omega (arith, narrow .1))
+returns-2 c =
+    let a = c .before .before .before .before .before .before .before .args in
+    sym (wide-q (a .h) (jobTable (a .count) (now (a .minutes)) (now (a .allowed))) (c .if2 .taken))
 
 returns-3 : tie.Need-returns-3 Inv-loop μ-loop
-returns-3 c = λ narrow.
+returns-3 c =
     let a = c .before .before .before .before .before .before .before .before .args in
-    let small = largest-le (a .count) (λ i. getD (now (a .minutes)) i 0) 1048575 (λ i lt. omega (arith, narrow .2 i lt)) in
-    absurd (omega (arith, small, c .before .before .before .before .before .longest .ensures))
+    let w = c .before .before .before .before .before .longest in
+    sym (wide-minutes (now (a .minutes)) (now (a .allowed)) (a .count) (a .h) (w .result) (w .ensures) (omega arith))
 
 loop-holds : tie.Need-loop-holds Inv-loop μ-loop
 loop-holds c = (omega arith, λ k below. absurd (omega arith))
 
 mul-if4 : tie.Need-mul-if4 Inv-loop μ-loop
-mul-if4 c = record { fits = product-fits (c .before .before .before .before .before .before .before .before .before .before .before .args .h .p) (c .before .before .before .before .before .before .before .before .longest .result) (c .before .before .before .before .before .before .if1 .left) (c .before .before .before .if3 .left) }
+mul-if4 c =
+    let at-if1 = c .before .before .before .before .before .before in
+    let w = at-if1 .before .before .longest in
+    let a = at-if1 .before .before .before .before .before .args in
+    record { fits = product-fits (a .h .p) (w .result) (at-if1 .if1 .left) (omega arith) }
 
 entry-requires : tie.Need-entry-requires Inv-loop μ-loop
 entry-requires c κs = search needs
@@ -55,16 +64,21 @@ entry-requires-2 : tie.Need-entry-requires-2 Inv-loop μ-loop
 entry-requires-2 c κs = search needs
 
 returns-4 : tie.Need-returns-4 Inv-loop μ-loop
-returns-4 c = λ narrow.
-    let a = c .before .before .before .before .before .before .before .before .before .before .before .before .before .before .before .before .args in
+returns-4 c =
+    let at-test = c .before .before .before .before .before .before in
+    let l = at-test .before .loop in
+    let at-longest = at-test .before .before .before .before .before .before .before in
+    let w = at-longest .longest in
+    let a = at-longest .before .before .before .args in
     let ms = now (a .minutes) in
     let bs = now (a .allowed) in
-    let n = c .before .before .before .before .before .before .before .loop .n in
-    let w = c .before .before .before .before .before .before .before .before .before .before .before .before .before .longest in
-    sym (heavy-found ms bs (a .count) (a .h) (w .result) (w .ensures) n (c .before .before .before .before .before .before .loop-test .taken)
-    (heavy-job (a .h) (w .result) (tableJob ms bs n) (omega (arith, c .before .before .before .before .before .before .before .before .before .before .before .before .before .before .shared-slice-known2 .given n))
-    (rw (← c .before .entry2 .ensures) (c .if5 .taken)) (rw (← c .before .before .before .before .entry .ensures) (c .before .before .if4 .taken)))
-    (c .before .before .before .before .before .before .before .loop .inv .1))
+    let narrow = at-longest .before .shared-slice-known2 .given (l .n) in
+    let found = heavy-found ms bs (a .count) (a .h) (w .result) (w .ensures) (l .n) (at-test .loop-test .taken)
+    (heavy-job (a .h) (w .result) (tableJob ms bs (l .n)) (omega (arith, narrow))
+    (rw (← c .before .entry2 .ensures) (c .if5 .taken))
+    (rw (← c .before .before .before .before .entry .ensures) (c .before .before .if4 .taken)))
+    (l .inv .1) in
+    sym (none-wide ms bs (a .count) (a .h) (w .result) (w .ensures) (omega arith) (omega arith) (omega arith) ∙ found)
 
 add-n : tie.Need-add-n Inv-loop μ-loop
 add-n c = omega arith
@@ -88,10 +102,14 @@ loop-again c =
     )
 
 returns-5 : tie.Need-returns-5 Inv-loop μ-loop
-returns-5 c = λ narrow.
+returns-5 c =
     let a = c .before .before .before .before .before .before .before .before .before .before .args in
-    sym (heavy-none (now (a .minutes)) (now (a .allowed)) (a .count) (a .h) (c .before .before .before .before .before .before .before .longest .result) (c .before .before .before .before .before .before .before .longest .ensures)
-    (λ k lt. c .before .loop .inv .1 k (omega arith)))
+    let ms = now (a .minutes) in
+    let bs = now (a .allowed) in
+    let w = c .before .before .before .before .before .before .before .longest in
+    let none = heavy-none ms bs (a .count) (a .h) (w .result) (w .ensures)
+    (λ k lt. c .before .loop .inv .1 k (omega arith)) in
+    sym (none-wide ms bs (a .count) (a .h) (w .result) (w .ensures) (omega arith) (omega arith) (omega arith) ∙ none)
 
 pub check-hyper-edges-spec : {M : Type 1} → statement M
 check-hyper-edges-spec =

@@ -1,5 +1,8 @@
--- `finish`: the stage decides.
+-- `finish`: the stage decides; the numbers were read from fields, so 12 is looked for.
+use mathlib.Core.Path.{_∙_}
+use denote.Ref.{now}
 use borrow.Author.Needs.{needs}
+use Rattle.checks.proofs.HyperEdges.{checked-fits}
 use Rattle.frame.proofs.reader.finish.Statement.{statement}
 use Rattle.frame.proofs.reader.finish.Tie as tie
 
@@ -16,7 +19,11 @@ enum-told-3 : tie.Need-enum-told-3
 enum-told-3 c = search needs
 
 returns : tie.Need-returns
-returns c = rw (c .before .enum-told .given .1) (c .check-hyper-edges .ensures (c .before .before .before .before .before .pre))
+returns c =
+    let start = c .before .before .before .before .before in
+    let a = start .args in
+    rw (c .before .enum-told .given .1)
+    (c .check-hyper-edges .ensures ∙ checked-fits (now (a .minutes)) (now (a .allowed)) (a .count) (a .h) (start .pre))
 
 returns-2 : tie.Need-returns-2
 returns-2 c = rw (c .enum-told2 .given .1)

@@ -1,7 +1,9 @@
 -- The verdict is that of the first test that refuses; a head and jobs that pass have numbers that fit what the last test computes.
+use mathlib.Core.Path.{_∙_}
 use denote.Ref.{now}
 use borrow.Author.Needs.{needs}
 use Rattle.fields.specs.Tests.{jobTable}
+use Rattle.checks.proofs.HyperEdges.{checked-fits}
 use Rattle.frame.proofs.WriterSteps.{head-fault, job-fault, all-checked, hyper-edges-ready}
 use Rattle.frame.proofs.writer.check.Statement.{statement}
 use Rattle.frame.proofs.writer.check.Tie as tie
@@ -51,7 +53,7 @@ returns-3 c =
     let ready = hyper-edges-ready (a .h) (a .n) (now (a .minutes)) (now (a .allowed)) (head .check-head .ensures) (jobs .before .enum-told .given .1)
     (jobs .check-jobs .ensures) (c .before .enum-told2 .given .1) in
     all-checked (a .h) js (head .check-head .ensures) (jobs .before .enum-told .given .1) (jobs .check-jobs .ensures) (c .before .enum-told2 .given .1)
-    (c .check-hyper-edges .ensures ready)
+    (c .check-hyper-edges .ensures ∙ checked-fits (now (a .minutes)) (now (a .allowed)) (a .n) (a .h) ready)
 
 pub check-spec : {M : Type 1} → statement M
 check-spec =

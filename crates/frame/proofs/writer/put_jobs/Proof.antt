@@ -1,5 +1,5 @@
 -- The loop's invariant: the frames of the first i jobs stand from byte 10 on, and all else is as it was.
-use Prim.Native.Nat.{_+_, _*_, _-_, _≤_}
+use Prim.Native.Nat.{_+_, _*_, _-_, _^_, _≤_, _<_}
 use native.Mathlib.Omega.{arith}
 use mathlib.Core.Path.{_≡_, refl, _∙_}
 use lib.ListN.{length}
@@ -7,6 +7,7 @@ use denote.Ref.{now}
 use borrow.Author.Needs.{needs}
 use Rattle.fields.specs.Format.{jobFrames}
 use Rattle.fields.specs.Tests.{jobTable}
+use Rattle.packing.proofs.PutLaws.{job-fits}
 use Rattle.frame.proofs.WriterSteps.{written, jobs-none, jobs-more}
 use Rattle.frame.proofs.writer.put_jobs.Statement.{statement}
 use Rattle.frame.proofs.writer.put_jobs.Tie as tie
@@ -48,8 +49,11 @@ loop-again c =
     let l = put .before .before .before .before .before in
     let a = l .before .before .before .before .args in
     let fits = l .before .before .before .before .pre .2 (l .loop .i) (put .before .before .before .before .loop-test .taken) in
+    let minutes = put .before .before .before .entry in
+    let narrow : minutes .result < 2 ^ 20 = omega (arith, minutes .ensures, fits) in
     let more = jobs-more (now (a .out)) (now (a .minutes)) (now (a .allowed)) (l .loop .i) _ (omega arith) (l .loop .inv .2)
-    (put .before .before .before .entry .ensures) (put .before .before .entry2 .ensures) (put .put-job .ensures (omega (arith, put .before .before .before .entry .ensures, fits), omega arith)) in
+    (minutes .ensures) (put .before .before .entry2 .ensures)
+    (put .put-job .ensures ∙ job-fits _ (10 + 14 * l .loop .i) (l .loop .out) narrow (omega arith)) in
     (omega arith, put .put-job .kept .1 .0 ∙ l .loop .inv .1, more)
 
 same-length : tie.Need-same-length Inv-loop μ-loop

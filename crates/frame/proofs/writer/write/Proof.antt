@@ -1,11 +1,12 @@
 -- Where the check accepts, head and jobs fit their fields, and the three parts that are put one behind the other are the sheet.
 use native.Mathlib.Omega.{arith}
-use mathlib.Core.Path.{refl}
+use mathlib.Core.Path.{refl, _∙_}
 use lib.ListN.{length}
 use denote.Ref.{now}
 use borrow.Author.Needs.{needs}
 use Rattle.fields.specs.Tests.{jobTable}
 use Rattle.frame.specs.Writing.{output}
+use Rattle.packing.proofs.PutLaws.{head-fits, end-fits}
 use Rattle.frame.proofs.WriterSteps.{refused, no-room, all-written, head-ready, few-jobs, minutes-ready, sheet-put}
 use Rattle.frame.proofs.writer.write.Statement.{statement}
 use Rattle.frame.proofs.writer.write.Tie as tie
@@ -73,13 +74,23 @@ same-length c = search needs
 returns-3 : tie.Need-returns-3
 unfolding output
 returns-3 c =
-    let n = c .before .before .before .before .before .before .before .before .before .before .before .before .before .before .before .before .longer in
-    let a = c .before .before .before .before .before .before .before .before .before .before .before .before .before .before .before .before .before .before .before .before .args in
-    let ready = head-ready (a .h) (n .result) (now (a .minutes)) (now (a .allowed)) (c .before .before .before .before .before .before .before .before .before .before .before .before .before .before .before .check .ensures) (c .before .before .before .before .before .before .before .before .before .before .before .before .before .enum-told .given .1) in
-    let returned = all-written (a .h) (n .result) (now (a .minutes)) (now (a .allowed)) (c .before .before .before .before .before .before .before .before .before .before .before .before .before .before .before .check .ensures) (c .before .before .before .before .before .before .before .before .before .before .before .before .before .enum-told .given .1)
-    (length (now (a .out))) (c .before .before .before .before .before .before .before .before .before .before .before .before .if1 .left) in
-    let sheet = sheet-put (now (a .out)) (a .h) (now (a .minutes)) (now (a .allowed)) (n .result) (c .before .before .before .before .before .before .before .before .before .before .before .before .if1 .left)
-    (c .before .before .before .before .before .before .before .before .before .before .put-head .ensures (omega (arith, ready, c .before .before .before .before .before .before .before .before .before .before .before .before .if1 .left))) (c .before .before .before .before .before .before .put-jobs .ensures) (c .before .before .put-end .ensures (omega arith)) in
+    let at-end = c .before .before in
+    let at-jobs = at-end .before .before .before .before in
+    let at-head = at-jobs .before .before .before .before in
+    let tested = at-head .before .before in
+    let told = tested .before in
+    let checked = told .before .before in
+    let n = checked .before .longer in
+    let a = checked .before .before .before .before .before .args in
+    let ms = now (a .minutes) in
+    let bs = now (a .allowed) in
+    let ready = head-ready (a .h) (n .result) ms bs (checked .check .ensures) (told .enum-told .given .1) in
+    let returned = all-written (a .h) (n .result) ms bs (checked .check .ensures) (told .enum-told .given .1)
+    (length (now (a .out))) (tested .if1 .left) in
+    let sheet = sheet-put (now (a .out)) (a .h) ms bs (n .result) (tested .if1 .left)
+    (at-head .put-head .ensures ∙ head-fits (a .h) (now (a .out)) ready (omega arith))
+    (at-jobs .put-jobs .ensures)
+    (at-end .put-end .ensures ∙ end-fits _ _ (omega arith)) in
     (rw (← n .ensures) returned, rw (← n .ensures) sheet)
 
 pub write-spec : {M : Type 1} → statement M

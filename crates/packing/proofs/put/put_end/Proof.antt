@@ -1,19 +1,19 @@
 -- The header alone is the end's frame.
 use native.Mathlib.Omega.{arith}
 use denote.Ref.{now}
-use Rattle.packing.proofs.PutLaws.{end-put}
+use Rattle.packing.proofs.PutLaws.{end-none, end-put}
 use borrow.Author.Needs.{needs}
 use Rattle.packing.proofs.put.put_end.Statement.{statement}
 use Rattle.packing.proofs.put.put_end.Tie as tie
 
 returns : tie.Need-returns
-returns c = λ room. absurd (omega arith)
+returns c = let a = c .before .before .args in end-none (a .at) (now (a .out)) (omega arith)
 
 sub-if2 : tie.Need-sub-if2
 sub-if2 c = search needs
 
 returns-2 : tie.Need-returns-2
-returns-2 c = λ room. absurd (omega arith)
+returns-2 c = let a = c .before .before .before .args in end-none (a .at) (now (a .out)) (omega arith)
 
 packed-requires : tie.Need-packed-requires
 packed-requires c κs = search needs
@@ -25,7 +25,10 @@ same-length : tie.Need-same-length
 same-length c = search needs
 
 returns-3 : tie.Need-returns-3
-returns-3 c = λ room. end-put (now (c .before .before .before .before .before .before .before .before .args .out)) (c .before .before .before .before .before .before .before .before .args .at) (c .before .before .before .packed .ensures) (c .before .before .put .ensures)
+returns-3 c =
+    let at-header = c .before .before in
+    let a = at-header .before .before .before .before .before .before .args in
+    end-put (now (a .out)) (a .at) (omega arith) (at-header .before .packed .ensures) (at-header .put .ensures)
 
 pub put-end-spec : {M : Type 1} → statement M
 put-end-spec =

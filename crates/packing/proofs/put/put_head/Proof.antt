@@ -1,13 +1,14 @@
 -- The header and the fields are put one behind the other; together they are the head's frame.
 use native.Mathlib.Omega.{arith}
 use denote.Ref.{now}
-use Rattle.packing.proofs.PutLaws.{head-put}
+use Rattle.packing.specs.Packing.{cutHead}
+use Rattle.packing.proofs.PutLaws.{head-none, head-put}
 use borrow.Author.Needs.{needs}
 use Rattle.packing.proofs.put.put_head.Statement.{statement}
 use Rattle.packing.proofs.put.put_head.Tie as tie
 
 returns : tie.Need-returns
-returns c = λ fits. absurd (omega (arith, fits .4))
+returns c = let a = c .before .before .args in head-none (cutHead (a .h)) (now (a .out)) (omega arith)
 
 mul-fields : tie.Need-mul-fields
 mul-fields c = search needs
@@ -43,8 +44,12 @@ same-length : tie.Need-same-length
 same-length c = search needs
 
 returns-2 : tie.Need-returns-2
-returns-2 c = λ fits.
-    head-put (now (c .before .before .before .before .before .before .before .before .before .before .before .before .before .before .before .args .out)) (c .before .before .before .before .before .before .before .before .before .before .before .before .before .before .before .args .h) (fits .0) (fits .1) (fits .2) (fits .3) (fits .4) (c .before .before .before .before .before .before .before .packed .ensures) (c .before .before .before .before .before .before .put .ensures) (c .before .before .put2 .ensures)
+returns-2 c =
+    let at-fields = c .before .before in
+    let at-header = at-fields .before .before .before .before in
+    let a = at-header .before .before .before .before .before .before .before .before .before .args in
+    head-put (now (a .out)) (cutHead (a .h)) (omega arith) (omega arith)
+    (at-header .before .packed .ensures) (at-header .put .ensures) (at-fields .put2 .ensures)
 
 pub put-head-spec : {M : Type 1} → statement M
 put-head-spec =

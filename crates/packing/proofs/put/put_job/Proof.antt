@@ -1,19 +1,20 @@
 -- The header and the two parts of the body are put one behind the other; together they are the job's frame.
 use native.Mathlib.Omega.{arith}
 use denote.Ref.{now}
-use Rattle.packing.proofs.PutLaws.{job-put, high-fits}
+use Rattle.packing.specs.Packing.{cutJob}
+use Rattle.packing.proofs.PutLaws.{job-none, job-put, high-fits}
 use borrow.Author.Needs.{needs}
 use Rattle.packing.proofs.put.put_job.Statement.{statement}
 use Rattle.packing.proofs.put.put_job.Tie as tie
 
 returns : tie.Need-returns
-returns c = λ fits. absurd (omega (arith, fits .1))
+returns c = let a = c .before .before .args in job-none (cutJob (a .j)) (a .at) (now (a .out)) (omega arith)
 
 sub-if2 : tie.Need-sub-if2
 sub-if2 c = search needs
 
 returns-2 : tie.Need-returns-2
-returns-2 c = λ fits. absurd (omega (arith, fits .1))
+returns-2 c = let a = c .before .before .before .args in job-none (cutJob (a .j)) (a .at) (now (a .out)) (omega arith)
 
 packed-requires : tie.Need-packed-requires
 packed-requires c κs = search needs
@@ -28,7 +29,9 @@ mul-put : tie.Need-mul-put
 mul-put c = search needs
 
 add-put-2 : tie.Need-add-put-2
-add-put-2 c = record { fits = high-fits (c .before .before .before .before .before .before .before .before .before .before .before .args .j .minutes) (c .before .before .before .before .before .before .before .before .before .before .before .args .j .allowed) (omega arith) }
+add-put-2 c =
+    let a = c .before .before .before .before .before .before .before .before .before .before .before .args in
+    record { fits = high-fits _ (a .j .allowed) (omega arith) (omega arith) }
 
 put-requires-2 : tie.Need-put-requires-2
 put-requires-2 c κs = search needs
@@ -46,8 +49,13 @@ same-length : tie.Need-same-length
 same-length c = search needs
 
 returns-3 : tie.Need-returns-3
-returns-3 c = λ fits.
-    job-put (now (c .before .before .before .before .before .before .before .before .before .before .before .before .before .before .before .before .before .before .before .args .out)) (c .before .before .before .before .before .before .before .before .before .before .before .before .before .before .before .before .before .before .before .args .j) (c .before .before .before .before .before .before .before .before .before .before .before .before .before .before .before .before .before .before .before .args .at) (fits .0) (fits .1) (c .before .before .before .before .before .before .before .before .before .before .before .before .before .before .packed .ensures) (c .before .before .before .before .before .before .before .before .before .before .before .before .before .put .ensures) (c .before .before .before .before .before .before .before .put2 .ensures) (c .before .before .put3 .ensures)
+returns-3 c =
+    let at-low = c .before .before in
+    let at-high = at-low .before .before .before .before .before in
+    let at-header = at-high .before .before .before .before .before .before in
+    let a = at-header .before .before .before .before .before .before .args in
+    job-put (now (a .out)) (cutJob (a .j)) (a .at) (omega arith) (omega arith) (omega arith)
+    (at-header .before .packed .ensures) (at-header .put .ensures) (at-high .put2 .ensures) (at-low .put3 .ensures)
 
 pub put-job-spec : {M : Type 1} → statement M
 put-job-spec =
