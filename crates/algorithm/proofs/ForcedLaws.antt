@@ -1,10 +1,9 @@
 -- Laws of calls of FORCED ORIENTATIONS.
 --     ForcedCall b dir last, forced-call      a call directs forced rocks only, and ends in a stable state
---     overloaded-no-neutral           an overloaded bench has no neutral rock in a stable state
---     overloaded-keeps                so its rock load stays, whatever is directed afterwards
+--     overloaded-keeps                an overloaded bench has no neutral rock in a stable state, so its rock load stays, whatever is directed
+--                                     afterwards
 --     FakeCall b dir v j last, fake-call      a rock directed away from v in a stable state, then a call: all that is directed is one chain,
 --                                     benches within the bound stay so, and the others keep their rock load
---     fake-call-overloads             so a bench that is overloaded after it was overloaded before
 --     AtTurn b dir v, turn-keeps      what holds of every bench between two turns of the outer loop, when all rocks were neutral at first
 --     first-call-overloads            a bench that the first call overloads has a cause: its own load, or that and one rock (Lemma 4.4.1)
 use Prim.Native.Nat.{ℕ, _≤_, _<_}
@@ -13,7 +12,6 @@ use mathlib.Core.Logic.{_⊎_, inl, inr, ⊎-elim}
 use mathlib.Core.Bool.{true, false}
 use native.Mathlib.Omega.{arith}
 use lib.ListN.{replicate}
-use Rattle.bools.proofs.BoolLaws.{split}
 use Rattle.bools.proofs.OrderLaws.{lt-or-le}
 use Rattle.sums.proofs.CountLaws.{count-le}
 use Rattle.algorithm.specs.Board.{Board, Directions, touches, neutral, rockLoad, load}
@@ -51,12 +49,6 @@ module _ (b : Board) (ok : SoundBoard b) where
 -- ── overloaded benches in a stable state ──
 
 module _ (b : Board) (dir : Directions) (stable : Stable b dir) (v : ℕ) (hv : v < b .benches) (over : b .bound < load b dir v) where
-  pub overloaded-no-neutral : (j : ℕ) → j < b .jobs → touches b j v ≡ true → neutral dir j ≡ false
-  overloaded-no-neutral j h t = elim (split (neutral dir j)) [
-    | inl n ↦ absurd (omega (arith, unforced b dir v (stable v hv) j h t n))
-    | inr n ↦ n
-  ]
-
   pub overloaded-keeps : {last : Directions} → Grows dir last → rockLoad b last v ≡ rockLoad b dir v
   overloaded-keeps g = gain-none b g v (λ e r. omega (arith, unforced b dir v (stable v hv) e (r .0) (r .1) (r .2)))
 
@@ -99,13 +91,6 @@ module _ (b : Board) (ok : SoundBoard b) (one-each : OneEach b) where
         within = chain-within pointed stable c;
         kept = λ u hu over. overloaded-keeps b dir stable u hu over (chain-grows b c);
       }
-
-pub fake-call-overloads : (b : Board) {dir last : Directions} {v j : ℕ} → FakeCall b dir v j last → (u : ℕ) → u < b .benches
-    → b .bound < load b last u → b .bound < load b dir u
-fake-call-overloads b {dir} call u hu over = elim (lt-or-le (b .bound) (load b dir u)) [
-  | inl more ↦ more
-  | inr fits ↦ absurd (omega (arith, call .within u hu fits))
-]
 
 -- ── the first call ──
 

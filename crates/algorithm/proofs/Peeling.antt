@@ -1,7 +1,7 @@
 -- Laws of peeling: what the start of the run leaves of the rocks.
 --     placement-few          in every placement a component has at most as many rocks as benches
 --     placement-fills        where it has as many, every bench of it takes a rock
---     crowded-no-placement, placement-uncrowded     so a component with more rocks than benches has no placement
+--     crowded-no-placement   so a component with more rocks than benches has no placement
 --     Peeled d s             what holds at every moment of the peeling
 --     peeled-step            each step keeps it: a hanging bench takes its only rock in every placement
 --     Finished d s           no bench is hanging
@@ -30,7 +30,7 @@ use Rattle.sums.proofs.TableLaws.{length-table, getD-table}
 use Rattle.sums.proofs.CountLaws.{count-le, count-zero, count-unique, count-strict, count-pos-elim, count-remove, count-injective}
 use Rattle.algorithm.specs.Day.{Day, rock, lowest}
 use Rattle.algorithm.specs.Start.{State, component, rocksIn, crowded, oneCycle, leftAt, hanging, peel, start}
-use Rattle.algorithm.specs.SoundDay.{SoundDay, Uncrowded, Placement}
+use Rattle.algorithm.specs.SoundDay.{SoundDay, Placement}
 use Rattle.algorithm.proofs.RockLaws.{lowest-allowed, low-allowed}
 use Rattle.algorithm.proofs.RockGraph.{component-allowed, component-self}
 
@@ -78,12 +78,6 @@ module _ (d : Day) (sound : SoundDay d) (pl : ℕ → ℕ) (placed : Placement d
 pub crowded-no-placement : (d : Day) → SoundDay d → (v : ℕ) → crowded d v ≡ true → (pl : ℕ → ℕ) → Placement d pl → ⊥
 crowded-no-placement d sound v p pl placed =
     omega (arith, ltb-true (count (d .benches) (component d v)) (rocksIn d v) p, placement-few d sound pl placed v)
-
-pub placement-uncrowded : (d : Day) → SoundDay d → (pl : ℕ → ℕ) → Placement d pl → Uncrowded d
-placement-uncrowded d sound pl placed v hv = elim (split (crowded d v)) [
-  | inl p ↦ absurd (crowded-no-placement d sound v p pl placed)
-  | inr p ↦ p
-]
 
 -- ── what holds while peeling ──
 

@@ -18,12 +18,12 @@
 use Prim.Native.Nat.{ℕ, zero, suc, _≤_, _<_}
 use mathlib.Core.Path.{_≡_, refl, _∙_}
 use mathlib.Core.Logic.{inl, inr, ⊎-elim}
-use mathlib.Core.Bool.{Bool, true, false, cond, not, _&&_}
+use mathlib.Core.Bool.{true, false, cond, not, _&&_}
 use mathlib.Core.List.{List}
 use native.Mathlib.Omega.{arith}
 use lib.ListN.{length, set, length-set}
 use borrow.Author.Tests.{lt-ltb, ltb-true, ltb-false}
-use Rattle.bools.proofs.BoolLaws.{split, clash, and-intro, and-left, and-right, not-intro-true, not-true, and-false-elim, not-false}
+use Rattle.bools.proofs.BoolLaws.{split, clash, and-intro, and-left, and-right, not-intro-true, not-true, and-false-elim, not-false, cond-true, cond-false}
 use Rattle.sums.specs.Search.{any}
 use Rattle.sums.specs.Table.{table}
 use Rattle.sums.proofs.SearchLaws.{any-intro}
@@ -143,12 +143,6 @@ pub record Between (b : Board) (k : ℕ) (x : Explored) : Type 0 where
 pub record Round (b : Board) (k : ℕ) (x y : Explored) : Type 0 where
   pub building : Building b k (x .dir) (openedJoined b k x) (y .dir) (y .joined)
   pub activation : Activating b k (y .dir) (y .joined) (openedLevel b k x) (y .level)
-
-cond-true : {a : Bool} (m n : ℕ) → a ≡ true → cond a m n ≡ m
-cond-true m n p = rw p
-
-cond-false : {a : Bool} (m n : ℕ) → a ≡ false → cond a m n ≡ n
-cond-false m n p = rw p
 
 module _ (b : Board) (k : ℕ) (x : Explored) where
   pub typeA-level : (v : ℕ) → v < b .benches → typeA b k x v ≡ true → roundOf b (openedLevel b k x) v ≡ k

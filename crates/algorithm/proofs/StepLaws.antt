@@ -4,26 +4,24 @@
 --     step-grows, step-pointed        one forced orientation
 --     steps-join                      forced orientations, then further ones
 --     steps-grow, steps-pointed       forced orientations keep what is directed, and direct rocks towards their ends
---     steps-neutral, steps-towards, steps-rockLoad    what is neutral at the end was neutral before; what is directed stays so; loads do not fall
---     steps-forced                    a rock that they direct away from a bench would overload it, also at the end
+--     steps-neutral, steps-towards    what is neutral at the end was neutral before; what is directed stays so
 --     chain-grows, chain-pointed      the same of chains
 --     steps-chain                     forced orientations after a chain that begins at a stable state go on with the chain
 use Prim.Native.Nat.{ℕ, _+_, _≤_, _<_}
-use mathlib.Core.Path.{_≡_, sym, ap, subst, _∙_}
+use mathlib.Core.Path.{_≡_}
 use mathlib.Core.Logic.{inl, inr}
 use mathlib.Core.Bool.{true, false, _&&_}
 use native.Mathlib.Omega.{arith}
 use lib.Dec.{ltb}
-use lib.ListN.{length}
 use borrow.Author.Tests.{ltb-true, lt-ltb}
 use Rattle.bools.proofs.BoolLaws.{split, clash, and-intro, and-left, and-right}
-use Rattle.bools.proofs.OrderLaws.{lt-or-le, eq-or-ne}
+use Rattle.bools.proofs.OrderLaws.{lt-or-le}
 use Rattle.sums.proofs.SearchLaws.{any-intro, any-false}
-use Rattle.algorithm.specs.Board.{Board, Directions, touches, other, neutral, towards, rockLoad, load}
+use Rattle.algorithm.specs.Board.{Board, Directions, touches, neutral, towards, load}
 use Rattle.algorithm.specs.Forced.{forces, direct, forcing}
 use Rattle.algorithm.specs.Properties.{SoundBoard, Pointed, ForcedSteps, no-step, a-step, Stable, Chain, begins, goes-on}
-use Rattle.algorithm.proofs.BoardLaws.{other-other, neutral-directed, towards-unique, direct-towards, direct-neutral, pointed-direct}
-use Rattle.algorithm.proofs.GrowthLaws.{Grows, grows-refl, grows-join, grows-direct, grows-neutral, grows-rockLoad, gain-received}
+use Rattle.algorithm.proofs.BoardLaws.{pointed-direct}
+use Rattle.algorithm.proofs.GrowthLaws.{Grows, grows-refl, grows-join, grows-direct, grows-neutral, gain-received}
 
 -- ── one forced orientation ──
 
@@ -82,9 +80,6 @@ module _ (b : Board) where
   pub steps-towards : {dir last : Directions} → ForcedSteps b dir last → (e v : ℕ) → towards dir e v ≡ true → towards last e v ≡ true
   steps-towards p = steps-grow p .keeps
 
-  pub steps-rockLoad : {dir last : Directions} → ForcedSteps b dir last → (v : ℕ) → rockLoad b dir v ≤ rockLoad b last v
-  steps-rockLoad p = grows-rockLoad b (steps-grow p)
-
   pub chain-grows : {first dir : Directions} → Chain b first dir → Grows first dir
   chain-grows {first} (begins v j hv hj t n) = grows-direct b first v j n
   chain-grows (goes-on {dir} c v j e hv hj t n r) = grows-join (chain-grows c) (grows-direct b dir v j n)
@@ -97,23 +92,6 @@ module _ (b : Board) (ok : SoundBoard b) where
   pub chain-pointed : {first dir : Directions} → Chain b first dir → Pointed b first → Pointed b dir
   chain-pointed {first} (begins v j hv hj t n) pointed = pointed-direct b ok first pointed v j hj t
   chain-pointed (goes-on {dir} c v j e hv hj t n r) pointed = pointed-direct b ok dir (chain-pointed c pointed) v j hj t
-
-  -- When the rock was directed it was forced, and the load of the bench has not fallen since.
-  pub steps-forced : {dir last : Directions} → ForcedSteps b dir last → Pointed b dir → (e v : ℕ) → e < b .jobs → touches b e v ≡ true
-      → neutral dir e ≡ true → towards last e (other b e v) ≡ true → b .bound < load b last v + b .weight e
-  steps-forced {dir} no-step pointed e v h t n s = absurd (neutral-directed dir e (other b e v) n s)
-  steps-forced {last} (a-step {dir} x j hx hj f p) pointed e v h t n s = elim (eq-or-ne e j) [
-    | inl q ↦
-        let in-list : j < length dir = omega (arith, pointed .one-to-a-job) in
-        let sent = towards-unique last j (other b j x) (other b j v) (steps-towards b p j (other b j x) (direct-towards b dir x j in-list))
-        (subst (λ (k : ℕ). towards last k (other b k v) ≡ true) q s)
-        in
-        let same : x ≡ v = sym (other-other b ok j x hj (forces-touches b dir x j f)) ∙ ap (other b j) sent
-        ∙ other-other b ok j v hj (subst (λ (k : ℕ). touches b k v ≡ true) q t)
-        in
-        rw (q, ← same) (omega (arith, forces-more b dir x j f, grows-rockLoad b (step-grows b dir x j f) x, steps-rockLoad b p x))
-    | inr ne ↦ steps-forced p (step-pointed b dir x j f ok pointed hj) e v h t (direct-neutral b dir x j e ne ∙ n) s
-  ]
 
 -- ── chains from a stable state ──
 

@@ -4,18 +4,20 @@
 --     and-intro, and-left, and-right          a && b is true: from both, and back to each
 --     and-false-left, and-false-right         a && b is false if one of the two is
 --     and-false-elim                          a && b is false: one of the two is
+--     and-unit                                a && b is a where b is true
 --     or-left, or-right, or-elim              a || b is true: from one of the two, and back to one
 --     or-false, or-false-left, or-false-right a || b is false: from both, and back to each
---     or-nothing                              a || false is a
+--     or-unit, or-nothing                     a || b is a where b is false, so a || false is a
 --     not-intro-true, not-intro-false         not b from b
 --     not-true, not-false                     b from not b
 --     implies-false           where a gives b, and b is false, a is false
 --     bool-ext                Booleans are equal if each gives the other
+--     cond-true, cond-false   cond c x y is x where c is true, and y where c is false
 --     eqb-sym                 eqb a b is eqb b a
 --     not-ltb-true, not-leb-true, not-eqb-true        the fact about the numbers from a negated test that is true
 --     not-ltb-false, not-leb-false, not-eqb-false     and from one that is false
 --     tests                   with `omega tests`, omega reads the tests ltb, leb, eqb and their negations in scope, and proves such tests
-use mathlib.Core.Bool.{Bool, true, false, not, _&&_, _||_, true≢false}
+use mathlib.Core.Bool.{Bool, true, false, not, cond, _&&_, _||_, true≢false}
 use mathlib.Core.Path.{_≡_, refl, sym, _∙_}
 use mathlib.Core.Logic.{_⊎_, inl, inr, _≢_}
 use Prim.Native.Nat.{ℕ, _≤_, _<_}
@@ -54,6 +56,10 @@ pub and-false-elim : (a b : Bool) → (a && b) ≡ false → (a ≡ false) ⊎ (
 and-false-elim true b e = inr e
 and-false-elim false b e = inl refl
 
+pub and-unit : (a : Bool) {b : Bool} → b ≡ true → (a && b) ≡ a
+and-unit true p = p
+and-unit false p = refl
+
 -- ── or ──
 
 pub or-left : {a : Bool} (b : Bool) → a ≡ true → (a || b) ≡ true
@@ -78,9 +84,12 @@ pub or-false-right : (a b : Bool) → (a || b) ≡ false → b ≡ false
 or-false-right true b e = clash refl e
 or-false-right false b e = e
 
+pub or-unit : (a : Bool) {b : Bool} → b ≡ false → (a || b) ≡ a
+or-unit true p = refl
+or-unit false p = p
+
 pub or-nothing : (a : Bool) → (a || false) ≡ a
-or-nothing true = refl
-or-nothing false = refl
+or-nothing a = or-unit a refl
 
 -- ── not ──
 
@@ -108,6 +117,14 @@ pub bool-ext : (a b : Bool) → (a ≡ true → b ≡ true) → (b ≡ true → 
 bool-ext true b f g = sym (f refl)
 bool-ext false true f g = g refl
 bool-ext false false f g = refl
+
+-- ── cond ──
+
+pub cond-true {ℓ} : {A : Type ℓ} {c : Bool} (x y : A) → c ≡ true → cond c x y ≡ x
+cond-true x y p = rw p
+
+pub cond-false {ℓ} : {A : Type ℓ} {c : Bool} (x y : A) → c ≡ false → cond c x y ≡ y
+cond-false x y p = rw p
 
 -- ── tests of numbers ──
 

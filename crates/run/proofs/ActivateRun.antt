@@ -11,6 +11,7 @@ use lib.ListN.{set}
 use lib.Dec.{ltb}
 use borrow.Author.Tests.{lt-ltb, le-ltb}
 use Rattle.bools.proofs.BoolLaws.{and-false-right}
+use Rattle.bools.proofs.OrderLaws.{lt-of-ne}
 use Rattle.sums.specs.Search.{any, least}
 use Rattle.sums.proofs.SearchLaws.{any-cong, least-cong, least-le}
 use Rattle.run.specs.declared.rocks.Limits.{Limits}
@@ -21,7 +22,7 @@ use Rattle.run.specs.ExploreArrays.{activatesAt}
 use Rattle.run.proofs.ScanLaws.{and-assoc, board-lowest}
 use Rattle.algorithm.proofs.RoundSteps.{activates}
 use Rattle.run.proofs.ExploreLaws.{any-and, any-or}
-use Rattle.run.proofs.ConflictRun.{below-of-ne, rounds-set, within-same, other-within, father-same, child-same}
+use Rattle.run.proofs.ConflictRun.{rounds-set, within-same, other-within, father-same, child-same}
 
 -- ── the loop of the definition, turn by turn ──
 
@@ -146,7 +147,7 @@ module _ (b : Board) (n : Limits) (low high weight own : List ℕ) (R : Rocks b 
     pub activating-goes-on : {level′ : List ℕ} → v ≢ n .benches → 0 < k → level′ ≡ set level v i → Activating i ys (k - 1) level′
     activating-goes-on {level′} ne more q =
         let below : v < b .benches =
-        below-of-ne v (b .benches) (subst (λ (m : ℕ). m ≤ b .benches) (sym activating-at) (least-le (b .benches) (activates b dirs xs (A .now-ys)))) (λ s. ne (s ∙ sym (R .benches))) in
+        lt-of-ne v (b .benches) (subst (λ (m : ℕ). m ≤ b .benches) (sym activating-at) (least-le (b .benches) (activates b dirs xs (A .now-ys)))) (λ s. ne (s ∙ sym (R .benches))) in
         record {
           now-ys = set (A .now-ys) v i;
           rounds = subst (λ (y : List ℕ). Rounds b (set (A .now-ys) v i) y) (sym q) (rounds-set b (A .now-ys) level v i (A .rounds));

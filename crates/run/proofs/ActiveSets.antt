@@ -11,7 +11,7 @@ use lib.Dec.{eqb}
 use lib.ListN.{length, getD, set}
 use lib.Seq.{getD-set-same, getD-set-other}
 use borrow.Author.Tests.{eq-eqb, ne-eqb}
-use Rattle.bools.proofs.BoolLaws.{and-intro, and-left, and-right, and-false-right, or-right, or-false, not-true}
+use Rattle.bools.proofs.BoolLaws.{and-intro, and-left, and-right, and-false-right, or-right, or-false, not-true, and-unit}
 use Rattle.bools.proofs.OrderLaws.{eq-or-ne}
 use Rattle.sums.proofs.SearchLaws.{least-holds}
 use Rattle.bits.specs.Bits.{isSet}
@@ -38,10 +38,6 @@ bench-inside here P cand v e h =
 none-left : (a : Bool) → (a && not a) ≡ false
 none-left true = refl
 none-left false = refl
-
-and-yes : (a : Bool) {b : Bool} → b ≡ true → (a && b) ≡ a
-and-yes true e = e
-and-yes false e = refl
 
 -- ── who left has the round ──
 
@@ -76,7 +72,7 @@ module _ (wait i : ℕ) (level₀ : List ℕ) where
               ∙ sym (ap (λ (c : Bool). cond c i (getD level₀ u 0)) went)
           | inr ne ↦
               let other : isSet 64 one u ≡ false = eo u hu ∙ or-false (isSet-zero 64 u) (ne-eqb u v ne) in
-              let kept : isSet 64 left′ u ≡ isSet 64 left u = el u ∙ and-yes (isSet 64 left u) (ap not other) in
+              let kept : isSet 64 left′ u ≡ isSet 64 left u = el u ∙ and-unit (isSet 64 left u) (ap not other) in
               getD-set-other level v u i 0 ne ∙ L .gone u l hu ∙ ap (λ (k : Bool). cond (isSet 64 wait u && not k) i (getD level₀ u 0)) (sym kept)
         ];
       }

@@ -17,7 +17,7 @@ use lib.ListN.{length, getD, set, length-set}
 use lib.Seq.{getD-set-same, getD-set-other}
 use borrow.Author.Tests.{lt-ltb}
 use Rattle.bools.proofs.BoolLaws.{split}
-use Rattle.bools.proofs.OrderLaws.{eq-or-ne, lt-or-le}
+use Rattle.bools.proofs.OrderLaws.{eq-or-ne, lt-of-ne}
 use Rattle.sums.specs.Sum.{count}
 use Rattle.sums.proofs.CountLaws.{count-cong, count-pos}
 use Rattle.algorithm.specs.Day.{Day, rock, lowest, highest}
@@ -71,13 +71,10 @@ module _ (d : Day) where
           room = omega (arith, X .room);
           known = λ u l h. elim (eq-or-ne u v) [
             | inl e ↦ subst (λ (k : ℕ). getD ys k 0 ≡ balanceIn d k) (sym e) here
-            | inr ne ↦ elim (each u h) [ inl q ↦ q | inr q ↦ q ∙ X .known u (below u l ne) h ]
+            | inr ne ↦ elim (each u h) [ inl q ↦ q | inr q ↦ q ∙ X .known u (lt-of-ne u v (omega arith) ne) h ]
           ];
           others = λ u h ne. elim (each u h) [ inl q ↦ q | inr q ↦ q ∙ X .others u h (λ t. ne (q ∙ t)) ];
         }
-      where
-        below : (u : ℕ) → u < v + 1 → (u ≡ v → ⊥) → u < v
-        below u l ne = elim (lt-or-le u v) [ inl p ↦ p | inr p ↦ absurd (ne (omega arith)) ]
 
     pub balances-known : (getD xs v 0 ≡ 3 → ⊥) → BalancesTo d (v + 1) xs
     balances-known ne = step xs refl (X .others v hv ne) (λ u h. inr refl)

@@ -12,9 +12,9 @@ use native.Mathlib.Omega.{arith}
 use lib.ListN.{getD, set, length-set}
 use lib.Dec.{eqb, leb, ltb}
 use lib.Seq.{getD-set-same, getD-set-other}
-use borrow.Author.Tests.{lt-ltb, le-ltb, le-leb}
-use Rattle.bools.proofs.BoolLaws.{tests, bool-ext, and-false-right}
-use Rattle.bools.proofs.OrderLaws.{eq-or-ne, lt-or-le}
+use borrow.Author.Tests.{lt-ltb, le-ltb}
+use Rattle.bools.proofs.BoolLaws.{and-false-right}
+use Rattle.bools.proofs.OrderLaws.{eq-or-ne, lt-of-ne, leb-ltb}
 use Rattle.sums.specs.Search.{any, least}
 use Rattle.sums.proofs.SearchLaws.{any-cong, any-least, least-cong, least-le, least-holds}
 use Rattle.sums.proofs.CountLaws.{count-le, count-mono}
@@ -32,12 +32,6 @@ use Rattle.algorithm.proofs.ForcedLaws.{forced-call}
 use Rattle.run.proofs.ScanLaws.{board-lowest, board-first, rock-below}
 use Rattle.run.proofs.ForcedRun.{other-at, plus-one, directs-seen}
 use Rattle.run.proofs.ExploreLaws.{any-and}
-
-pub below-of-ne : (a m : ℕ) → a ≤ m → a ≢ m → a < m
-below-of-ne a m l ne = elim (lt-or-le a m) [ inl h ↦ h | inr h ↦ absurd (ne (omega arith)) ]
-
-leb-ltb : (a m : ℕ) → leb a m ≡ ltb a (suc m)
-leb-ltb a m = bool-ext (leb a m) (ltb a (suc m)) (λ p. lt-ltb a (suc m) (omega tests)) (λ p. le-leb a m (omega tests))
 
 pub rounds-set : (b : Board) (xs rounds : List ℕ) (v i : ℕ) → Rounds b xs rounds → Rounds b (set xs v i) (set rounds v i)
 rounds-set b xs rounds v i X =
@@ -201,7 +195,7 @@ module _ (b : Board) (n : Limits) (low high weight : List ℕ) (R : Rocks b n lo
     fake-step v r e ne first =
         let some : ℕ → Bool = λ u. any (b .jobs) (fake b dirs xs u) in
         let at : v ≡ least (b .benches) some = e ∙ lowest-fake in
-        let below : v < b .benches = below-of-ne v (b .benches) (subst (λ (k : ℕ). k ≤ b .benches) (sym at) (least-le (b .benches) some)) (λ q. ne (q ∙ sym (R .benches))) in
+        let below : v < b .benches = lt-of-ne v (b .benches) (subst (λ (k : ℕ). k ≤ b .benches) (sym at) (least-le (b .benches) some)) (λ q. ne (q ∙ sym (R .benches))) in
         let here : some v ≡ true =
         subst (λ (k : ℕ). some k ≡ true) (sym at) (least-holds (b .benches) some (subst (λ (k : ℕ). k < b .benches) at below)) in
         let rock = board-first b n low high weight R (fakeAt (n .benches) dir rounds) fakes fake-same v below (any-fake v ∙ here) r first in
@@ -242,7 +236,7 @@ module _ (b : Board) (n : Limits) (low high weight : List ℕ) (R : Rocks b n lo
     pub closing-goes-on : {joined′ : List ℕ} → v ≢ n .benches → 0 < k → joined′ ≡ set joined v i → Closing i dirs xs (k - 1) joined′
     closing-goes-on {joined′} ne more q =
         let below : v < b .benches =
-        below-of-ne v (b .benches) (subst (λ (m : ℕ). m ≤ b .benches) (sym closing-at) (least-le (b .benches) (joins b dirs (C .now-xs)))) (λ s. ne (s ∙ sym (R .benches))) in
+        lt-of-ne v (b .benches) (subst (λ (m : ℕ). m ≤ b .benches) (sym closing-at) (least-le (b .benches) (joins b dirs (C .now-xs)))) (λ s. ne (s ∙ sym (R .benches))) in
         record {
           now-xs = set (C .now-xs) v i;
           rounds = subst (λ (x : List ℕ). Rounds b (set (C .now-xs) v i) x) (sym q) (rounds-set b (C .now-xs) joined v i (C .rounds));

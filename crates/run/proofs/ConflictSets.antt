@@ -18,7 +18,7 @@ use lib.Dec.{eqb, leb, ltb}
 use lib.Seq.{getD-set-same, getD-set-other}
 use borrow.Author.Tests.{eq-eqb, ne-eqb, eqb-true, lt-ltb, le-leb}
 use Rattle.bools.proofs.BoolLaws.{split, clash, and-intro, and-left, and-right, and-false-left, or-left, or-right, not-true}
-use Rattle.bools.proofs.OrderLaws.{eq-or-ne}
+use Rattle.bools.proofs.OrderLaws.{eq-or-ne, lt-of-ne}
 use Rattle.sums.specs.Sum.{count}
 use Rattle.sums.specs.Search.{any, least}
 use Rattle.sums.proofs.SearchLaws.{any-intro, least-bound, least-none}
@@ -38,7 +38,7 @@ use Rattle.algorithm.proofs.ForcedLaws.{forced-call}
 use Rattle.algorithm.proofs.RoundSteps.{conflictSet-closed}
 use Rattle.run.proofs.ScanLaws.{lowest-least, rock-below, low-below, high-below, touches-at}
 use Rattle.run.proofs.ForcedRun.{other-at}
-use Rattle.run.proofs.ConflictRun.{below-of-ne, lowest-joining}
+use Rattle.run.proofs.ConflictRun.{lowest-joining}
 use Rattle.run.proofs.SetLaws.{or-isSet}
 
 pub or-has-left : (a c u : ℕ) → isSet 64 a u ≡ true → isSet 64 (bitOr a c) u ≡ true
@@ -182,7 +182,7 @@ module _ (b : Board) (n : Limits) (low high weight : List ℕ) (R : Rocks b n lo
                       let before : joinsAt (n .benches) low high dir joined r w ≡ true =
                       and-intro (ap not (sym (within-other (n .benches) joined v w i ne) ∙ out)) (and-intro towards-o (sym (within-other (n .benches) joined v o i far) ∙ in-o)) in
                       let low-v = lowest-bound (joinsAt (n .benches) low high dir joined) v e r w h t before in
-                      let beyond : v < w = below-of-ne v w low-v (λ s. ne (sym s)) in
+                      let beyond : v < w = lt-of-ne v w low-v (λ s. ne (sym s)) in
                       or-has-left rest more w (above w (omega (arith, R .few-benches, end-below r w h t)) ∙ and-intro (G .covers r w h t before) (lt-ltb v w beyond))
                 ]
               ];
@@ -303,7 +303,7 @@ module _ (b : Board) (n : Limits) (low high weight : List ℕ) (R : Rocks b n lo
                     let before : fakeAt (n .benches) dir joined s w ≡ true =
                     and-intro (eq-eqb (getD dir s 0) 0 (sym (getD-set-other dir r s (plusOf far 1) 0 other-rock) ∙ neutral-then)) in-w in
                     let low-v = lowest-bound (fakeAt (n .benches) dir joined) v e s w h t before in
-                    or-left (eqb w v) (above w small ∙ and-intro (C s w h t before) (lt-ltb v w (below-of-ne v w low-v (λ q. ne (sym q)))))
+                    or-left (eqb w v) (above w small ∙ and-intro (C s w h t before) (lt-ltb v w (lt-of-ne v w low-v (λ q. ne (sym q)))))
               ]
             ]
           ]

@@ -13,7 +13,7 @@ use lib.Dec.{eqb, ltb}
 use lib.Seq.{getD-set-same, getD-set-other}
 use borrow.Author.Tests.{eq-eqb, ne-eqb, lt-ltb, le-ltb}
 use Rattle.bools.proofs.BoolLaws.{split, and-intro, and-left, and-right}
-use Rattle.bools.proofs.OrderLaws.{eq-or-ne, lt-or-le}
+use Rattle.bools.proofs.OrderLaws.{eq-or-ne, lt-or-le, lt-of-ne}
 use Rattle.sums.specs.Sum.{on}
 use Rattle.sums.specs.Search.{any, least}
 use Rattle.sums.proofs.SearchLaws.{any-cong, any-false, least-cong, least-le, least-holds}
@@ -27,9 +27,6 @@ use Rattle.algorithm.proofs.StepLaws.{forces-touches, forces-neutral}
 use Rattle.algorithm.proofs.TurnLaws.{forcedJob-forces, inner-stop, inner-go, outer-stop, outer-go}
 use Rattle.run.proofs.MarkLaws.{marked-none, marked-set}
 use Rattle.run.proofs.ScanLaws.{board-lowest, board-first, rock-below}
-
-lt-of-ne : (a m : ℕ) → a ≤ m → a ≢ m → a < m
-lt-of-ne a m l ne = elim (lt-or-le a m) [ inl h ↦ h | inr h ↦ absurd (ne (omega arith)) ]
 
 -- ── the loops of the definition, turn by turn ──
 

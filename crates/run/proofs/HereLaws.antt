@@ -12,25 +12,13 @@ use lib.ListN.{length, getD, set, replicate, length-set, length-replicate, getD-
 use lib.Dec.{eqb, ltb}
 use lib.Seq.{getD-set-same, getD-set-other}
 use borrow.Author.Tests.{eq-eqb, ne-eqb, lt-ltb, le-ltb}
-use Rattle.bools.proofs.BoolLaws.{and-intro}
-use Rattle.bools.proofs.OrderLaws.{eq-or-ne, lt-or-le}
+use Rattle.bools.proofs.BoolLaws.{and-intro, and-unit, and-false-right, or-unit}
+use Rattle.bools.proofs.OrderLaws.{eq-or-ne, lt-or-le, lt-of-ne}
 use Rattle.bits.specs.Bits.{isSet}
 use Rattle.bits.proofs.SetBits.{isSet-zero}
 use Rattle.run.specs.declared.rocks.Limits.{Limits}
 use Rattle.run.specs.Arrays.{touchesAt, otherAt}
 use Rattle.run.specs.SetArrays.{Here, Near}
-
-or-none : (a : Bool) {b : Bool} → b ≡ false → (a || b) ≡ a
-or-none true e = refl
-or-none false e = e
-
-and-none : (a : Bool) {b : Bool} → b ≡ false → (a && b) ≡ false
-and-none true e = e
-and-none false e = refl
-
-and-all : (a : Bool) {b : Bool} → b ≡ true → (a && b) ≡ a
-and-all true e = e
-and-all false e = refl
 
 pub rock-added : (here : List ℕ) (v r m a : ℕ) {here′ : List ℕ} → a ≡ getD here v 0 → ((u : ℕ) → u < 64 → isSet 64 m u ≡ (isSet 64 a u || eqb u r))
     → here′ ≡ set here v m → (w u : ℕ) → w < length here → u < 64
@@ -43,7 +31,7 @@ rock-added here v r m a {here′} ea more e w u hw hu = ap (λ (xs : List ℕ). 
       ∙ sym (ap (λ (x : Bool). isSet 64 (getD here w 0) u || (x && eqb u r)) same)
   | inr ne ↦
       let away : (eqb w v && eqb u r) ≡ false = ap (λ (x : Bool). x && eqb u r) (ne-eqb w v ne) in
-      ap (λ (x : ℕ). isSet 64 x u) (getD-set-other here v w m 0 ne) ∙ sym (or-none (isSet 64 (getD here w 0) u) away)
+      ap (λ (x : ℕ). isSet 64 x u) (getD-set-other here v w m 0 ne) ∙ sym (or-unit (isSet 64 (getD here w 0) u) away)
 ]
 
 module _ (low high : List ℕ) where
@@ -68,16 +56,16 @@ module _ (low high : List ℕ) where
         let old : ltb u r ≡ false = le-ltb u r (omega arith) in
         let new : ltb u (r + 1) ≡ true = lt-ltb u (r + 1) (omega arith) in
         rw (now, old, new)
-        (ap₂ (λ (x y : Bool). x || y) (and-all (eqb v (getD low r 0)) refl ∙ ap (λ (k : ℕ). eqb v (getD low k 0)) (sym e))
-        (and-all (eqb v (getD high r 0)) refl ∙ ap (λ (k : ℕ). eqb v (getD high k 0)) (sym e)))
+        (ap₂ (λ (x y : Bool). x || y) (and-unit (eqb v (getD low r 0)) refl ∙ ap (λ (k : ℕ). eqb v (getD low k 0)) (sym e))
+        (and-unit (eqb v (getD high r 0)) refl ∙ ap (λ (k : ℕ). eqb v (getD high k 0)) (sym e)))
     | inr ne ↦
         let now : eqb u r ≡ false = ne-eqb u r ne in
         let same : ltb u r ≡ ltb u (r + 1) = elim (lt-or-le u r) [
           | inl l ↦ lt-ltb u r l ∙ sym (lt-ltb u (r + 1) (omega arith))
           | inr l ↦ le-ltb u r l ∙ sym (le-ltb u (r + 1) (elim (lt-or-le r u) [ inl k ↦ omega arith | inr k ↦ absurd (ne (omega arith)) ]))
         ] in
-        or-none ((ltb u r && touchesAt low high u v) || (eqb v (getD low r 0) && eqb u r)) (and-none (eqb v (getD high r 0)) now)
-        ∙ or-none (ltb u r && touchesAt low high u v) (and-none (eqb v (getD low r 0)) now) ∙ ap (λ (x : Bool). x && touchesAt low high u v) same
+        or-unit ((ltb u r && touchesAt low high u v) || (eqb v (getD low r 0) && eqb u r)) (and-false-right (eqb v (getD high r 0)) now)
+        ∙ or-unit (ltb u r && touchesAt low high u v) (and-false-right (eqb v (getD low r 0)) now) ∙ ap (λ (x : Bool). x && touchesAt low high u v) same
   ]
 
   pub filling-goes-on : (r lo hi : ℕ) (here here₁ : List ℕ) {here₂ : List ℕ} → Filling r here → lo ≡ getD low r 0 → hi ≡ getD high r 0
@@ -101,9 +89,6 @@ module _ (low high : List ℕ) where
 
 -- ── the other ends ──
 
-below-next : (u v : ℕ) → u < v + 1 → (u ≡ v → ⊥) → u < v
-below-next u v h ne = elim (lt-or-le u v) [ inl l ↦ l | inr l ↦ absurd (ne (omega arith)) ]
-
 module _ (low high here : List ℕ) where
   pub record Nearing (v : ℕ) (near : List ℕ) : Type 0 where
     pub long : length near ≡ 64
@@ -125,7 +110,7 @@ module _ (low high here : List ℕ) where
               (ap (λ (x : ℕ). isSet 64 x (otherAt low high r v)) (getD-set-same near v s 0 (omega (arith, N .long)))
               ∙ others r hr (ap (λ (x : ℕ). isSet 64 x r) (ea ∙ ap (λ (k : ℕ). getD here k 0) (sym at)) ∙ p) (subst (λ (k : ℕ). otherAt low high r k < 64) at o))
           | inr ne ↦
-              ap (λ (x : ℕ). isSet 64 x (otherAt low high r u)) (getD-set-other near v u s 0 ne) ∙ N .ends r u (below-next u v h ne) hu hr p o
+              ap (λ (x : ℕ). isSet 64 x (otherAt low high r u)) (getD-set-other near v u s 0 ne) ∙ N .ends r u (lt-of-ne u v (omega arith) ne) hu hr p o
         ];
       }
 

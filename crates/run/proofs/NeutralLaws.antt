@@ -6,8 +6,8 @@
 --     neutral-starts            where no rock is directed, every rock is neutral
 --     neutral-next              after a rock is directed, the set loses it
 use Prim.Native.Nat.{ℕ, _+_, _≤_, _<_}
-use mathlib.Core.Path.{_≡_, refl, sym, ap, _∙_}
-use mathlib.Core.Bool.{Bool, true, false, not, _&&_, _||_}
+use mathlib.Core.Path.{_≡_, sym, ap, _∙_}
+use mathlib.Core.Bool.{Bool, true, not, _&&_, _||_}
 use mathlib.Core.Logic.{inl, inr}
 use mathlib.Core.List.{List}
 use native.Mathlib.Omega.{arith}
@@ -15,7 +15,7 @@ use lib.ListN.{length, getD, set, replicate, getD-replicate}
 use lib.Dec.{eqb, ltb}
 use lib.Seq.{getD-set-same, getD-set-other}
 use borrow.Author.Tests.{eq-eqb, ne-eqb, lt-ltb, ltb-true}
-use Rattle.bools.proofs.BoolLaws.{split, and-left, and-false-left, and-false-right, or-right, or-false, not-intro-true, not-intro-false}
+use Rattle.bools.proofs.BoolLaws.{split, and-left, and-false-left, and-false-right, or-right, or-false, not-intro-true, not-intro-false, and-unit}
 use Rattle.bools.proofs.OrderLaws.{eq-or-ne}
 use Rattle.sums.specs.Search.{least}
 use Rattle.sums.proofs.SearchLaws.{least-cong}
@@ -43,10 +43,6 @@ BothOf set a c = (u : ℕ) → isSet 64 set u ≡ (isSet 64 a u && isSet 64 c u)
 
 abbrev pub exceedsAt : ℕ → List ℕ → List ℕ → ℕ → ℕ → Bool
 exceedsAt bound weight load v r = ltb bound (getD load v 0 + getD weight r 0)
-
-and-true : (a : Bool) {c : Bool} → c ≡ true → (a && c) ≡ a
-and-true true e = e
-and-true false e = refl
 
 -- ── the neutral rocks at a bench ──
 
@@ -82,7 +78,7 @@ module _ (n : Limits) (low high dir here : List ℕ) (neutral : ℕ) (H : Here n
   pub fake-lowest : (benches : ℕ) (joined : List ℕ) → withinAt benches joined v ≡ true → (r : ℕ) → r ≡ lowestOf set → r ≡ rockOf here (fakeAt benches dir joined) v
   unfolding rockOf lowestOf
   fake-lowest benches joined p r e =
-      e ∙ least-cong 64 (isSet 64 set) (λ k. isSet 64 set k && withinAt benches joined v) (λ k l. sym (and-true (isSet 64 set k) p))
+      e ∙ least-cong 64 (isSet 64 set) (λ k. isSet 64 set k && withinAt benches joined v) (λ k l. sym (and-unit (isSet 64 set k) p))
       ∙ free-least (λ k. withinAt benches joined v)
 
 -- ── how the set changes ──
@@ -104,5 +100,5 @@ neutral-next n dir r u room {dir′} ed one neutral neutral′ single less N k b
           ∙ sym (and-false-right (isSet 64 neutral k) (not-intro-false (single k h ∙ or-right (isSet 64 0 k) (eq-eqb k r e))))
       | inr ne ↦
           ap (λ (i : ℕ). eqb i 0) (getD-set-other dir r k (plusOf u 1) 0 ne) ∙ sym (N k below h)
-          ∙ sym (and-true (isSet 64 neutral k) (not-intro-true (single k h ∙ or-false (isSet-zero 64 k) (ne-eqb k r ne))))
+          ∙ sym (and-unit (isSet 64 neutral k) (not-intro-true (single k h ∙ or-false (isSet-zero 64 k) (ne-eqb k r ne))))
     ])

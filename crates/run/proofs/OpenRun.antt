@@ -13,8 +13,8 @@ use lib.Dec.{eqb, leb, ltb}
 use lib.ListN.{length, getD, set, length-set}
 use lib.Seq.{getD-set-same, getD-set-other}
 use borrow.Author.Tests.{lt-ltb, le-ltb, eq-eqb, ne-eqb}
-use Rattle.bools.proofs.BoolLaws.{split, clash, tests, bool-ext, and-intro, and-left, and-right, and-false-left, and-false-right, not-intro-true, or-nothing}
-use Rattle.bools.proofs.OrderLaws.{eq-or-ne, lt-or-le}
+use Rattle.bools.proofs.BoolLaws.{split, clash, tests, bool-ext, and-intro, and-left, and-right, and-false-left, and-false-right, not-intro-true, or-nothing, and-unit, or-unit}
+use Rattle.bools.proofs.OrderLaws.{eq-or-ne, lt-of-ne}
 use Rattle.sums.proofs.SearchLaws.{any-intro, any-false}
 use Rattle.bits.specs.Bits.{isSet}
 use Rattle.bits.proofs.SetBits.{isSet-zero}
@@ -23,13 +23,6 @@ use Rattle.run.specs.Arrays.{withinAt}
 use Rattle.run.specs.CandidateArrays.{someRock}
 use Rattle.run.proofs.SetLaws.{lowest-holds}
 use Rattle.run.proofs.SetRun.{Searched}
-
-and-one : (a : Bool) → (a && true) ≡ a
-and-one true = refl
-and-one false = refl
-
-strict : (a m : ℕ) → a < m + 1 → a ≢ m → a < m
-strict a m h ne = elim (lt-or-le a m) [ inl l ↦ l | inr l ↦ absurd (ne (omega arith)) ]
 
 -- What stays out of a set without u, and is not u, was out before.
 still : (left left′ u v : ℕ) → isSet 64 left′ v ≡ (isSet 64 left v && not (eqb v u)) → isSet 64 left′ v ≡ false → v ≢ u → isSet 64 left v ≡ false
@@ -51,7 +44,7 @@ add-here f k c e =
     let p : ltb k k ≡ false = le-ltb k k (omega arith) in
     let q : ltb k (k + 1) ≡ true = lt-ltb k (k + 1) (omega arith) in
     let s : eqb k k ≡ true = eq-eqb k k refl in
-    rw (p, q, s) (and-one c ∙ e)
+    rw (p, q, s) (and-unit c refl ∙ e)
 
 pub gathered-more : (f : ℕ → Bool) (k s s′ : ℕ) (c : Bool) → Gathered f k s → c ≡ f k → ((u : ℕ) → u < 64 → isSet 64 s′ u ≡ (isSet 64 s u || (c && eqb u k)))
     → Gathered f (k + 1) s′
@@ -62,8 +55,8 @@ gathered-more f k s s′ c G e step =
         | inr ne ↦
             let away : (c && eqb u k) ≡ false = and-false-right c (ne-eqb u k ne) in
             let same : ltb u k ≡ ltb u (k + 1) =
-            bool-ext (ltb u k) (ltb u (k + 1)) (λ p. lt-ltb u (k + 1) (omega tests)) (λ p. lt-ltb u k (strict u k (omega tests) ne)) in
-            ap (λ (x : Bool). (ltb u k && f u) || x) away ∙ or-nothing (ltb u k && f u) ∙ ap (λ (x : Bool). x && f u) same
+            bool-ext (ltb u k) (ltb u (k + 1)) (λ p. lt-ltb u (k + 1) (omega tests)) (λ p. lt-ltb u k (lt-of-ne u k (omega tests) ne)) in
+            or-unit (ltb u k && f u) away ∙ ap (λ (x : Bool). x && f u) same
       ];
     }
 
@@ -71,7 +64,7 @@ pub gathered-all : (f : ℕ → Bool) (k s : ℕ) {m : ℕ} → Gathered f k s �
 gathered-all f k s G e u h = G .has u h ∙ ap (λ (x : ℕ). ltb u x && f u) e
 
 pub gathered-every : (k s : ℕ) {m : ℕ} → Gathered (λ u. true) k s → k ≡ m → (u : ℕ) → u < 64 → isSet 64 s u ≡ ltb u m
-gathered-every k s G e u h = G .has u h ∙ and-one (ltb u k) ∙ ap (λ (x : ℕ). ltb u x) e
+gathered-every k s G e u h = G .has u h ∙ and-unit (ltb u k) refl ∙ ap (λ (x : ℕ). ltb u x) e
 
 -- All of the 64 numbers were passed.
 pub gathered-wide : (f : ℕ → Bool) (k s : ℕ) → Gathered f k s → 64 ≤ k → (u : ℕ) → u < 64 → isSet 64 s u ≡ f u

@@ -4,7 +4,6 @@
 --     goalAt, goal-none, goal-next     the benches that may receive a pebble from a bench
 --     Fills, fills-more        the entries of a list after one turn more of the loop
 --     opens, opens-not, opens-nowhere, opens-more     the benches to which a job may go, and a job that goes nowhere
---     within-same              a round of the arrays is one of the exploration where the board says so
 --     levels-end               after the loop the sets of the levels are those of the board
 --     goals-end                after the loop the goals are those of the board
 --     push-none, push-found    no pair meets PUSH, and the first that does
@@ -27,7 +26,7 @@ use Rattle.bits.specs.Bits.{isSet}
 use Rattle.bits.proofs.SetBits.{isSet-digit, isSet-zero}
 use Rattle.run.specs.declared.rocks.Limits.{Limits}
 use Rattle.algorithm.specs.Board.{Board, touches, other, towards, load}
-use Rattle.algorithm.specs.Explore.{Explored, roundOf, within, inConflict, activated, father, child}
+use Rattle.algorithm.specs.Explore.{Explored, roundOf, inConflict, activated, father, child}
 use Rattle.algorithm.specs.Push.{leaf, lightFathers, canPush, pushJob, pushBench}
 use Rattle.run.specs.Arrays.{plusOf, touchesAt, otherAt, withinAt, fatherAt, childAt, rocksOf, rockAt, Rocks, Owned, Rounds}
 use Rattle.run.specs.Shown.{Shown}
@@ -35,6 +34,7 @@ use Rattle.run.specs.PushArrays.{hasAt, heavyAt, receivesAt, receiving, 
 use Rattle.algorithm.proofs.BoardLaws.{other-below}
 use Rattle.run.proofs.ScanLaws.{and-assoc, rock-below, board-any}
 use Rattle.run.proofs.ForcedRun.{plus-one, other-at}
+use Rattle.run.proofs.ConflictRun.{within-same}
 use Rattle.run.proofs.SetLaws.{and-isSet}
 use Rattle.run.proofs.ReceiverLaws.{Ends, Levels}
 
@@ -54,9 +54,6 @@ all-not (suc n) f g e = ap₂ _&&_ (all-not n f g e) (e n) ∙ not-either (any n
 
 leb-not-ltb : (a m : ℕ) → leb a m ≡ not (ltb m a)
 leb-not-ltb a m = bool-ext (leb a m) (not (ltb m a)) (λ p. not-intro-true (le-ltb m a (leb-true a m p))) (λ p. omega tests)
-
-leb-ltb : (a m : ℕ) → leb a m ≡ ltb a (suc m)
-leb-ltb a m = bool-ext (leb a m) (ltb a (suc m)) (λ p. omega tests) (λ p. omega tests)
 
 -- The bench that the pebble comes from is activated where the other tests hold.
 regroup : (al from eq ac ll lf : Bool) → (ac ≡ true → eq ≡ true → from ≡ true) → (al && (from && (eq && ((ac && ll) && lf)))) ≡ ((((al && ac) && eq) && ll) && lf)
@@ -130,9 +127,6 @@ opens-more f j before e i l = elim (last-or-below {i = i} {n = j} (omega arith))
 -- ── of a board ──
 
 module _ (b : Board) (n : Limits) (low high weight : List ℕ) (R : Rocks b n low high weight) where
-  pub within-same : (xs rounds : List ℕ) → Rounds b xs rounds → (v : ℕ) → v < b .benches → withinAt (n .benches) rounds v ≡ within b xs v
-  within-same xs rounds L v h = ap₂ leb (L .entries v h) (R .benches) ∙ leb-ltb (roundOf b xs v) (b .benches)
-
   -- ── the benches that may receive ──
 
   module _ (x : Explored) (own dir loads joins levels : List ℕ) (O : Owned b own) (S : Shown b x dir loads joins levels) where
@@ -149,7 +143,7 @@ module _ (b : Board) (n : Limits) (low high weight : List ℕ) (R : Rocks b n lo
         → withinAt (n .benches) joins (otherAt low high r v) ≡ inConflict b x (other b (rockAt b r) v)
     joined-far r v h t =
         ap (λ (k : ℕ). withinAt (n .benches) joins k) (other-at b n low high weight R r v h)
-        ∙ within-same (x .joined) joins (S .joined) (other b (rockAt b r) v) (other-below b (R .sound) (rockAt b r) v (rock-below b n low high weight R r h) t)
+        ∙ within-same b n low high weight R (x .joined) joins (S .joined) (other b (rockAt b r) v) (other-below b (R .sound) (rockAt b r) v (rock-below b n low high weight R r h) t)
 
     child-same : (r v : ℕ) → r < rocksOf b → v < b .benches → touches b (rockAt b r) v ≡ true
         → childAt (n .benches) low high dir joins r v ≡ childThere (rockAt b r) v
@@ -199,7 +193,7 @@ module _ (b : Board) (n : Limits) (low high weight : List ℕ) (R : Rocks b n lo
       receives-same : (v : ℕ) → v < b .benches → receivesAt (n .benches) (n .limit) loads levels children heavy v ≡ receiving b x v
       receives-same v l =
           let small : v < 64 = omega (arith, R .few-benches) in
-          ap₂ _&&_ (within-same (x .level) levels (S .level) v l)
+          ap₂ _&&_ (within-same b n low high weight R (x .level) levels (S .level) v l)
           (ap₂ _&&_ (ap₂ leb (S .seen .loaded .entries v l) (R .limit))
           (ap₂ _||_ (ap not (has-set children v small ∙ C v small) ∙ leaf-same v l) (ap not (has-set heavy v small ∙ H v small) ∙ light-same v l)))
           ∙ sym (and-assoc (activated b x v) (leb (load b (x .dir) v) (b .limit)) (leaf b x v || lightFathers b x v))
@@ -228,13 +222,13 @@ module _ (b : Board) (n : Limits) (low high weight : List ℕ) (R : Rocks b n lo
         | inl p ↦
             let near : round u ≤ b .benches = omega (arith, ltb-true (round u) (suc (b .benches)) p) in
             let next : plusOf (getD level u 0) 1 ≡ round u + 1 = ap (λ (k : ℕ). plusOf k 1) (L .entries u hu) ∙ plus-one (round u) (omega (arith, R .few-benches)) ∙ omega arith in
-            let inside : withinAt (n .benches) level u ≡ true = within-same (x .level) level L u hu ∙ p in
+            let inside : withinAt (n .benches) level u ≡ true = within-same b n low high weight R (x .level) level L u hu ∙ p in
             let there : goalAt (n .benches) level wanted u ≡ getD wanted (round u + 1) 0 = rw inside (ap (λ (k : ℕ). getD wanted k 0) next) in
             ap (λ (k : ℕ). isSet 64 k v) there ∙ W .entries (round u + 1) v (omega (arith, R .few-benches)) hv
             ∙ ap (λ (k : Bool). k && receiving b x v) (eqb-sym (round u + 1) (round v))
             ∙ sym (ap (λ (k : Bool). k && (eqb (round v) (round u + 1) && receiving b x v)) p)
         | inr p ↦
-            let outside : withinAt (n .benches) level u ≡ false = within-same (x .level) level L u hu ∙ p in
+            let outside : withinAt (n .benches) level u ≡ false = within-same b n low high weight R (x .level) level L u hu ∙ p in
             let none : goalAt (n .benches) level wanted u ≡ 0 = rw outside in
             ap (λ (k : ℕ). isSet 64 k v) none ∙ isSet-zero 64 v
             ∙ sym (and-false-left (eqb (round v) (round u + 1) && receiving b x v) p)

@@ -16,21 +16,13 @@ use lib.Dec.{eqb, ltb}
 use lib.ListN.{length, getD, set}
 use lib.Seq.{getD-set-same, getD-set-other}
 use borrow.Author.Tests.{eq-eqb, ne-eqb, eqb-true, lt-ltb, le-ltb}
-use Rattle.bools.proofs.BoolLaws.{split, and-intro, and-false-left, and-false-right}
+use Rattle.bools.proofs.BoolLaws.{split, and-intro, and-false-left, and-false-right, and-unit, or-unit}
 use Rattle.bools.proofs.OrderLaws.{eq-or-ne, lt-or-le}
 use Rattle.sums.specs.Search.{any}
 use Rattle.bits.specs.Bits.{isSet}
 use Rattle.bits.proofs.SetBits.{isSet-zero}
 use Rattle.run.specs.Arrays.{plusOf, touchesAt, withinAt, childAt}
 use Rattle.run.specs.PushArrays.{heavyAt}
-
-or-nothing : (a : Bool) {b : Bool} → b ≡ false → (a || b) ≡ a
-or-nothing true e = refl
-or-nothing false e = e
-
-and-all : (a : Bool) {b : Bool} → b ≡ true → (a && b) ≡ a
-and-all true e = e
-and-all false e = refl
 
 -- ── one edge more ──
 
@@ -42,7 +34,7 @@ pub set-with : (old v new : ℕ) {c t : Bool} → t ≡ c → t ≡ true → ((u
 set-with old v new {c} e p more u h = let x : c ≡ true = sym e ∙ p in more u h ∙ rw x
 
 pub set-without : (old v : ℕ) {c t : Bool} → t ≡ c → t ≡ false → Joins old c v old
-set-without old v {c} e p u h = sym (or-nothing (isSet 64 old u) (and-false-left (eqb u v) (sym e ∙ p)))
+set-without old v {c} e p u h = sym (or-unit (isSet 64 old u) (and-false-left (eqb u v) (sym e ∙ p)))
 
 module _ (limit : ℕ) (own : List ℕ) (old v w : ℕ) {c t : Bool} (e : t ≡ c) where
   pub edge-heavy : (new : ℕ) {o : ℕ} {x : Bool} → t ≡ true → o ≡ getD own v 0 → x ≡ ltb limit (o + w) → x ≡ true
@@ -68,7 +60,7 @@ module _ (P Q : ℕ → Bool) (d lo hi v : ℕ) (small : v < 64) where
 
   child-low : d ≡ plusOf lo 1 → (P hi && eqb v lo) ≡ isChild
   child-low ed = elim (eq-or-ne v lo) [
-    | inl e ↦ rw (eq-eqb v lo e, eq-eqb d (plusOf v 1) (ed ∙ ap (λ (k : ℕ). plusOf k 1) (sym e))) (and-all (P hi) refl)
+    | inl e ↦ rw (eq-eqb v lo e, eq-eqb d (plusOf v 1) (ed ∙ ap (λ (k : ℕ). plusOf k 1) (sym e))) (and-unit (P hi) refl)
     | inr ne ↦
         let far : eqb d (plusOf v 1) ≡ false = ne-eqb d (plusOf v 1) (λ q. ne (omega (arith, ed, q))) in
         rw (ne-eqb v lo ne, far) (and-false-right (P hi) refl ∙ sym (and-false-right (eqb v hi) refl))
@@ -80,14 +72,14 @@ module _ (P Q : ℕ → Bool) (d lo hi v : ℕ) (small : v < 64) where
       | inl f ↦
           let same : lo ≡ hi = sym e ∙ f in
           rw (eq-eqb v lo e, eq-eqb v hi f, eq-eqb d (plusOf hi 1) (ed ∙ ap (λ (k : ℕ). plusOf k 1) same))
-          (and-all (P lo && Q hi) refl ∙ ap₂ (λ (a b : ℕ). P a && Q b) same (sym f))
+          (and-unit (P lo && Q hi) refl ∙ ap₂ (λ (a b : ℕ). P a && Q b) same (sym f))
       | inr ne ↦
           let far : eqb d (plusOf hi 1) ≡ false = ne-eqb d (plusOf hi 1) (λ q. ne (omega (arith, ed, q, e))) in
           rw (eq-eqb v lo e, ne-eqb v hi ne, far) (and-false-right (P lo && Q hi) refl)
     ]
     | inr ne ↦ elim (eq-or-ne v hi) [
       | inl f ↦
-          rw (ne-eqb v lo ne, eq-eqb v hi f, eq-eqb d (plusOf lo 1) ed) (and-all (P lo && Q hi) refl ∙ ap (λ (k : ℕ). P lo && Q k) (sym f))
+          rw (ne-eqb v lo ne, eq-eqb v hi f, eq-eqb d (plusOf lo 1) ed) (and-unit (P lo && Q hi) refl ∙ ap (λ (k : ℕ). P lo && Q k) (sym f))
       | inr g ↦ rw (ne-eqb v lo ne, ne-eqb v hi g) (and-false-right (P lo && Q hi) refl)
     ]
   ]
@@ -99,7 +91,7 @@ module _ (P Q : ℕ → Bool) (d lo hi v : ℕ) (small : v < 64) where
         let apart : eqb v hi ≡ false = ne-eqb v hi (λ f. ned (ed ∙ ap (λ (k : ℕ). plusOf k 1) (sym f ∙ e))) in
         rw (eq-eqb v lo e, apart, far) (and-false-right (P lo) refl)
     | inr ne ↦ elim (eq-or-ne v hi) [
-      | inl f ↦ rw (ne-eqb v lo ne, eq-eqb v hi f, eq-eqb d (plusOf v 1) (ed ∙ ap (λ (k : ℕ). plusOf k 1) (sym f))) (and-all (P lo) refl)
+      | inl f ↦ rw (ne-eqb v lo ne, eq-eqb v hi f, eq-eqb d (plusOf v 1) (ed ∙ ap (λ (k : ℕ). plusOf k 1) (sym f))) (and-unit (P lo) refl)
       | inr g ↦ rw (ne-eqb v lo ne, ne-eqb v hi g) (and-false-right (P lo) refl)
     ]
   ]
@@ -107,7 +99,7 @@ module _ (P Q : ℕ → Bool) (d lo hi v : ℕ) (small : v < 64) where
   heavy-high : d ≢ plusOf lo 1 → d ≡ plusOf hi 1 → ((P hi && Q lo) && eqb v lo) ≡ isHeavy
   heavy-high ned ed = elim (eq-or-ne v lo) [
     | inl e ↦
-        rw (eq-eqb v lo e, eq-eqb d (plusOf hi 1) ed) (and-all (P hi && Q lo) refl ∙ ap (λ (k : ℕ). P hi && Q k) (sym e))
+        rw (eq-eqb v lo e, eq-eqb d (plusOf hi 1) ed) (and-unit (P hi && Q lo) refl ∙ ap (λ (k : ℕ). P hi && Q k) (sym e))
     | inr ne ↦
         rw (ne-eqb v lo ne, ne-eqb d (plusOf lo 1) ned) (and-false-right (P hi && Q lo) refl ∙ sym (and-false-right (eqb v hi) refl))
   ]
@@ -177,8 +169,8 @@ module _ (benches limit : ℕ) (low high weight own dir joined : List ℕ) (chil
   to-none es nl et nh =
       let not-low : getD dir r 0 ≢ plusOf (getD low r 0) 1 = λ q. nl (ed ∙ q ∙ sym (es ∙ ap (λ (k : ℕ). plusOf k 1) elo)) in
       let not-high : getD dir r 0 ≢ plusOf (getD high r 0) 1 = λ q. nh (ed ∙ q ∙ sym (et ∙ ap (λ (k : ℕ). plusOf k 1) ehi)) in (
-        λ v h. sym (or-nothing (isSet 64 children v) (child-none inside weighty (getD dir r 0) (getD low r 0) (getD high r 0) v h not-low not-high)),
-        λ v h. sym (or-nothing (isSet 64 heavy v) (heavy-none inside weighty (getD dir r 0) (getD low r 0) (getD high r 0) v h not-low not-high)),
+        λ v h. sym (or-unit (isSet 64 children v) (child-none inside weighty (getD dir r 0) (getD low r 0) (getD high r 0) v h not-low not-high)),
+        λ v h. sym (or-unit (isSet 64 heavy v) (heavy-none inside weighty (getD dir r 0) (getD low r 0) (getD high r 0) v h not-low not-high)),
       )
 
 -- ── the loop over the rocks ──
@@ -215,17 +207,17 @@ module _ (level : List ℕ) (f : ℕ → Bool) (t : List ℕ) (v : ℕ) where
             ap (λ (k : List ℕ). getD k l 0) es ∙ ap (λ (k : ℕ). getD (set t m new) k 0) e ∙ getD-set-same t m new 0 (subst (λ (k : ℕ). k < length t) e h) in
             let was : old ≡ getD t l 0 = eo ∙ ap (λ (k : ℕ). getD t k 0) (sym e) in
             ap (λ (k : ℕ). isSet 64 k u) becomes ∙ more u hu
-            ∙ ap₂ (λ (x y : Bool). x || y) (ap (λ (k : ℕ). isSet 64 k u) was) (sym (and-all (eqb u v) (and-intro q open-here)))
+            ∙ ap₂ (λ (x y : Bool). x || y) (ap (λ (k : ℕ). isSet 64 k u) was) (sym (and-unit (eqb u v) (and-intro q open-here)))
         | inr ne ↦
             let q : eqb l (getD level v 0) ≡ false = ne-eqb l (getD level v 0) (λ e. ne (e ∙ sym em)) in
             ap (λ (k : List ℕ). isSet 64 (getD k l 0) u) es ∙ ap (λ (k : ℕ). isSet 64 k u) (getD-set-other t m l new 0 ne)
-            ∙ sym (or-nothing (isSet 64 (getD t l 0) u) (and-false-right (eqb u v) (and-false-left (f v) q)))
+            ∙ sym (or-unit (isSet 64 (getD t l 0) u) (and-false-right (eqb u v) (and-false-left (f v) q)))
       ]
 
   pub receiver-none : {c : Bool} → c ≡ f v → c ≡ false → (l u : ℕ) → l < length t → u < 64
       → isSet 64 (getD t l 0) u ≡ (isSet 64 (getD t l 0) u || (eqb u v && (eqb l (getD level v 0) && f v)))
   receiver-none ec p l u h hu =
-      sym (or-nothing (isSet 64 (getD t l 0) u) (and-false-right (eqb u v) (and-false-right (eqb l (getD level v 0)) (sym ec ∙ p))))
+      sym (or-unit (isSet 64 (getD t l 0) u) (and-false-right (eqb u v) (and-false-right (eqb l (getD level v 0)) (sym ec ∙ p))))
 
 -- ── the loop over the benches ──
 
@@ -262,7 +254,7 @@ module _ (level : List ℕ) (f : ℕ → Bool) (t₀ : List ℕ) where
 
   pub levels-none : Levels 0 t₀
   levels-none l u h k =
-      sym (or-nothing (isSet 64 (getD t₀ l 0) u) (and-false-left (eqb l (getD level u 0) && f u) (le-ltb u 0 (omega arith))))
+      sym (or-unit (isSet 64 (getD t₀ l 0) u) (and-false-left (eqb l (getD level u 0) && f u) (le-ltb u 0 (omega arith))))
 
   pub levels-more : (v : ℕ) (t s : List ℕ) → length t ≡ length t₀ → Levels v t
       → ((l u : ℕ) → l < length t → u < 64

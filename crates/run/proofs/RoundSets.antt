@@ -14,7 +14,7 @@ use lib.Bits.{bitOr}
 use lib.ListN.{length, getD, replicate, length-replicate, getD-replicate}
 use lib.Dec.{eqb, leb, ltb}
 use borrow.Author.Tests.{lt-ltb, le-ltb, eq-eqb, ne-eqb, eqb-true, le-leb, ltb-true}
-use Rattle.bools.proofs.BoolLaws.{split, clash, tests, and-intro, and-left, and-right, and-false-left, and-false-right, or-left, or-right, or-elim, not-intro-true, not-true}
+use Rattle.bools.proofs.BoolLaws.{split, clash, tests, and-intro, and-left, and-right, and-false-left, and-false-right, or-left, or-right, or-elim, not-intro-true, not-true, or-unit, cond-true, cond-false}
 use Rattle.bools.proofs.OrderLaws.{eq-or-ne, lt-or-le}
 use Rattle.sums.specs.Search.{any}
 use Rattle.sums.proofs.SearchLaws.{any-intro}
@@ -77,19 +77,9 @@ within-never m xs v few e = elim (split (withinAt m xs v)) [
   | inr p ↦ p
 ]
 
-cond-true : {c : Bool} (x y : ℕ) → c ≡ true → cond c x y ≡ x
-cond-true x y e = rw e
-
-cond-false : {c : Bool} (x y : ℕ) → c ≡ false → cond c x y ≡ y
-cond-false x y e = rw e
-
 cond-first : (c a x b y : Bool) → b ≡ a → cond c (a && x) (b && y) ≡ true → a ≡ true
 cond-first true a x b y e p = and-left a x p
 cond-first false a x b y e p = sym e ∙ and-left b y p
-
-or-none : (a : Bool) {b : Bool} → b ≡ false → a ≡ (a || b)
-or-none true e = refl
-or-none false e = sym e
 
 -- Who waits after some of those who waited got round i.
 pub waits-left : (n : Limits) (i : ℕ) (joined level level′ : List ℕ) (asked left : ℕ) → i ≤ n .benches → n .benches ≤ 64 → n .benches ≤ length level
@@ -255,7 +245,7 @@ module _ (n : Limits) (low high weight : List ℕ) where
                 after-went v h ∙ cond-true i (getD level′ v 0) p ∙ sym (cond-true i (getD level v 0) (is-fresh v ∙ or-right (isSet 64 opened v) p))
             | inr p ↦
                 after-went v h ∙ cond-false i (getD level′ v 0) p ∙ raised-at v h
-                ∙ ap (λ (c : Bool). cond c i (getD level v 0)) (or-none (isSet 64 opened v) p ∙ sym (is-fresh v))
+                ∙ ap (λ (c : Bool). cond c i (getD level v 0)) (sym (or-unit (isSet 64 opened v) p) ∙ sym (is-fresh v))
           ]
 
           fresh-below : (v : ℕ) → v < 64 → isSet 64 fresh′ v ≡ true → v < n .benches
@@ -279,7 +269,7 @@ module _ (n : Limits) (low high weight : List ℕ) where
                       or-right (isSet 64 active v) p
                       ∙ sym (within-now (n .benches) i level″ v in-time (after-round v h ∙ cond-true i (getD level v 0) p))
                   | inr p ↦
-                      sym (or-none (isSet 64 active v) p) ∙ S .actives v h
+                      or-unit (isSet 64 active v) p ∙ S .actives v h
                       ∙ sym (within-of (n .benches) level″ level v (after-round v h ∙ cond-false i (getD level v 0) p))
                 ];
                 freshly = λ v h. elim (split (isSet 64 fresh′ v)) [

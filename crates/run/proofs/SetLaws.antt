@@ -1,4 +1,5 @@
 -- Sets of numbers below 64 as numbers.
+--     or-bit                    a digit of a or b
 --     and-isSet, or-isSet, less-isSet     the numbers that both sets have, that one has, and that the first has and the second lacks
 --     lowest-first              the lowest number of a set: it is in the set, and none below it
 --     above-set                 the numbers of a set that are higher than one
@@ -14,8 +15,8 @@ use native.Mathlib.Nat.{mod-lt, mul-le-mul, le-refl}
 use lib.Pow.{field, mod-mod-pow, pow-pos, pow-lt, pow-mono, shr-lt}
 use lib.Pow.{split as parts-of}
 use borrow.Author.Tests.{eq-eqb, ne-eqb, eqb-true, lt-ltb, le-ltb}
-use Rattle.bools.proofs.BoolLaws.{and-intro, and-false-left, and-false-right, not-intro-true}
-use Rattle.bools.proofs.OrderLaws.{eq-or-ne, lt-or-le}
+use Rattle.bools.proofs.BoolLaws.{and-intro, and-false-left, and-false-right, not-intro-true, and-unit}
+use Rattle.bools.proofs.OrderLaws.{eq-or-ne, lt-or-le, lt-of-ne}
 use Rattle.sums.proofs.SearchLaws.{least-holds, least-before}
 use Rattle.bits.specs.Bits.{isSet}
 use Rattle.bits.proofs.SetBits.{isSet-digit, isSet-past, isSet-zero}
@@ -50,6 +51,9 @@ and-isSet a b u = elim (lt-or-le u 64) [
 or-odd : (a b : ℕ) → bitOr a b % 2 ≡ max (a % 2) (b % 2)
 or-odd a b = ap (λ (k : ℕ). k % 2) (or-step a b) ∙ even-plus (bitOr (a / 2) (b / 2)) (max (a % 2) (b % 2)) (omega arith)
 
+pub or-bit : (a b k : ℕ) → bitOr a b / 2 ^ k % 2 ≡ max (a / 2 ^ k % 2) (b / 2 ^ k % 2)
+or-bit a b k = ap (λ (x : ℕ). x % 2) (or-shr a b k) ∙ or-odd (a / 2 ^ k) (b / 2 ^ k)
+
 max-one : (x y : ℕ) → x < 2 → y < 2 → eqb (max x y) 1 ≡ (eqb x 1 || eqb y 1)
 max-one x y hx hy = elim (eq-or-ne x 1) [
   | inl e ↦ eq-eqb (max x y) 1 (omega arith) ∙ sym (ap (λ (k : Bool). k || eqb y 1) (eq-eqb x 1 e))
@@ -63,7 +67,7 @@ pub or-isSet : (a b u : ℕ) → isSet 64 (bitOr a b) u ≡ (isSet 64 a u || isS
 or-isSet a b u = elim (lt-or-le u 64) [
   | inl l ↦
       rw (isSet-digit 64 (bitOr a b) u l, isSet-digit 64 a u l, isSet-digit 64 b u l)
-      (ap (λ (x : ℕ). eqb x 1) (ap (λ (x : ℕ). x % 2) (or-shr a b (64 - 1 - u)) ∙ or-odd (a / 2 ^ (64 - 1 - u)) (b / 2 ^ (64 - 1 - u)))
+      (ap (λ (x : ℕ). eqb x 1) (or-bit a b (64 - 1 - u))
       ∙ max-one (a / 2 ^ (64 - 1 - u) % 2) (b / 2 ^ (64 - 1 - u) % 2) (omega arith) (omega arith))
   | inr l ↦ rw (isSet-past 64 (bitOr a b) u l, isSet-past 64 a u l, isSet-past 64 b u l)
 ]
@@ -98,10 +102,6 @@ less-isSet a b u = elim (lt-or-le u 64) [
 ]
 
 -- ── a set without its lowest number ──
-
-and-true : (a : Bool) {b : Bool} → b ≡ true → (a && b) ≡ a
-and-true true e = e
-and-true false e = refl
 
 none-left : (n k : ℕ) → n < 2 ^ k → n / 2 ^ k ≡ 0
 none-left n k h =
@@ -141,15 +141,12 @@ after-below s x y l h =
     let wider : 2 ^ (63 - x) ≤ 2 ^ (64 - 1 - y) = pow-mono (omega arith) in
     rw (isSet-digit 64 (s % 2 ^ (63 - x)) y (omega arith)) (ap (λ (k : ℕ). eqb (k % 2) 1) (none-left (s % 2 ^ (63 - x)) (64 - 1 - y) (omega arith)))
 
-strict : (x y : ℕ) → x ≤ y → (x ≡ y → ⊥) → x < y
-strict x y h ne = elim (lt-or-le x y) [ inl l ↦ l | inr l ↦ absurd (ne (omega arith)) ]
-
 pub after-set : (set v u : ℕ) → v ≡ lowestOf set → v < 64 → u < 64 → isSet 64 (set % 2 ^ (63 - v)) u ≡ (isSet 64 set u && not (eqb u v))
 after-set set v u e hv hu = elim (lt-or-le v u) [
-  | inl l ↦ after-above set v u l hu ∙ sym (and-true (isSet 64 set u) (not-intro-true (ne-eqb u v (λ q. omega arith))))
+  | inl l ↦ after-above set v u l hu ∙ sym (and-unit (isSet 64 set u) (not-intro-true (ne-eqb u v (λ q. omega arith))))
   | inr l ↦ after-below set v u l hv ∙ elim (eq-or-ne u v) [
     | inl q ↦ sym (and-false-right (isSet 64 set u) (ap not (eq-eqb u v q)))
-    | inr q ↦ sym (and-false-left (not (eqb u v)) (lowest-before set v u e (strict u v l q)))
+    | inr q ↦ sym (and-false-left (not (eqb u v)) (lowest-before set v u e (lt-of-ne u v l q)))
   ]
 ]
 
@@ -169,13 +166,13 @@ after-less set v e h =
     omega arith
 
 pub after-none : (set v u : ℕ) → 63 < v → u < 64 → isSet 64 set u ≡ (isSet 64 set u && not (eqb u v))
-after-none set v u h l = sym (and-true (isSet 64 set u) (not-intro-true (ne-eqb u v (λ e. omega arith))))
+after-none set v u h l = sym (and-unit (isSet 64 set u) (not-intro-true (ne-eqb u v (λ e. omega arith))))
 
 -- ── the numbers above one ──
 
 pub above-set : (set v u : ℕ) → v < 64 → u < 64 → isSet 64 (set % 2 ^ (63 - v)) u ≡ (isSet 64 set u && ltb v u)
 above-set set v u hv hu = elim (lt-or-le v u) [
-  | inl l ↦ after-above set v u l hu ∙ sym (and-true (isSet 64 set u) (lt-ltb v u l))
+  | inl l ↦ after-above set v u l hu ∙ sym (and-unit (isSet 64 set u) (lt-ltb v u l))
   | inr l ↦ after-below set v u l hv ∙ sym (and-false-right (isSet 64 set u) (le-ltb v u l))
 ]
 

@@ -16,7 +16,7 @@ use lib.ListN.{getD, set, replicate, length-set, length-replicate}
 use lib.Dec.{eqb, ltb}
 use borrow.Author.Tests.{eq-eqb, ne-eqb, lt-ltb, le-ltb, ltb-false}
 use Rattle.bools.proofs.BoolLaws.{split, and-intro, and-right, or-left}
-use Rattle.bools.proofs.OrderLaws.{lt-or-le}
+use Rattle.bools.proofs.OrderLaws.{lt-of-ne}
 use Rattle.sums.specs.Sum.{count}
 use Rattle.sums.specs.Search.{any, least}
 use Rattle.sums.proofs.SearchLaws.{any-cong, any-false, any-intro, any-least, least-cong, least-le, least-holds}
@@ -34,9 +34,6 @@ use Rattle.algorithm.proofs.FollowLaws.{getD-alone, neutralAt-touches}
 use Rattle.run.proofs.MarkLaws.{marked-none, marked-set}
 use Rattle.run.proofs.ScanLaws.{and-assoc, board-lowest, board-first, rock-below, rock-holds, low-below, high-below}
 use Rattle.run.proofs.ForcedRun.{other-at, directs-directed}
-
-lt-of-ne : (a m : ℕ) → a ≤ m → a ≢ m → a < m
-lt-of-ne a m l ne = elim (lt-or-le a m) [ inl h ↦ h | inr h ↦ absurd (ne (omega arith)) ]
 
 mark-yes : (a b m : Bool) → m ≡ true → (a && (b && m)) ≡ (a && b)
 mark-yes true true m e = e

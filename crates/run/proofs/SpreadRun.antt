@@ -14,7 +14,7 @@ use native.Mathlib.Numerals.{add-one}
 use lib.ListN.{length, getD, set, length-set}
 use lib.Dec.{eqb}
 use borrow.Author.Tests.{eq-eqb, eqb-true}
-use Rattle.bools.proofs.BoolLaws.{split, clash, and-intro, and-left, and-right, or-left, or-right, or-elim, or-false-left, or-false-right, bool-ext}
+use Rattle.bools.proofs.BoolLaws.{split, clash, and-intro, and-left, and-right, or-left, or-right, or-elim, or-false-left, or-false-right, bool-ext, or-unit}
 use Rattle.bools.proofs.OrderLaws.{eq-or-ne, last-or-below}
 use Rattle.sums.specs.Sum.{count}
 use Rattle.sums.proofs.SearchLaws.{any-intro, any-elim}
@@ -44,10 +44,6 @@ differ-one true true e = clash e refl
 differ-one true false e = inl (refl, refl)
 differ-one false b e = inr (refl, e)
 
-or-end : (a : Bool) {b : Bool} → b ≡ false → a ≡ (a || b)
-or-end true e = refl
-or-end false e = sym e
-
 -- ── one rock ──
 
 module _ (low high dir : List ℕ) (xs : List Bool) (r : ℕ) where
@@ -61,7 +57,7 @@ module _ (low high dir : List ℕ) (xs : List Bool) (r : ℕ) where
 
   pub join-not : {t : Bool} (changed : Bool) → t ≡ crossesAt low high dir xs r → t ≡ false
       → (changed ≡ (changed || crossesAt low high dir xs r)) × (xs ≡ joinOf low high dir xs r)
-  join-not changed e p = (or-end changed (sym e ∙ p), sym (joins-not (sym e ∙ p)))
+  join-not changed e p = (sym (or-unit changed (sym e ∙ p)), sym (joins-not (sym e ∙ p)))
 
   pub join-yes : {t : Bool} {l h : ℕ} {ys zs : List Bool} (changed : Bool) → t ≡ crossesAt low high dir xs r → t ≡ true
       → l ≡ getD low r 0 → ys ≡ set xs l true → h ≡ getD high r 0 → zs ≡ set ys h true

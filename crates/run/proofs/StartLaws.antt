@@ -17,12 +17,12 @@ use native.Mathlib.Numerals.{add-one}
 use native.Mathlib.Omega.{arith}
 use lib.ListN.{length, getD, set}
 use lib.Dec.{eqb, leb, ltb}
-use lib.Bits.{bitOr, or-step, or-shr}
+use lib.Bits.{bitOr}
 use lib.Pow.{pow-mono, pow-pos, pow-lt, pow-add, shl-shr, shr-shr}
 use lib.Count.{ones, leadingZeros, trailingZeros, leading-of-zero, leading-top}
 use borrow.Author.Tests.{eq-eqb, ne-eqb, lt-ltb, le-ltb}
-use Rattle.bools.proofs.BoolLaws.{split, and-false-right, or-right}
-use Rattle.bools.proofs.OrderLaws.{eq-or-ne, lt-or-le, last-or-below}
+use Rattle.bools.proofs.BoolLaws.{split, and-false-right, or-right, or-unit}
+use Rattle.bools.proofs.OrderLaws.{eq-or-ne, lt-or-le, last-or-below, lt-of-ne}
 use Rattle.sums.specs.Sum.{on, sum, count}
 use Rattle.sums.specs.Search.{least}
 use Rattle.sums.specs.Members.{members}
@@ -33,6 +33,7 @@ use Rattle.bits.specs.Bits.{isSet}
 use Rattle.bits.proofs.SetBits.{isSet-digit, isSet-zero, count-isSet}
 use Rattle.run.specs.Arrays.{plusOf}
 use Rattle.run.proofs.FilledLaws.{filled-none, filled-more, length-filled}
+use Rattle.run.proofs.SetLaws.{or-bit}
 use Rattle.run.specs.StartArrays.{timesOf, choicesOf, lowestOf, highestOf, heavyOf, rockOf, pebbleOf, limitsOf, filled, Bounded, Fields}
 use Rattle.algorithm.specs.Day.{Day, choices, heavy, rock, pebble, lowest, highest, weight, bound, small, limit}
 use Rattle.algorithm.specs.SoundDay.{SoundDay}
@@ -287,17 +288,8 @@ limits-are benches jobs p q target e1 e2 e3 e4 e5 e6 e7 e8 e9 = cc
 
 -- ── a set with one more bench ──
 
-even-plus : (k m : ℕ) → m < 2 → (k * 2 + m) % 2 ≡ m
-even-plus k m h = omega arith
-
 even : (k : ℕ) → k * 2 % 2 ≡ 0
 even k = omega arith
-
-or-odd : (a b : ℕ) → bitOr a b % 2 ≡ max (a % 2) (b % 2)
-or-odd a b = ap (λ (k : ℕ). k % 2) (or-step a b) ∙ even-plus (bitOr (a / 2) (b / 2)) (max (a % 2) (b % 2)) (omega arith)
-
-or-bit : (a b k : ℕ) → bitOr a b / 2 ^ k % 2 ≡ max (a / 2 ^ k % 2) (b / 2 ^ k % 2)
-or-bit a b k = ap (λ (x : ℕ). x % 2) (or-shr a b k) ∙ or-odd (a / 2 ^ k) (b / 2 ^ k)
 
 power-here : (k : ℕ) → 2 ^ k / 2 ^ k % 2 ≡ 1
 power-here k = let p = pow-pos k in let one : 2 ^ k / 2 ^ k ≡ 1 = quotient-one (2 ^ k) (2 ^ k) p (omega arith) (omega arith) in rw one
@@ -309,18 +301,11 @@ power-else i k ne = elim (lt-or-le i k) [
     | inl e ↦ absurd (ne e)
     | inr q ↦
         let t : ℕ = i - k - 1 in
-        let split-up : i ≡ suc t + k = let more : k < i = lt-of k i l q in omega arith in
+        let split-up : i ≡ suc t + k = let more : k < i = lt-of-ne k i l (λ e. q (sym e)) in omega arith in
         let quotient : 2 ^ i / 2 ^ k ≡ 2 ^ t * 2 = ap (λ (x : ℕ). 2 ^ x / 2 ^ k) split-up ∙ ap (λ (x : ℕ). x / 2 ^ k) (pow-add 2 (suc t) k) ∙ shl-shr (2 ^ suc t) k ∙ pow-suc 2 t in
         rw quotient (even (2 ^ t))
   ]
 ]
-  where
-    lt-of : (m n : ℕ) → m ≤ n → (n ≡ m → ⊥) → m < n
-    lt-of m n h q = elim (lt-or-le m n) [ inl less ↦ less | inr more ↦ absurd (q (omega arith)) ]
-
-or-none : (a : Bool) {b : Bool} → b ≡ false → a ≡ (a || b)
-or-none true e = refl
-or-none false e = sym e
 
 pub with-bench : (set v u : ℕ) → v < 64 → u < 64 → isSet 64 (bitOr set (1 * 2 ^ (63 - v) % 18446744073709551616)) u ≡ (isSet 64 set u || eqb u v)
 with-bench set v u hv hu =
@@ -340,11 +325,11 @@ with-bench set v u hv hu =
       | inr ne ↦
           let none : 2 ^ i / 2 ^ k % 2 ≡ 0 = power-else i k (λ e. ne (omega arith)) in
           let same : max (set / 2 ^ k % 2) (2 ^ i / 2 ^ k % 2) ≡ set / 2 ^ k % 2 = omega arith in
-          ap (λ (x : ℕ). eqb x 1) same ∙ or-none (eqb (set / 2 ^ k % 2) 1) (ne-eqb u v ne)
+          ap (λ (x : ℕ). eqb x 1) same ∙ sym (or-unit (eqb (set / 2 ^ k % 2) 1) (ne-eqb u v ne))
     ])
 
 pub with-none : (set v u : ℕ) → 63 < v → u < 64 → isSet 64 set u ≡ (isSet 64 set u || eqb u v)
-with-none set v u hv hu = or-none (isSet 64 set u) (ne-eqb u v (λ e. omega arith))
+with-none set v u hv hu = sym (or-unit (isSet 64 set u) (ne-eqb u v (λ e. omega arith)))
 
 -- ── gathering ──
 

@@ -1,5 +1,5 @@
 -- The program's state follows the turns of the run.
---     within-leb, congested-shown     the test of the levels is whether a bench is overloaded
+--     within-shown, congested-shown   the test of the levels is whether a bench is overloaded
 --     push-moves, push-stays          what a push makes of the state
 --     Turning                         what the loop of the turns keeps; how it goes on, and how it ends
 use Prim.Native.Nat.{ℕ, suc, _+_, _-_, _*_, _%_, _≤_, _<_, _^_}
@@ -10,11 +10,11 @@ use mathlib.Core.List.{List}
 use native.Mathlib.Omega.{arith}
 use native.Mathlib.Nat.{mul-le-mul, mod-eq-of-lt}
 use lib.ListN.{length, getD, set, replicate, length-set, length-replicate, getD-replicate}
-use lib.Dec.{leb, ltb}
+use lib.Dec.{ltb}
 use lib.Seq.{getD-set-same, getD-set-other}
-use borrow.Author.Tests.{lt-ltb, le-ltb, le-leb}
-use Rattle.bools.proofs.BoolLaws.{tests, bool-ext, and-intro, and-false-left, and-false-right}
-use Rattle.bools.proofs.OrderLaws.{eq-or-ne}
+use borrow.Author.Tests.{lt-ltb, le-ltb}
+use Rattle.bools.proofs.BoolLaws.{and-intro, and-false-left, and-false-right}
+use Rattle.bools.proofs.OrderLaws.{eq-or-ne, leb-ltb}
 use Rattle.sums.specs.Sum.{sum, count}
 use Rattle.sums.specs.Search.{any}
 use Rattle.sums.proofs.SearchLaws.{any-cong, any-intro, any-elim, any-least, least-holds, least-le}
@@ -41,12 +41,9 @@ use Rattle.run.specs.KeptArrays.{shiftedOf, ReachShifted, Chosen}
 use Rattle.run.proofs.KeptRun.{moved-owned, moved-reach, held-choices}
 use Rattle.run.proofs.HeldLaws.{held-good, held-rocks, held-pebbles, held-owned, few-rocks}
 
-within-leb : (k m : ℕ) → leb k m ≡ ltb k (suc m)
-within-leb k m = bool-ext (leb k m) (ltb k (suc m)) (λ p. lt-ltb k (suc m) (omega tests)) (λ p. le-leb k m (omega tests))
-
 pub within-shown : (b : Board) (xs rounds : List ℕ) (benches v : ℕ) → benches ≡ b .benches → Rounds b xs rounds → v < b .benches
     → withinAt benches rounds v ≡ within b xs v
-within-shown b xs rounds benches v e S h = rw (e, S .entries v h) (within-leb (roundOf b xs v) (b .benches))
+within-shown b xs rounds benches v e S h = rw (e, S .entries v h) (leb-ltb (roundOf b xs v) (b .benches))
 
 module _ (d : Day) (n : Limits) (low high weights amount : List ℕ) (pebbles : List Bool) (allowed : List ℕ)
     (R : Ready d n low high weights amount pebbles allowed) where

@@ -1,7 +1,7 @@
 -- The tables of an answer, and what they show of it.
 use Prim.Native.Nat.{ℕ, _+_, _-_, _*_, _%_, _≤_, _<_, _^_, max}
 use mathlib.Core.Path.{_≡_, refl, _∙_}
-use mathlib.Core.Bool.{Bool, true, false}
+use mathlib.Core.Bool.{Bool, true}
 use mathlib.Core.List.{List}
 use native.Mathlib.Omega.{arith}
 use native.Mathlib.Numerals.{add-one}
@@ -59,6 +59,3 @@ placed-more job dir place r e x v j n = rw add-one (n ∙ cc)
 
 pub more-yes : (s v : ℕ) {t : Bool} {next : ℕ} → t ≡ true → next ≡ plusOf s (bitOf v) → next ≡ setMore s v t
 more-yes s v e n = rw e n
-
-pub more-no : (s v : ℕ) {t : Bool} → t ≡ false → s ≡ setMore s v t
-more-no s v e = rw e
