@@ -5,6 +5,7 @@
 --     board-moved            the board after a pebble was moved is that of Levels
 --     good-moved             a state stays good if a pebble moves to a bench that it allows
 --     Found d s a v          job a may be pushed to bench v
+--     next-left              a move keeps no orientation: the rocks that are left stay the same
 --     push-found             where a move can be made, the pair that is taken is such a one
 use Prim.Native.Nat.{ℕ, _+_, _≤_, _<_}
 use mathlib.Core.Path.{_≡_, refl, sym, ap, _∙_}
@@ -25,7 +26,7 @@ use Rattle.sums.proofs.SearchLaws.{least-holds, any-least}
 use Rattle.algorithm.specs.Day.{Day, pebble, scale}
 use Rattle.algorithm.specs.Push.{canPush, pushJob, pushBench}
 use Rattle.algorithm.specs.Start.{State, start}
-use Rattle.algorithm.specs.Run.{ownMinutes, boardOf, moved, explored, congested, canMove}
+use Rattle.algorithm.specs.Run.{ownMinutes, boardOf, moved, explored, congested, canMove, nextState}
 use Rattle.algorithm.proofs.Levels.{MoveOf}
 
 pub record Good (d : Day) (s : State) : Type 0 where
@@ -90,6 +91,10 @@ good-moved d s a v ha good p allowed =
           ⊎-elim (λ e. clash p (rw e at q)) (λ ne. place-kept d s a v ha (good .one-to-a-job) j ne ∙ good .others-kept j h q)
           (eq-or-ne j a);
     }
+
+-- "Un-orient all edges": a rock that was forced may turn, once the light jobs lie elsewhere.
+pub next-left : (d : Day) (s : State) → nextState d s .left ≡ s .left
+next-left d s = refl
 
 pub record Found (d : Day) (s : State) (a v : ℕ) : Type 0 where
   pub job-below : a < d .jobs
