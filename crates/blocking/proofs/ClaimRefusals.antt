@@ -7,41 +7,46 @@
 --     bench-lacking           a bench that the head lacks
 --     too-many-moves          9 moves; 2 benches × 4 light jobs are 8
 --     tables-untouched        a plan that is not in the tables
---     table-grown             a table with an entry more
+--     places-grown, loads-grown   a table with an entry more
 --     long-for-none-long, none-for-a-rival, fault-for-an-answer   another answer; two-each is the rival's assignment
+--     long-not-over, none-not-over    the rival has no bench above T
 -- The same with longer tables:
 --     later-place-changed, later-load-changed     an entry behind the plan's
 -- One bench, T = 4, jobs of 5 and 6 on it:
 --     only-long               no answer but long is claimed
 --     second-long-named       long with job 1
 --     plan-with-a-long-job, none-with-a-long-job      another answer
---     long-changes-a-table    long, and a table changed
+--     long-changes-places, long-changes-loads     long, and a table changed
 -- Two benches, three jobs of 5 on both, T = 8 (example 4):
---     set-of-no-bench, set-past-the-head      none with the empty set, none with bench 2
+--     set-of-no-bench, set-past-the-head, set-too-wide    none with the empty set, with bench 2, with a bit too many
+--     none-with-a-move        none after a move, where no light job has a choice
+--     none-changes-places, none-changes-loads     none, and a table changed
 -- Other calls:
 --     empty-sheet-planned     the empty sheet, planned
+--     fault-changes-places, fault-changes-loads   refused, and a table changed
 --     short-table-planned     three places for four jobs, planned
-use Prim.Native.Nat.{ℕ, zero, suc, _*_, _/_, _^_, _≤_, _<_}
+--     short-changes-places, short-changes-loads   that call refused, and a table changed
+use Prim.Native.Nat.{ℕ, zero, suc, _/_, _^_, _≤_, _<_}
 use mathlib.Core.Path.{_≡_, refl, sym, ap}
 use mathlib.Core.Logic.{inl, inr}
-use mathlib.Core.Bool.{true, false}
+use mathlib.Core.Bool.{true}
 use mathlib.Core.List.{List, [], _∷_}
 use native.Mathlib.Omega.{arith}
 use lib.ListN.{length, getD}
 use Rattle.bools.proofs.BoolLaws.{clash}
 use Rattle.bits.specs.Bits.{isSet}
 use Rattle.fields.specs.declared.fault.Fault.{Fault}
-use Rattle.fields.specs.declared.fault.Fault.the-variants.{Truncated, Table}
+use Rattle.fields.specs.declared.fault.Fault.the-variants.{Truncated}
 use Rattle.fields.specs.declared.fault.Verdict.the-variants.{Accepted}
 use Rattle.fields.specs.declared.sheet.Head.{Head}
 use Rattle.fields.specs.declared.sheet.Job.{Job}
 use Rattle.fields.specs.Format.{sheetBytes}
 use Rattle.fields.specs.Tests.{jobAt, hyperEdgeVerdict}
-use Rattle.frame.specs.Reading.{accepted, refused, readFrom, readSheet}
+use Rattle.frame.specs.Reading.{accepted, readFrom, readSheet}
 use Rattle.frame.specs.Writing.{jobsVerdict, writerVerdict}
 use Rattle.frame.proofs.RoundTrip.{write-read}
 use Rattle.demand.specs.SmallSheets.{bay, first, both}
-use Rattle.demand.specs.Demand.{Assignment, allowed, keepsTarget, LongJob}
+use Rattle.demand.specs.Demand.{Assignment, allowed, loadOf, keepsTarget, SomeOver}
 use Rattle.algorithm.specs.Answer.{Answer}
 use Rattle.planning.specs.declared.answer.Answer.{Answer as Given}
 use Rattle.planning.specs.declared.answer.Answer.the-variants.{Plan, Long, None, Fault as Faulty}
@@ -49,6 +54,10 @@ use Rattle.planning.specs.Planner.{given, placesAfter, loadsAfter}
 use Rattle.blocking.specs.Claim.{Answerable, PlannerClaim}
 use Rattle.blocking.proofs.Claim.{equations-claim, no-fault}
 use Rattle.blocking.proofs.ClaimExamples.{head8, jobs8, sheet8, read-8, answer-8, exactPlaces, exactLoads, answerable-exact, places, loads, answerable-8}
+
+-- The first entry of a table that was to be kept.
+pub front : {xs ys : List ℕ} → xs ≡ ys → getD xs 0 0 ≡ getD ys 0 0
+front e = ap (λ (zs : List ℕ). getD zs 0 0) e
 
 -- ── example 8 ──
 
@@ -96,8 +105,11 @@ pub tables-untouched : Claimed (Plan 6 1) exactPlaces exactLoads → ⊥
 unfolding isSet
 tables-untouched c = clash (c .plan-right head8 jobs8 answerable-exact 6 1 refl .assignment .on-allowed 0 (omega arith)) refl
 
-pub table-grown : Claimed (Plan 6 1) rightPlaces (6 ∷ 2 ∷ 9 ∷ []) → ⊥
-table-grown c = omega (arith, c .plan-right head8 jobs8 answerable-exact 6 1 refl .as-many-loads)
+pub places-grown : Claimed (Plan 6 1) (1 ∷ 0 ∷ 0 ∷ 0 ∷ 9 ∷ []) rightLoads → ⊥
+places-grown c = omega (arith, c .plan-right head8 jobs8 answerable-exact 6 1 refl .as-many-places)
+
+pub loads-grown : Claimed (Plan 6 1) rightPlaces (6 ∷ 2 ∷ 9 ∷ []) → ⊥
+loads-grown c = omega (arith, c .plan-right head8 jobs8 answerable-exact 6 1 refl .as-many-loads)
 
 pub long-for-none-long : Claimed (Long 0) exactPlaces exactLoads → ⊥
 long-for-none-long c = clash (c .long-right head8 jobs8 answerable-exact 0 refl .0 .is-long .longer) refl
@@ -119,6 +131,22 @@ none-for-a-rival set moves c =
     let (largest, m, e) = c .rival-planned head8 jobs8 answerable-exact (λ j. j / 2) (two-each .0) (two-each .1) in
     clash {b = true} refl cc
 
+pub two-each-within : SomeOver head8 jobs8 (λ j. j / 2) → ⊥
+two-each-within (v, l, over) = omega (arith, at-most v l, over)
+  where
+    at-most : (v : ℕ) → v < 2 → loadOf jobs8 (λ j. j / 2) v ≤ 4
+    at-most zero l = omega arith
+    at-most (suc zero) l = omega arith
+    at-most (suc (suc v)) l = absurd (omega arith)
+
+pub long-not-over : (j : ℕ) (places′ loads′ : List ℕ) → Claimed (Long j) places′ loads′ → ⊥
+long-not-over j places′ loads′ c =
+    two-each-within (c .over-after-long head8 jobs8 answerable-exact j refl (λ j. j / 2) (two-each .0))
+
+pub none-not-over : (set moves : ℕ) (places′ loads′ : List ℕ) → Claimed (None set moves) places′ loads′ → ⊥
+none-not-over set moves places′ loads′ c =
+    two-each-within (c .over-after-none head8 jobs8 answerable-exact set moves refl (λ j. j / 2) (two-each .0))
+
 pub fault-for-an-answer : (f : Fault) → Claimed (Faulty f) exactPlaces exactLoads → ⊥
 fault-for-an-answer f c = no-fault (c .one-of-three head8 jobs8 answerable-exact) refl
 
@@ -128,10 +156,10 @@ abbrev ClaimedLonger : List ℕ → List ℕ → Type 0
 ClaimedLonger places′ loads′ = PlannerClaim sheet8 places loads (Plan 6 1) places′ loads′
 
 pub later-place-changed : ClaimedLonger (1 ∷ 0 ∷ 0 ∷ 0 ∷ 8 ∷ []) (6 ∷ 2 ∷ 9 ∷ []) → ⊥
-later-place-changed c = omega (arith, ap (λ (xs : List ℕ). getD xs 0 0) (c .plan-right head8 jobs8 answerable-8 6 1 refl .later-places-kept))
+later-place-changed c = omega (arith, front (c .plan-right head8 jobs8 answerable-8 6 1 refl .later-places-kept))
 
 pub later-load-changed : ClaimedLonger (1 ∷ 0 ∷ 0 ∷ 0 ∷ 9 ∷ []) (6 ∷ 2 ∷ 8 ∷ []) → ⊥
-later-load-changed c = omega (arith, ap (λ (xs : List ℕ). getD xs 0 0) (c .plan-right head8 jobs8 answerable-8 6 1 refl .later-loads-kept))
+later-load-changed c = omega (arith, front (c .plan-right head8 jobs8 answerable-8 6 1 refl .later-loads-kept))
 
 -- ── two long jobs ──
 
@@ -174,8 +202,11 @@ none-with-a-long-job set moves places′ loads′ c = omega (arith, c .none-fits
 pub only-long : (r : Given) (places′ loads′ : List ℕ) → ClaimedLong r places′ loads′ → (i : ℕ) × (r ≡ Long i)
 only-long r places′ loads′ c = c .long-given longHead longJobs long-answerable 1 (record { is-job = omega arith; longer = refl })
 
-pub long-changes-a-table : ClaimedLong (Long 0) exactLoads (8 ∷ []) → ⊥
-long-changes-a-table c = omega (arith, ap (λ (xs : List ℕ). getD xs 0 0) (c .long-right longHead longJobs long-answerable 0 refl .1 .same-loads))
+pub long-changes-places : ClaimedLong (Long 0) (8 ∷ 9 ∷ []) (9 ∷ []) → ⊥
+long-changes-places c = omega (arith, front (c .long-right longHead longJobs long-answerable 0 refl .1 .same-places))
+
+pub long-changes-loads : ClaimedLong (Long 0) exactLoads (8 ∷ []) → ⊥
+long-changes-loads c = omega (arith, front (c .long-right longHead longJobs long-answerable 0 refl .1 .same-loads))
 
 -- ── sets that a none may not name ──
 
@@ -201,20 +232,34 @@ full-fits (suc (suc (suc i))) h = absurd (omega arith)
 full-read : readSheet fullSheet ≡ accepted fullHead fullJobs
 full-read = write-read fullHead fullJobs full-taken full-fits
 
-abbrev ClaimedNone : ℕ → Type 0
-ClaimedNone set = PlannerClaim fullSheet exactPlaces exactLoads (None set 0) exactPlaces exactLoads
+abbrev ClaimedNone : ℕ → ℕ → List ℕ → List ℕ → Type 0
+ClaimedNone set moves places′ loads′ = PlannerClaim fullSheet exactPlaces exactLoads (None set moves) places′ loads′
 
 full-answerable : Answerable fullSheet exactPlaces exactLoads fullHead fullJobs
 full-answerable = record { sheet-accepted = full-read; place-to-a-job = omega arith; load-to-a-bench = omega arith }
 
-pub set-of-no-bench : ClaimedNone 0 → ⊥
+pub set-of-no-bench : ClaimedNone 0 0 exactPlaces exactLoads → ⊥
 unfolding isSet
 set-of-no-bench c = omega (arith, c .none-right fullHead fullJobs full-answerable 0 0 refl .0 .blocking .some-bench)
 
 -- Bench 2 is the bit of weight 2 ^ 61.
-pub set-past-the-head : ClaimedNone (2 ^ 61) → ⊥
+pub set-past-the-head : ClaimedNone (2 ^ 61) 0 exactPlaces exactLoads → ⊥
 unfolding isSet
 set-past-the-head c = omega (arith, c .none-right fullHead fullJobs full-answerable (2 ^ 61) 0 refl .0 .of-the-head 2 refl)
+
+pub set-too-wide : ClaimedNone (2 ^ 64) 0 exactPlaces exactLoads → ⊥
+set-too-wide c = omega (arith, c .none-right fullHead fullJobs full-answerable (2 ^ 64) 0 refl .0 .of-64-bits)
+
+-- All three jobs are heavy.
+pub none-with-a-move : (set : ℕ) → ClaimedNone set 1 exactPlaces exactLoads → ⊥
+unfolding isSet
+none-with-a-move set c = omega (arith, c .none-right fullHead fullJobs full-answerable set 1 refl .0 .few-moves)
+
+pub none-changes-places : (set : ℕ) → ClaimedNone set 0 (8 ∷ 9 ∷ 9 ∷ 9 ∷ []) exactLoads → ⊥
+none-changes-places set c = omega (arith, front (c .none-right fullHead fullJobs full-answerable set 0 refl .1 .same-places))
+
+pub none-changes-loads : (set : ℕ) → ClaimedNone set 0 exactPlaces (8 ∷ 9 ∷ []) → ⊥
+none-changes-loads set c = omega (arith, front (c .none-right fullHead fullJobs full-answerable set 0 refl .1 .same-loads))
 
 -- ── other calls ──
 
@@ -226,3 +271,17 @@ pub short-table-planned : (largest moves : ℕ) (places′ loads′ : List ℕ)
     → PlannerClaim sheet8 (9 ∷ 9 ∷ 9 ∷ []) exactLoads (Plan largest moves) places′ loads′ → ⊥
 short-table-planned largest moves places′ loads′ c =
     let e = c .tables-short head8 jobs8 read-8 (inl (omega arith)) .0 in clash {b = true} refl cc
+
+pub fault-changes-places : (r : Given) (loads′ : List ℕ) → PlannerClaim [] exactPlaces exactLoads r (8 ∷ 9 ∷ 9 ∷ 9 ∷ []) loads′ → ⊥
+unfolding readSheet readFrom
+fault-changes-places r loads′ c = omega (arith, front (c .sheet-refused (Truncated 0) refl .1 .same-places))
+
+pub fault-changes-loads : (r : Given) (places′ : List ℕ) → PlannerClaim [] exactPlaces exactLoads r places′ (8 ∷ 9 ∷ []) → ⊥
+unfolding readSheet readFrom
+fault-changes-loads r places′ c = omega (arith, front (c .sheet-refused (Truncated 0) refl .1 .same-loads))
+
+pub short-changes-places : (r : Given) (loads′ : List ℕ) → PlannerClaim sheet8 (9 ∷ 9 ∷ 9 ∷ []) exactLoads r (8 ∷ 9 ∷ 9 ∷ []) loads′ → ⊥
+short-changes-places r loads′ c = omega (arith, front (c .tables-short head8 jobs8 read-8 (inl (omega arith)) .1 .same-places))
+
+pub short-changes-loads : (r : Given) (places′ : List ℕ) → PlannerClaim sheet8 exactPlaces (9 ∷ []) r places′ (8 ∷ []) → ⊥
+short-changes-loads r places′ c = omega (arith, front (c .tables-short head8 jobs8 read-8 (inr (omega arith)) .1 .same-loads))

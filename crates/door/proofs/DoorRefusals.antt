@@ -6,22 +6,28 @@
 --     too-many-moves          9 moves; 2 benches × 4 light jobs are 8
 --     tables-untouched        a plan that is not in the tables
 --     long-for-none-long, none-for-a-rival, other-word    another answer
---     later-number-changed    a byte behind the answer's two numbers
+--     long-not-over, none-not-over    the rival has no bench above T
+--     later-place-changed, later-load-changed, later-number-changed   a byte behind what is put
+--     places-grown, loads-grown       a table with a byte more
 --     short-answer-planned    15 bytes for the answer, and yet a plan
+--     short-changes-the-answer    that call refused, and a byte changed
+-- The empty sheet:
+--     fault-changes-places, fault-changes-loads, fault-changes-the-answer     refused, and a byte changed
 use Prim.Native.Nat.{ℕ, zero, suc, _/_, _≤_, _<_}
 use mathlib.Core.Path.{_≡_, refl, sym, ap}
 use mathlib.Core.Logic.{inl, inr}
 use mathlib.Core.Bool.{true}
 use mathlib.Core.List.{List, [], _∷_, _++_}
 use native.Mathlib.Omega.{arith}
-use lib.ListN.{getD}
 use Rattle.bools.proofs.BoolLaws.{clash}
 use Rattle.bits.specs.Bits.{isSet}
 use Rattle.bits.specs.Little.{little, littleOf, littleAll}
+use Rattle.fields.specs.declared.fault.Fault.the-variants.{Truncated}
+use Rattle.frame.specs.Reading.{readFrom, readSheet}
 use Rattle.algorithm.specs.Answer.{Answer}
 use Rattle.planning.specs.Planner.{placesIn, loadsIn}
 use Rattle.blocking.proofs.ClaimExamples.{head8, jobs8, sheet8, read-8}
-use Rattle.blocking.proofs.ClaimRefusals.{two-each}
+use Rattle.blocking.proofs.ClaimRefusals.{front, two-each, two-each-within}
 use Rattle.tables.specs.Tables.{entryOf, putNumbers}
 use Rattle.door.specs.DoorClaim.{RoomFor, DoorClaim}
 use Rattle.door.specs.PlanDoor.{doorAnswer, planWord, answerNumbers}
@@ -81,13 +87,63 @@ none-for-a-rival numbers′ c = omega (arith, c .rival-planned head8 jobs8 room-
 pub other-word : Claimed 0 (filled 32) (filled 16) (filled 16) → ⊥
 other-word c = elim (c .one-of-three head8 jobs8 room-exact) [ inl e ↦ omega arith | inr (inl e) ↦ omega arith | inr (inr e) ↦ omega arith ]
 
+pub long-not-over : (places′ loads′ numbers′ : List ℕ) → Claimed 2 places′ loads′ numbers′ → ⊥
+long-not-over places′ loads′ numbers′ c =
+    two-each-within (c .over-after-long head8 jobs8 room-exact refl (λ j. j / 2) (two-each .0))
+
+pub none-not-over : (places′ loads′ numbers′ : List ℕ) → Claimed 3 places′ loads′ numbers′ → ⊥
+none-not-over places′ loads′ numbers′ c =
+    two-each-within (c .over-after-none head8 jobs8 room-exact refl (λ j. j / 2) (two-each .0))
+
 -- ── other tables ──
 
-room-longer : RoomFor sheet8 (filled 32) (filled 16) (filled 17) head8 jobs8
+-- Each table has a byte more than needed.
+room-longer : RoomFor sheet8 (filled 33) (filled 17) (filled 17) head8 jobs8
 room-longer = record { sheet-accepted = read-8; place-to-a-job = omega arith; load-to-a-bench = omega arith; two-numbers = omega arith }
 
-pub later-number-changed : DoorClaim sheet8 (filled 32) (filled 16) (filled 17) 1 placesBytes loadsBytes (numbersBytes ++ 0 ∷ []) → ⊥
-later-number-changed c = omega (arith, ap (λ (xs : List ℕ). getD xs 0 0) (c .later-numbers-kept head8 jobs8 room-longer .0))
+abbrev ClaimedLonger : List ℕ → List ℕ → List ℕ → Type 0
+ClaimedLonger places′ loads′ numbers′ = DoorClaim sheet8 (filled 33) (filled 17) (filled 17) 1 places′ loads′ numbers′
+
+-- One byte more, after a plan's.
+abbrev then : List ℕ → ℕ → List ℕ
+then xs b = xs ++ b ∷ []
+
+pub later-place-changed : ClaimedLonger (then placesBytes 0) (then loadsBytes 165) (then numbersBytes 165) → ⊥
+later-place-changed c = omega (arith, front (c .plan-right head8 jobs8 room-longer refl .later-places-kept))
+
+pub later-load-changed : ClaimedLonger (then placesBytes 165) (then loadsBytes 0) (then numbersBytes 165) → ⊥
+later-load-changed c = omega (arith, front (c .plan-right head8 jobs8 room-longer refl .later-loads-kept))
+
+pub later-number-changed : ClaimedLonger (then placesBytes 165) (then loadsBytes 165) (then numbersBytes 0) → ⊥
+later-number-changed c = omega (arith, front (c .later-numbers-kept head8 jobs8 room-longer .0))
+
+pub places-grown : Claimed 1 (then placesBytes 165) loadsBytes numbersBytes → ⊥
+places-grown c = omega (arith, c .plan-right head8 jobs8 room-exact refl .as-many-places)
+
+pub loads-grown : Claimed 1 placesBytes (then loadsBytes 165) numbersBytes → ⊥
+loads-grown c = omega (arith, c .plan-right head8 jobs8 room-exact refl .as-many-loads)
 
 pub short-answer-planned : (places′ loads′ numbers′ : List ℕ) → DoorClaim sheet8 (filled 32) (filled 16) (filled 15) 1 places′ loads′ numbers′ → ⊥
 short-answer-planned places′ loads′ numbers′ c = omega (arith, c .tables-short head8 jobs8 read-8 (inr (inr (omega arith))) .0)
+
+pub short-changes-the-answer : (r : ℕ) (places′ loads′ : List ℕ)
+    → DoorClaim sheet8 (filled 32) (filled 16) (filled 15) r places′ loads′ (0 ∷ filled 14) → ⊥
+short-changes-the-answer r places′ loads′ c =
+    omega (arith, front (c .tables-short head8 jobs8 read-8 (inr (inr (omega arith))) .1 .same-numbers))
+
+-- ── the empty sheet ──
+
+abbrev ClaimedEmpty : ℕ → List ℕ → List ℕ → List ℕ → Type 0
+ClaimedEmpty r places′ loads′ numbers′ = DoorClaim [] (filled 8) (filled 8) (filled 16) r places′ loads′ numbers′
+
+pub fault-changes-places : (r : ℕ) → ClaimedEmpty r (0 ∷ filled 7) (filled 8) (filled 16) → ⊥
+unfolding readSheet readFrom
+fault-changes-places r c = omega (arith, front (c .sheet-refused (Truncated 0) refl .1 .both-tables .same-places))
+
+pub fault-changes-loads : (r : ℕ) → ClaimedEmpty r (filled 8) (0 ∷ filled 7) (filled 16) → ⊥
+unfolding readSheet readFrom
+fault-changes-loads r c = omega (arith, front (c .sheet-refused (Truncated 0) refl .1 .both-tables .same-loads))
+
+pub fault-changes-the-answer : (r : ℕ) → ClaimedEmpty r (filled 8) (filled 8) (0 ∷ filled 15) → ⊥
+unfolding readSheet readFrom
+fault-changes-the-answer r c = omega (arith, front (c .sheet-refused (Truncated 0) refl .1 .same-numbers))
