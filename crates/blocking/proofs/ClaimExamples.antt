@@ -8,7 +8,7 @@
 --     places-8, loads-8   both tables after it
 --     answerable-exact    tables of exactly the needed size are large enough
 --     called-exact        what a call with them answers, and what it leaves in both
-use Prim.Native.Nat.{ℕ, zero, suc, _<_, _^_}
+use Prim.Native.Nat.{ℕ}
 use mathlib.Core.Path.{_≡_, refl, ap, _∙_}
 use mathlib.Core.Bool.{false}
 use mathlib.Core.List.{List, [], _∷_}
@@ -19,12 +19,11 @@ use Rattle.sums.specs.Members.{members}
 use Rattle.closure.specs.Closure.{grow, closure, reach}
 use Rattle.fields.specs.declared.sheet.Head.{Head}
 use Rattle.fields.specs.declared.sheet.Job.{Job}
-use Rattle.fields.specs.declared.fault.Verdict.the-variants.{Accepted}
-use Rattle.fields.specs.Tests.{jobAt, hyperEdgeVerdict}
+use Rattle.fields.specs.Tests.{hyperEdgeVerdict}
 use Rattle.fields.specs.Format.{sheetBytes}
 use Rattle.frame.specs.Writing.{jobsVerdict, writerVerdict}
 use Rattle.frame.specs.Reading.{accepted, readSheet}
-use Rattle.frame.proofs.RoundTrip.{write-read}
+use Rattle.frame.proofs.RoundTrip.{write-read-computed}
 use Rattle.algorithm.specs.Day.{dayOf, lowest, highest, longJob}
 use Rattle.algorithm.specs.Board.{rockLoad}
 use Rattle.algorithm.specs.Forced.{inner, outer}
@@ -56,19 +55,9 @@ places = 9 ∷ 9 ∷ 9 ∷ 9 ∷ 9 ∷ []
 abbrev pub loads : List ℕ
 loads = 9 ∷ 9 ∷ 9 ∷ []
 
-taken : writerVerdict head8 jobs8 ≡ Accepted
-unfolding isSet hyperEdgeVerdict jobsVerdict writerVerdict
-taken = refl
-
-fits : (i : ℕ) → i < length jobs8 → jobAt jobs8 i .allowed < 2 ^ 64
-fits zero h = omega arith
-fits (suc zero) h = omega arith
-fits (suc (suc zero)) h = omega arith
-fits (suc (suc (suc zero))) h = omega arith
-fits (suc (suc (suc (suc i)))) h = absurd (omega arith)
-
 pub read-8 : readSheet sheet8 ≡ accepted head8 jobs8
-read-8 = write-read head8 jobs8 taken fits
+unfolding isSet hyperEdgeVerdict jobsVerdict writerVerdict
+read-8 = write-read-computed head8 jobs8 refl refl
 
 pub answerable-8 : Answerable sheet8 places loads head8 jobs8
 answerable-8 = record { sheet-accepted = read-8; place-to-a-job = omega arith; load-to-a-bench = omega arith }

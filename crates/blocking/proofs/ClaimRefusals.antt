@@ -32,19 +32,18 @@ use mathlib.Core.Logic.{inl, inr}
 use mathlib.Core.Bool.{true}
 use mathlib.Core.List.{List, [], _∷_}
 use native.Mathlib.Omega.{arith}
-use lib.ListN.{length, getD}
+use lib.ListN.{getD}
 use Rattle.bools.proofs.BoolLaws.{clash}
 use Rattle.bits.specs.Bits.{isSet}
 use Rattle.fields.specs.declared.fault.Fault.{Fault}
 use Rattle.fields.specs.declared.fault.Fault.the-variants.{Truncated}
-use Rattle.fields.specs.declared.fault.Verdict.the-variants.{Accepted}
 use Rattle.fields.specs.declared.sheet.Head.{Head}
 use Rattle.fields.specs.declared.sheet.Job.{Job}
 use Rattle.fields.specs.Format.{sheetBytes}
-use Rattle.fields.specs.Tests.{jobAt, hyperEdgeVerdict}
+use Rattle.fields.specs.Tests.{hyperEdgeVerdict}
 use Rattle.frame.specs.Reading.{accepted, readFrom, readSheet}
 use Rattle.frame.specs.Writing.{jobsVerdict, writerVerdict}
-use Rattle.frame.proofs.RoundTrip.{write-read}
+use Rattle.frame.proofs.RoundTrip.{write-read-computed}
 use Rattle.demand.specs.SmallSheets.{bay, first, both}
 use Rattle.demand.specs.Demand.{Assignment, allowed, loadOf, keepsTarget, SomeOver}
 use Rattle.algorithm.specs.Answer.{Answer}
@@ -172,17 +171,9 @@ longJobs = first 5 ∷ first 6 ∷ []
 abbrev longSheet : List ℕ
 longSheet = sheetBytes longHead longJobs
 
-long-taken : writerVerdict longHead longJobs ≡ Accepted
-unfolding isSet hyperEdgeVerdict jobsVerdict writerVerdict
-long-taken = refl
-
-long-fits : (i : ℕ) → i < length longJobs → jobAt longJobs i .allowed < 2 ^ 64
-long-fits zero h = omega arith
-long-fits (suc zero) h = omega arith
-long-fits (suc (suc i)) h = absurd (omega arith)
-
 long-read : readSheet longSheet ≡ accepted longHead longJobs
-long-read = write-read longHead longJobs long-taken long-fits
+unfolding isSet hyperEdgeVerdict jobsVerdict writerVerdict
+long-read = write-read-computed longHead longJobs refl refl
 
 abbrev ClaimedLong : Given → List ℕ → List ℕ → Type 0
 ClaimedLong r places′ loads′ = PlannerClaim longSheet exactLoads (9 ∷ []) r places′ loads′
@@ -219,18 +210,9 @@ fullJobs = both 5 ∷ both 5 ∷ both 5 ∷ []
 abbrev fullSheet : List ℕ
 fullSheet = sheetBytes fullHead fullJobs
 
-full-taken : writerVerdict fullHead fullJobs ≡ Accepted
-unfolding isSet hyperEdgeVerdict jobsVerdict writerVerdict
-full-taken = refl
-
-full-fits : (i : ℕ) → i < length fullJobs → jobAt fullJobs i .allowed < 2 ^ 64
-full-fits zero h = omega arith
-full-fits (suc zero) h = omega arith
-full-fits (suc (suc zero)) h = omega arith
-full-fits (suc (suc (suc i))) h = absurd (omega arith)
-
 full-read : readSheet fullSheet ≡ accepted fullHead fullJobs
-full-read = write-read fullHead fullJobs full-taken full-fits
+unfolding isSet hyperEdgeVerdict jobsVerdict writerVerdict
+full-read = write-read-computed fullHead fullJobs refl refl
 
 abbrev ClaimedNone : ℕ → ℕ → List ℕ → List ℕ → Type 0
 ClaimedNone set moves places′ loads′ = PlannerClaim fullSheet exactPlaces exactLoads (None set moves) places′ loads′

@@ -6,21 +6,18 @@
 --                           an entry too many: place 0
 --     short-second, foreign-second, long-second   the second list is so: place 1
 --     both-bad              both are so: place 0
-use Prim.Native.Nat.{ℕ, zero, suc, _<_, _^_}
+use Prim.Native.Nat.{ℕ}
 use mathlib.Core.Path.{_≡_, refl}
 use mathlib.Core.List.{List, [], _∷_}
-use native.Mathlib.Omega.{arith}
-use lib.ListN.{length}
 use Rattle.bits.specs.Bits.{isSet}
 use Rattle.fields.specs.declared.sheet.Head.{Head}
 use Rattle.fields.specs.declared.sheet.Job.{Job}
 use Rattle.fields.specs.declared.fault.Fault.the-variants.{Table}
-use Rattle.fields.specs.declared.fault.Verdict.the-variants.{Accepted}
-use Rattle.fields.specs.Tests.{jobAt, hyperEdgeVerdict}
+use Rattle.fields.specs.Tests.{hyperEdgeVerdict}
 use Rattle.fields.specs.Format.{sheetBytes}
 use Rattle.frame.specs.Writing.{jobsVerdict, writerVerdict}
 use Rattle.frame.specs.Reading.{accepted, readSheet}
-use Rattle.frame.proofs.RoundTrip.{write-read}
+use Rattle.frame.proofs.RoundTrip.{write-read-computed}
 use Rattle.demand.specs.SmallSheets.{bay, both}
 use Rattle.comparison.specs.declared.compared.Compared.the-variants.{Same, Different, Fault as ComparedFault}
 use Rattle.comparison.specs.Comparison.{comparePlans}
@@ -34,17 +31,9 @@ jobs = both 5 ∷ both 5 ∷ []
 abbrev sheet : List ℕ
 sheet = sheetBytes head jobs
 
-taken : writerVerdict head jobs ≡ Accepted
-unfolding isSet hyperEdgeVerdict jobsVerdict writerVerdict
-taken = refl
-
-fits : (i : ℕ) → i < length jobs → jobAt jobs i .allowed < 2 ^ 64
-fits zero h = omega arith
-fits (suc zero) h = omega arith
-fits (suc (suc i)) h = absurd (omega arith)
-
 pub read : readSheet sheet ≡ accepted head jobs
-read = write-read head jobs taken fits
+unfolding isSet hyperEdgeVerdict jobsVerdict writerVerdict
+read = write-read-computed head jobs refl refl
 
 pub swapped-same : comparePlans sheet (0 ∷ 1 ∷ []) (1 ∷ 0 ∷ []) ≡ Same
 unfolding comparePlans isSet

@@ -14,18 +14,21 @@
 --     readFrom-jobFrames  so are the jobs of a list
 -- The whole sheet:
 --     write-read          an accepted head and accepted jobs are read back from the bytes written
+--     write-read-computed the same by two tests, for sheets on which they compute
 --     sheetBytes-injective        so the bytes written tell head and jobs
 use Prim.Native.Nat.{ℕ, suc, _+_, _^_, _≤_, _<_}
 use native.Mathlib.Nat.{add-zero, zero-add, add-suc, suc-add, add-assoc}
 use native.Mathlib.Omega.{arith}
 use mathlib.Core.Path.{_≡_, refl, sym, ap, _∙_}
-use mathlib.Core.Bool.{false}
+use mathlib.Core.Bool.{true, false}
 use mathlib.Core.List.{List, [], _∷_, _++_, append-assoc, append-nil}
 use lib.ListN.{length, getD, drop, length-append}
 use lib.Seq.{take-at, drop-at}
 use lib.Dec.{eqb, ltb, lit<}
-use borrow.Author.Tests.{eq-eqb, ne-eqb, le-ltb}
+use borrow.Author.Tests.{eq-eqb, ne-eqb, le-ltb, ltb-true}
 use Rattle.bools.proofs.BoolLaws.{or-false}
+use Rattle.sums.specs.Search.{all}
+use Rattle.sums.proofs.SearchLaws.{all-elim}
 use Rattle.bits.specs.Bits.{bytesOf}
 use Rattle.bits.specs.Layout.{packed, field, Fit}
 use Rattle.bits.proofs.LayoutLaws.{length-packed, field-packed, field-packed-append}
@@ -204,6 +207,12 @@ write-read h js e w =
     ∙ readFrom-over k [] _ _ refl
     ∙ rw (s .no-heavy-hyper-edge)
     )
+
+pub write-read-computed : (h : Head) (js : List Job) → writerVerdict h js ≡ Accepted
+    → all (length js) (λ i. ltb (jobAt js i .allowed) (2 ^ 64)) ≡ true → readSheet (sheetBytes h js) ≡ accepted h js
+write-read-computed h js e narrow =
+    write-read h js e
+    (λ i l. ltb-true (jobAt js i .allowed) (2 ^ 64) (all-elim (length js) (λ i. ltb (jobAt js i .allowed) (2 ^ 64)) narrow i l))
 
 pub sheetBytes-injective : (h : Head) (js : List Job) (g : Head) (ks : List Job)
     → writerVerdict h js ≡ Accepted → ((i : ℕ) → i < length js → jobAt js i .allowed < 2 ^ 64)

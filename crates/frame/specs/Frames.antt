@@ -57,9 +57,9 @@ pub data Row : List ℕ → Type 0 where
 
 -- ── added frames ──
 
--- "Adding whole frames of other versions between frames": frame by frame, t has a frame more, or the next frame of s, or
--- all that is left of s, which need not be whole frames. Any number of frames is added: before the head, between, and
--- after the end.
+-- "Adding whole frames of other versions between frames": frame by frame, t has a frame more, or the next frame of s,
+-- or all that is left of s, which need not be whole frames. Any number of frames is added: before the head, between,
+-- and after the end.
 pub data Padded : List ℕ → List ℕ → Type 0 where
   unchanged : {s : List ℕ} → Padded s s
   kept : {f s t : List ℕ} → WholeFrame f → Padded s t → Padded (f ++ s) (f ++ t)
@@ -121,8 +121,8 @@ pub record FirstTest (ts : List Test) (f : Fault) : Type 0 where
 abbrev pub readOn : List ℕ → ℕ → Progress → Read
 readOn rest at g = readFrom (length rest) rest at g
 
--- "Frames are judged in sheet order": every frame before byte at is whole, and is foreign or one of version 1 in which no
--- test holds.
+-- "Frames are judged in sheet order": every frame before byte at is whole, and is foreign or one of version 1 in which
+-- no test holds.
 pub data Reached (s : List ℕ) : ℕ → List ℕ → Progress → Type 0 where
   start : Reached s 0 s nothingRead
   past-foreign : {at : ℕ} {f rest : List ℕ} {g : Progress} → Reached s at (f ++ rest) g → Foreign f

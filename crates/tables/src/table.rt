@@ -23,7 +23,7 @@ pub fn entry(t: &[u8], n: usize) -> u64
     little8(&t[8 * n..])
 }
 
-// The first `count` numbers are what was loaded.
+// The first `count` numbers are what was loaded; the others mean nothing.
 pub struct Loaded {
     pub numbers: [u64; 513],
     pub count: usize,
