@@ -97,7 +97,8 @@ fn put_jobs(n: usize, minutes: &[u64], allowed: &[u64], out: &mut [u8])
             minutes: checks::entry(minutes, i),
             allowed: checks::entry(allowed, i),
         };
-        packing::put_job(j, out, 10 + 14 * i);
+        let at = 10 + 14 * i;
+        packing::put_job(j, &mut out[at..at + 14]);
         i += 1;
     }
 }

@@ -17,7 +17,7 @@ use native.Mathlib.Numerals.{add-one}
 use native.Mathlib.Omega.{arith}
 use mathlib.Core.Path.{_≡_, sym, ap, _∙_}
 use mathlib.Core.List.{List, [], _∷_, _++_, append-assoc, append-nil}
-use lib.ListN.{length, take, drop, set, length-append}
+use lib.ListN.{length, take, drop, set, length-append, length-take, length-drop, drop-of-length-le}
 use lib.Seq.{length-take-le, take-all, take-at, drop-at, drop-drop, paste, paste-suc}
 use lib.Dec.{lit≤}
 use borrow.Author.Tests.{le-leb, lt-leb}
@@ -91,11 +91,16 @@ head-fits h out narrow l =
     ap (λ (k : Head). framePut (headFrame k) 0 out) (cutHead-fits h narrow)
     ∙ framePut-room (headFrame h) 0 out 10 (omega (arith, length-headFrame h)) l
 
-pub job-fits : (j : Job) (at : ℕ) (out : List ℕ) → j .minutes < 2 ^ 20 → at + 14 ≤ length out
-    → framePut (jobFrame (cutJob j)) at out ≡ written out at (jobFrame j) (at + 14)
-job-fits j at out m l =
-    ap (λ (k : Job). framePut (jobFrame k) at out) (cutJob-fits j m)
-    ∙ framePut-room (jobFrame j) at out (at + 14) (omega (arith, length-jobFrame j)) l
+-- A part of an output that is as long as the frame becomes the frame.
+pub job-fits : (j : Job) (out : List ℕ) {n : ℕ} → n ≡ 14 → (at : ℕ) → j .minutes < 2 ^ 20 → at + 14 ≤ length out
+    → framePut (jobFrame (cutJob j)) 0 (take n (drop at out)) ≡ jobFrame j
+job-fits j out {n} e at m l =
+    let part = take n (drop at out) in
+    let size : length part ≡ 14 = omega (arith, length-take n (drop at out), length-drop at out) in
+    ap (λ (k : Job). framePut (jobFrame k) 0 part) (cutJob-fits j m)
+    ∙ framePut-room (jobFrame j) 0 part 14 (omega (arith, length-jobFrame j)) (omega arith)
+    ∙ ap (λ (rest : List ℕ). jobFrame j ++ rest) (drop-of-length-le part {i = 14} (omega arith))
+    ∙ append-nil (jobFrame j)
 
 pub end-fits : (at : ℕ) (out : List ℕ) → at + 3 ≤ length out
     → framePut endFrame at out ≡ written out at endFrame (at + 3)

@@ -28,29 +28,26 @@ pub fn put_head(h: Head, out: &mut [u8])
     put(out, 3, 7, fields * 32);
 }
 
-// A job's frame, at byte `at`.
-pub fn put_job(j: Job, out: &mut [u8], at: usize)
-    ensures { λ _. ⌜ now (out .exit) ≡ framePut (jobFrame (cutJob j)) at (now (out .entry)) ⌝ }
+// A job's frame, at the front of the output.
+pub fn put_job(j: Job, out: &mut [u8])
+    ensures { λ _. ⌜ now (out .exit) ≡ framePut (jobFrame (cutJob j)) 0 (now (out .entry)) ⌝ }
 {
     if out.len() < 14 {
         return;
     }
-    if out.len() - 14 < at {
-        return;
-    }
     put(
         out,
-        at,
+        0,
         3,
         FrameHeader::packed(FrameHeader::JOB, FrameHeader::JOB_LENGTH),
     );
     put(
         out,
-        at + 3,
+        3,
         8,
         j.minutes % 1048576 * 17592186044416 + j.allowed / 1048576,
     );
-    put(out, at + 11, 3, j.allowed % 1048576 * 16);
+    put(out, 11, 3, j.allowed % 1048576 * 16);
 }
 
 // The end's frame, at byte `at`.

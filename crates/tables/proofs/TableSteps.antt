@@ -2,27 +2,30 @@
 --     little8-sum             eight bytes, the last one highest, make the number of the first eight
 --     entry-over              an entry that the table has not begun is 0
 --     entry-here              an entry is the number of the bytes from its first on
---     load-more               a turn of the loop that loads a table stores its next entry
---     load-all                then all of its entries stand there, or 513
 --     length-numbersOf        a table has as many numbers as entries
---     loaded-length, loaded-fits    what was loaded has the length that the load returns, and stands inside the array
+--     load-more               a turn of the loop that loads a table stores its next entry
+--     load-all                in the end all of its entries stand there, or as many as there is room for
+--     empty, room             an array of 513 numbers before a load
+--     loaded-front            into an array of 513 the first 513 entries are loaded
+--     loaded-length, loaded-fits    they have the length that the load returns, and stand inside the array
 --     put-byte, put-all       a turn of the loop that puts a number stores the next of its bytes; after eight turns they all stand there
 --     put-none, put-some      a table without room for an entry, and one with room
-use Prim.Native.Nat.{ℕ, _+_, _-_, _*_, _/_, _%_, _^_, _≤_, _<_, min}
-use native.Mathlib.Nat.{min-comm}
+use Prim.Native.Nat.{ℕ, suc, _+_, _-_, _*_, _/_, _%_, _^_, _≤_, _<_, min}
 use native.Mathlib.Numerals.{add-one}
 use native.Mathlib.Omega.{arith}
-use mathlib.Core.Path.{_≡_, sym, ap, _∙_}
-use mathlib.Core.List.{List, _++_}
-use lib.ListN.{length, getD, take, drop, set, length-take, length-drop}
-use lib.Seq.{take-all, take-suc-set, paste, paste-suc}
+use mathlib.Core.Path.{_≡_, sym, ap, subst, _∙_}
+use mathlib.Core.Logic.{inl, inr}
+use mathlib.Core.List.{List, [], _++_}
+use lib.ListN.{length, getD, take, drop, set, replicate, length-take, length-drop, length-replicate, drop-of-length-le}
+use lib.Seq.{take-all, take-at, paste, paste-suc}
+use Rattle.bools.proofs.OrderLaws.{lt-or-le}
 use borrow.Author.Tests.{le-leb, lt-leb}
 use Rattle.sums.specs.Table.{table}
-use Rattle.sums.proofs.TableLaws.{length-table, table-snoc, take-table-min}
+use Rattle.sums.proofs.TableLaws.{length-table, getD-table}
 use Rattle.bits.specs.Little.{little, littleOf}
 use Rattle.bits.proofs.BitsLaws.{pow-256}
 use Rattle.bits.proofs.LittleLaws.{length-littleOf, getD-littleOf, little-over}
-use Rattle.tables.specs.Tables.{entriesOf, entryOf, numbersOf, putEntry}
+use Rattle.tables.specs.Tables.{entriesOf, entryOf, numbersOf, loadedInto, putEntry}
 
 -- ── an entry ──
 
@@ -42,26 +45,59 @@ entry-here t n e = e ∙ rw (take-all (length t - 8 * n) (drop (8 * n) t) (rw le
 
 -- ── the entries of a table ──
 
-pub load-more : (t into : List ℕ) (i : ℕ) {v : ℕ} → i < length into → take i into ≡ table i (entryOf t) → v ≡ entryOf t i
-    → take (i + 1) (set into i v) ≡ table (i + 1) (entryOf t)
-load-more t into i l e x = rw (add-one i, take-suc-set into i _ l, e, x) (sym (table-snoc i (entryOf t)))
-
-pub load-all : (t into : List ℕ) (n : ℕ) → n ≡ min (entriesOf t) 513 → take n into ≡ table n (entryOf t) → take n into ≡ take 513 (numbersOf t)
-unfolding numbersOf
-load-all t into n e l = l ∙ rw (e, min-comm (entriesOf t) 513) (sym (take-table-min 513 (entriesOf t) (entryOf t)))
-
--- ── what was loaded ──
-
 pub length-numbersOf : (t : List ℕ) → length (numbersOf t) ≡ entriesOf t
 unfolding numbersOf
 length-numbersOf t = length-table (entriesOf t) (entryOf t)
 
-module _ (t into : List ℕ) (n : ℕ) (e : n ≡ min (entriesOf t) 513) (l : take n into ≡ take 513 (numbersOf t)) where
-  pub loaded-length : n ≡ length (take n into)
-  loaded-length = omega (arith, ap length l, length-take 513 (numbersOf t), length-numbersOf t)
+entry-at : (t : List ℕ) (i : ℕ) → i < entriesOf t → getD (numbersOf t) i 0 ≡ entryOf t i
+unfolding numbersOf
+entry-at t i l = getD-table (entriesOf t) (entryOf t) i 0 l
 
-  pub loaded-fits : n ≤ length into
-  loaded-fits = omega (arith, loaded-length, length-take n into)
+pub load-more : (t into : List ℕ) (i : ℕ) {v : ℕ} → i < entriesOf t → i < length into → v ≡ entryOf t i
+    → set (paste into 0 (numbersOf t) i) i v ≡ paste into 0 (numbersOf t) (i + 1)
+load-more t into i a l e =
+    let start : 0 + i ≡ i = omega arith in
+    rw (add-one i, e, ← entry-at t i a)
+    (subst (λ (k : ℕ). set (paste into 0 (numbersOf t) i) k (getD (numbersOf t) i 0) ≡ paste into 0 (numbersOf t) (suc i)) start
+    (paste-suc into 0 (numbersOf t) i 0 (omega arith) (omega (arith, length-numbersOf t))))
+
+-- Either all entries have been stored, or the array is full.
+pub load-all : (t into : List ℕ) (n : ℕ) → n ≡ min (entriesOf t) (length into) → paste into 0 (numbersOf t) n ≡ loadedInto t into
+unfolding loadedInto
+load-all t into n e = elim (lt-or-le (length into) (entriesOf t)) [
+  | inl l ↦
+      let full : n ≡ length into = omega arith in
+      let end : 0 + n ≡ n = omega arith in
+      let behind : drop (length into) into ≡ [] = drop-of-length-le into {i = length into} (omega arith) in
+      let rest : drop (entriesOf t) into ≡ [] = drop-of-length-le into {i = entriesOf t} (omega arith) in
+      rw (end, full, behind, rest)
+  | inr l ↦
+      let all : n ≡ entriesOf t = omega arith in
+      let end : 0 + n ≡ n = omega arith in
+      rw (end, all, take-all (entriesOf t) (numbersOf t) (omega (arith, length-numbersOf t)), take-all (length into) (numbersOf t) (omega (arith, length-numbersOf t)))
+]
+
+-- ── what was loaded ──
+
+-- An array before a table is loaded into it.
+abbrev pub empty : List ℕ
+empty = replicate 513 0
+
+pub room : length empty ≡ 513
+room = length-replicate {A = ℕ} 513 0
+
+module _ (t into : List ℕ) (n : ℕ) {after : List ℕ} (room : length into ≡ 513) (e : n ≡ min (entriesOf t) (length into)) (l : after ≡ loadedInto t into) where
+  pub loaded-front : take n after ≡ take 513 (numbersOf t)
+  unfolding loadedInto
+  loaded-front =
+      let size : length (take (length into) (numbersOf t)) ≡ n = omega (arith, length-take (length into) (numbersOf t), length-numbersOf t) in
+      ap (take n) l ∙ take-at (take (length into) (numbersOf t)) (drop (entriesOf t) into) n size ∙ ap (λ (k : ℕ). take k (numbersOf t)) room
+
+  pub loaded-length : n ≡ length (take n after)
+  loaded-length = omega (arith, ap length loaded-front, length-take 513 (numbersOf t), length-numbersOf t)
+
+  pub loaded-fits : n ≤ length after
+  loaded-fits = omega (arith, loaded-length, length-take n after)
 
 -- ── the bytes of an entry ──
 

@@ -3,6 +3,7 @@
 --     entriesOf t       its entries; a begun entry counts
 --     entryOf t n       entry n; bytes that the table lacks are 0
 --     numbersOf t       all entries
+--     loadedInto t xs   the numbers xs with the table's entries in front, as many as there is room for; the others stay
 -- A table that is written:
 --     putEntry t n v    the table with v as entry n; without room for the entry, the table as it is
 --     roomOf t          its whole entries
@@ -24,6 +25,9 @@ entryOf t n = little (drop (8 * n) t) 8
 
 unfoldable pub numbersOf : List ℕ → List ℕ
 numbersOf t = table (entriesOf t) (entryOf t)
+
+unfoldable pub loadedInto : List ℕ → List ℕ → List ℕ
+loadedInto t xs = take (length xs) (numbersOf t) ++ drop (entriesOf t) xs
 
 unfoldable pub putEntry : List ℕ → ℕ → ℕ → List ℕ
 putEntry t n v = cond (leb (8 * n + 8) (length t)) (take (8 * n) t ++ littleOf 8 v ++ drop (8 * n + 8) t) t

@@ -7,7 +7,6 @@ pub use front::UNUSED;
 pub use front::put_front;
 pub use front::put_pair;
 pub use front::room;
-pub use table::Loaded;
 pub use table::load;
 pub use table::put;
 pub use words::fault_word;

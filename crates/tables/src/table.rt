@@ -4,7 +4,7 @@ ghost use Prim.Native.Nat.{_+_, _≤_, _<_, min};
 ghost use mathlib.Core.List.{_++_};
 ghost use lib.ListN.{length, take, drop};
 ghost use Rattle.bits.specs.Little.{little, littleOf};
-ghost use Rattle.tables.specs.Tables.{entriesOf, entryOf, numbersOf, putEntry};
+ghost use Rattle.tables.specs.Tables.{entriesOf, entryOf, loadedInto, putEntry};
 
 // How many entries a table has; a begun entry counts.
 pub fn entries(t: &[u8]) -> usize
@@ -23,26 +23,19 @@ pub fn entry(t: &[u8], n: usize) -> u64
     little8(&t[8 * n..])
 }
 
-// The first `count` numbers are what was loaded; the others mean nothing.
-pub struct Loaded {
-    pub numbers: [u64; 513],
-    pub count: usize,
-}
-
-// The entries of a table, as many as there are, at most 513.
-pub fn load(t: &[u8]) -> Loaded
-    ensures counted { λ r. ⌜ r .count ≡ min (entriesOf (now (t .entry))) 513 ⌝ }
-    ensures loaded { λ r. ⌜ take (r .count) (r .numbers) ≡ take 513 (numbersOf (now (t .entry))) ⌝ }
+// Fills the front of `into` with the entries of a table, as many as there are and fit, and says how many.
+pub fn load(t: &[u8], into: &mut [u64]) -> usize
+    ensures counted { λ r. ⌜ r ≡ min (entriesOf (now (t .entry))) (length (now (into .entry))) ⌝ }
+    ensures loaded { λ _. ⌜ now (into .exit) ≡ loadedInto (now (t .entry)) (now (into .entry)) ⌝ }
 {
     let all = entries(t);
-    let count = if all < 513 { all } else { 513 };
-    let mut numbers = [0u64; 513];
+    let n = if all < into.len() { all } else { into.len() };
     let mut i = 0;
-    while i < count {
-        numbers[i] = entry(t, i);
+    while i < n {
+        into[i] = entry(t, i);
         i += 1;
     }
-    Loaded { numbers, count }
+    n
 }
 
 fn wide(x: u8) -> u64

@@ -12,11 +12,11 @@ pub extern "C" fn yinqocha_compare(sheet: &[u8], first: &[u8], second: &[u8]) ->
         (comparePlans (now (sheet .entry)) (numbersOf (now (first .entry))) (numbersOf (now (second .entry)))) ⌝ }
 {
     // A list of 513 places is as wrong as any longer one.
-    let one = tables::load(first);
-    let two = tables::load(second);
-    let xs = one.numbers;
-    let ys = two.numbers;
-    match comparison::compare(sheet, &xs[..one.count], &ys[..two.count]) {
+    let mut one = [0u64; 513];
+    let mut two = [0u64; 513];
+    let n = tables::load(first, &mut one);
+    let m = tables::load(second, &mut two);
+    match comparison::compare(sheet, &one[..n], &two[..m]) {
         Compared::Same => 1,
         Compared::Different => 0,
         Compared::Fault(f) => tables::fault_word(f),

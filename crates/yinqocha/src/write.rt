@@ -24,17 +24,17 @@ pub extern "C" fn yinqocha_write(
         (headOf benches p q target) (jobsIn (now (minutes .entry)) (now (allowed .entry))) (now (out .entry))) ⌝ }
 {
     // 513 jobs are enough to meet fault 9.
-    let first = tables::load(minutes);
-    let second = tables::load(allowed);
-    let ms = first.numbers;
-    let bs = second.numbers;
+    let mut first = [0u64; 513];
+    let mut second = [0u64; 513];
+    let n = tables::load(minutes, &mut first);
+    let m = tables::load(allowed, &mut second);
     let h = Head {
         benches,
         p,
         q,
         target,
     };
-    match frame::write(h, &ms[..first.count], &bs[..second.count], out) {
+    match frame::write(h, &first[..n], &second[..m], out) {
         Written::Length(k) => k as u64,
         Written::Refusal(f) => tables::fault_word(f),
     }

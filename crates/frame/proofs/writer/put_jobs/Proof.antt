@@ -1,11 +1,14 @@
 -- The loop's invariant: the frames of the first i jobs stand from byte 10 on, and all else is as it was.
-use Prim.Native.Nat.{_+_, _*_, _-_, _^_, _≤_, _<_}
+use Prim.Native.Nat.{ℕ, _+_, _*_, _-_, _^_, _≤_, _<_}
 use native.Mathlib.Omega.{arith}
-use mathlib.Core.Path.{_≡_, refl, _∙_}
-use lib.ListN.{length}
+use mathlib.Core.Path.{_≡_, refl, sym, ap, _∙_}
+use mathlib.Core.List.{List, _++_, append-assoc}
+use lib.ListN.{length, take, drop}
+use borrow.Rule.Slice.PartMut.{postOf, post-is, same-len-mid}
 use denote.Ref.{now}
 use borrow.Author.Needs.{needs}
-use Rattle.fields.specs.Format.{jobFrames}
+use Rattle.fields.specs.declared.sheet.Job.{Job}
+use Rattle.fields.specs.Format.{jobFrame, jobFrames}
 use Rattle.fields.specs.Tests.{jobTable}
 use Rattle.packing.proofs.PutLaws.{job-fits}
 use Rattle.frame.proofs.WriterSteps.{written, jobs-none, jobs-more}
@@ -28,11 +31,23 @@ entry-requires c κs = search needs
 entry-requires-2 : tie.Need-entry-requires-2 Inv-loop μ-loop
 entry-requires-2 c κs = search needs
 
-mul-put-job : tie.Need-mul-put-job Inv-loop μ-loop
-mul-put-job c = omega arith
+mul-at : tie.Need-mul-at Inv-loop μ-loop
+mul-at c = omega arith
+
+add-at : tie.Need-add-at Inv-loop μ-loop
+add-at c = omega arith
 
 add-put-job : tie.Need-add-put-job Inv-loop μ-loop
 add-put-job c = omega arith
+
+sub-put-job : tie.Need-sub-put-job Inv-loop μ-loop
+sub-put-job c = omega arith
+
+part-put-job-start : tie.Need-part-put-job-start Inv-loop μ-loop
+part-put-job-start c = omega arith
+
+part-put-job-end : tie.Need-part-put-job-end Inv-loop μ-loop
+part-put-job-end c = omega arith
 
 put-job-requires : tie.Need-put-job-requires Inv-loop μ-loop
 put-job-requires c κs = search needs
@@ -48,13 +63,21 @@ loop-again c =
     let put = c .before .before in
     let l = put .before .before .before .before .before in
     let a = l .before .before .before .before .args in
+    let out = l .loop .out in
+    let at = 10 + 14 * l .loop .i in
     let fits = l .before .before .before .before .pre .2 (l .loop .i) (put .before .before .before .before .loop-test .taken) in
     let minutes = put .before .before .before .entry in
+    let j : Job = record { minutes = minutes .result; allowed = put .before .before .entry2 .result } in
     let narrow : minutes .result < 2 ^ 20 = omega (arith, minutes .ensures, fits) in
-    let more = jobs-more (now (a .out)) (now (a .minutes)) (now (a .allowed)) (l .loop .i) _ (omega arith) (l .loop .inv .2)
-    (minutes .ensures) (put .before .before .entry2 .ensures)
-    (put .put-job .ensures ∙ job-fits _ (10 + 14 * l .loop .i) (l .loop .out) narrow (omega arith)) in
-    (omega arith, put .put-job .kept .1 .0 ∙ l .loop .inv .1, more)
+    let size : at + 14 - at ≡ 14 = omega arith in
+    let part = put .put-job .ensures ∙ job-fits j out size at narrow (omega arith) in
+    let whole =
+    ap (λ (ys : List ℕ). take at out ++ (ys ++ postOf at (at + 14 - at) out)) part
+    ∙ ap (λ (rest : List ℕ). take at out ++ (jobFrame j ++ rest)) (post-is at (at + 14) out (omega arith))
+    ∙ sym (append-assoc (take at out) (jobFrame j) (drop (at + 14) out)) in
+    let more = jobs-more (now (a .out)) (now (a .minutes)) (now (a .allowed)) (l .loop .i) j (omega arith) (l .loop .inv .2)
+    (minutes .ensures) (put .before .before .entry2 .ensures) whole in
+    (omega arith, same-len-mid at (at + 14 - at) out (put .put-job .last .1 .0) (put .put-job .kept .1 .0) ∙ l .loop .inv .1, more)
 
 same-length : tie.Need-same-length Inv-loop μ-loop
 same-length c = c .before .loop .inv .1
@@ -73,8 +96,12 @@ put-jobs-spec =
     loop-holds
     entry-requires
     entry-requires-2
-    mul-put-job
+    mul-at
+    add-at
     add-put-job
+    sub-put-job
+    part-put-job-start
+    part-put-job-end
     put-job-requires
     add-i
     loop-less

@@ -8,13 +8,7 @@ use Rattle.packing.proofs.put.put_job.Statement.{statement}
 use Rattle.packing.proofs.put.put_job.Tie as tie
 
 returns : tie.Need-returns
-returns c = let a = c .before .before .args in job-none (cutJob (a .j)) (a .at) (now (a .out)) (omega arith)
-
-sub-if2 : tie.Need-sub-if2
-sub-if2 c = search needs
-
-returns-2 : tie.Need-returns-2
-returns-2 c = let a = c .before .before .before .args in job-none (cutJob (a .j)) (a .at) (now (a .out)) (omega arith)
+returns c = let a = c .before .before .args in job-none (cutJob (a .j)) 0 (now (a .out)) (omega arith)
 
 packed-requires : tie.Need-packed-requires
 packed-requires c κs = search needs
@@ -22,22 +16,16 @@ packed-requires c κs = search needs
 put-requires : tie.Need-put-requires
 put-requires c κs = search needs
 
-add-put : tie.Need-add-put
-add-put c = search needs
-
 mul-put : tie.Need-mul-put
 mul-put c = search needs
 
-add-put-2 : tie.Need-add-put-2
-add-put-2 c =
-    let a = c .before .before .before .before .before .before .before .before .before .before .before .args in
+add-put : tie.Need-add-put
+add-put c =
+    let a = c .before .before .before .before .before .before .before .before .before .before .args in
     record { fits = high-fits _ (a .j .allowed) (omega arith) (omega arith) }
 
 put-requires-2 : tie.Need-put-requires-2
 put-requires-2 c κs = search needs
-
-add-put-3 : tie.Need-add-put-3
-add-put-3 c = search needs
 
 mul-put-2 : tie.Need-mul-put-2
 mul-put-2 c = search needs
@@ -48,13 +36,13 @@ put-requires-3 c κs = search needs
 same-length : tie.Need-same-length
 same-length c = search needs
 
-returns-3 : tie.Need-returns-3
-returns-3 c =
+returns-2 : tie.Need-returns-2
+returns-2 c =
     let at-low = c .before .before in
     let at-high = at-low .before .before .before .before .before in
     let at-header = at-high .before .before .before .before .before .before in
-    let a = at-header .before .before .before .before .before .before .args in
-    job-put (now (a .out)) (cutJob (a .j)) (a .at) (omega arith) (omega arith) (omega arith)
+    let a = at-header .before .before .before .before .before .args in
+    job-put (now (a .out)) (cutJob (a .j)) 0 (omega arith) (omega arith) (omega arith)
     (at-header .before .packed .ensures) (at-header .put .ensures) (at-high .put2 .ensures) (at-low .put3 .ensures)
 
 pub put-job-spec : {M : Type 1} → statement M
@@ -62,16 +50,12 @@ put-job-spec =
     tie.close
     (tie.spec
     returns
-    sub-if2
-    returns-2
     packed-requires
     put-requires
-    add-put
     mul-put
-    add-put-2
+    add-put
     put-requires-2
-    add-put-3
     mul-put-2
     put-requires-3
     same-length
-    returns-3)
+    returns-2)

@@ -1,23 +1,23 @@
--- The loop's invariant: the first i elements are the first i entries of the table.
-use Prim.Native.Nat.{ℕ, _-_, _≤_, min}
+-- The loop's invariant: the first i elements are the first i entries of the table, and the others are as they were.
+use Prim.Native.Nat.{_-_, _≤_, min}
 use native.Mathlib.Omega.{arith}
-use mathlib.Core.Path.{_≡_, refl}
+use mathlib.Core.Path.{_≡_, refl, sym, ap, _∙_}
 use mathlib.Core.Logic.{⊎-elim}
-use lib.ListN.{length, take, length-set, length-replicate}
+use lib.ListN.{length, length-set}
+use lib.Seq.{paste, paste-zero}
 use denote.Ref.{now}
 use borrow.Author.Needs.{needs}
-use Rattle.sums.specs.Table.{table}
-use Rattle.tables.specs.Tables.{entriesOf, entryOf}
+use Rattle.tables.specs.Tables.{entriesOf, numbersOf}
 use Rattle.tables.proofs.TableSteps.{load-more, load-all}
 use Rattle.tables.proofs.table.load.Statement.{statement}
 use Rattle.tables.proofs.table.load.Tie as tie
 
 abbrev Inv-loop : tie.InvT-loop
-Inv-loop t all count numbers₀ i₀ numbers i =
-    (i ≤ count) × (count ≡ min (entriesOf t) 513) × (length numbers ≡ 513) × (take i numbers ≡ table i (entryOf t))
+Inv-loop t into₀ all n i₀ into i =
+    (i ≤ n) × (n ≡ min (entriesOf t) (length into₀)) × (length into ≡ length into₀) × (into ≡ paste into₀ 0 (numbersOf t) i)
 
 abbrev μ-loop : tie.MeasureT-loop
-μ-loop t all count numbers₀ i₀ numbers i = count - i
+μ-loop t into₀ all n i₀ into i = n - i
 
 entries-requires : tie.Need-entries-requires Inv-loop μ-loop
 entries-requires c κs = search needs
@@ -25,17 +25,18 @@ entries-requires c κs = search needs
 loop-holds : tie.Need-loop-holds Inv-loop μ-loop
 loop-holds c =
     let all = c .before .entries in
-    let count : c .if1 .count ≡ min (all .result) 513 = ⊎-elim (λ w. omega arith) (λ w. omega arith) (c .if1 .came) in
-    (omega arith, rw (← all .ensures) count, length-replicate {A = ℕ} 513 0, refl)
+    let n : c .if1 .n ≡ min (all .result) (length (now (c .before .before .before .before .args .into))) =
+    ⊎-elim (λ w. omega arith) (λ w. omega arith) (c .if1 .came) in
+    (omega arith, rw (← all .ensures) n, refl, refl)
 
 entry-requires : tie.Need-entry-requires Inv-loop μ-loop
 entry-requires c κs = search needs
 
-mul-numbers : tie.Need-mul-numbers Inv-loop μ-loop
-mul-numbers c = omega arith
+mul-into : tie.Need-mul-into Inv-loop μ-loop
+mul-into c = omega arith
 
-array-write-numbers : tie.Need-array-write-numbers Inv-loop μ-loop
-array-write-numbers c = omega arith
+slice-write-into : tie.Need-slice-write-into Inv-loop μ-loop
+slice-write-into c = omega arith
 
 add-i : tie.Need-add-i Inv-loop μ-loop
 add-i c = omega arith
@@ -46,17 +47,20 @@ loop-less c = omega arith
 loop-again : tie.Need-loop-again Inv-loop μ-loop
 loop-again c =
     let l = c .before .before .loop in
-    let a = c .before .before .before .before .before .before .args in
-    let more = load-more (now (a .t)) (l .numbers) (l .i) (omega arith) (l .inv .3) (c .entry .ensures) in
-    (omega arith, l .inv .1, simp length-set (l .inv .2), more)
+    let a = c .before .before .before .before .before .before .before .args in
+    let more = load-more (now (a .t)) (now (a .into)) (l .i) (omega arith) (omega arith) (c .entry .ensures) in
+    (omega arith, l .inv .1, simp length-set (l .inv .2), rw (l .inv .3) more)
+
+same-length : tie.Need-same-length Inv-loop μ-loop
+same-length c = c .before .loop .inv .2
 
 returns : tie.Need-returns Inv-loop μ-loop
 returns c =
     let l = c .before .loop in
-    let count = c .before .before .if1 .count in
-    let a = c .before .before .before .before .before .args in
-    let e : l .i ≡ count = omega arith in
-    (l .inv .1, load-all (now (a .t)) (l .numbers) count (l .inv .1) (rw e at (l .inv .3)))
+    let n = c .before .before .if1 .n in
+    let a = c .before .before .before .before .before .before .args in
+    let e : l .i ≡ n = omega arith in
+    (l .inv .1, rw e at (l .inv .3) ∙ load-all (now (a .t)) (now (a .into)) n (l .inv .1))
 
 pub load-spec : {M : Type 1} → statement M
 load-spec =
@@ -67,9 +71,10 @@ load-spec =
     entries-requires
     loop-holds
     entry-requires
-    mul-numbers
-    array-write-numbers
+    mul-into
+    slice-write-into
     add-i
     loop-less
     loop-again
+    same-length
     returns)
