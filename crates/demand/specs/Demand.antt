@@ -1,129 +1,93 @@
--- What demand 3 speaks of (document 01, "The three answers"), read from the head and the jobs of a sheet alone.
--- A set of benches is a function to Bool, of which only the benches of the head are looked at.
---     minutesOf js j          the minutes of job j
---     allowed h js j v        bench v is one of the allowed benches of job j
---     heavyJob, lightJob      the two kinds of jobs
---     isAssignment, Assignment        each job of the sheet on one of its allowed benches: as a test, and as a fact
---     loadOf js a v           the load of bench v under the assignment a
---     withinTarget h n, withinBound h n       the load n is at most the target; it is within the demand's bound
---     keepsTarget, keepsBound     every bench of an assignment is so
+-- What demand 3 speaks of (document 01, "The three answers"), of a day that a sheet means; heavy, light, load, bound and
+-- long are the words of crates/day. A set of benches is a function to Bool, of which only the benches of the day are
+-- looked at.
+--     isAssignment, Assignment        each job of the day on one of its allowed benches: as a test, and as a fact
+--     withinTarget d n        the load n is at most the target
+--     keepsTarget, keepsBound     every bench of an assignment is within the target; within the demand's bound
+--     SomeOver d a            the assignment a leaves some bench above the target
 --     Placement               each heavy job on an allowed bench, no bench taking two
---     keptInside h js set j v     job j may not go to v, or v is in the set
---     liesInside h js set j   all allowed benches of job j lie in the set
+--     keptInside d set j v    job j may not go to v, or v is in the set
+--     liesInside d set j      all allowed benches of job j lie in the set
 --     weightInside            what weighs inside a set, for a placement
 --     Blocking                the blocking sets
---     tooLong, LongJob        a job longer than the target: as a test, and as a fact
---     EachFits                no job is longer than the target
---     SomeOver h js a         the assignment a leaves some bench above the target
---     moveBound               benches × light jobs that have a choice
+--     LongJob, EachFits       some job is longer than the target; no job is
+--     SoundLong d j           j is the lowest job that is longer than the target
 use Prim.Native.Nat.{ℕ, _+_, _*_, _≤_, _<_}
 use mathlib.Core.Path.{_≡_}
 use mathlib.Core.Bool.{Bool, true, not, _&&_, _||_}
-use mathlib.Core.List.{List}
-use lib.ListN.{length}
-use lib.Dec.{eqb, leb, ltb}
+use lib.Dec.{leb}
 use Rattle.sums.specs.Sum.{on, sum, count}
 use Rattle.sums.specs.Search.{all}
-use Rattle.fields.specs.declared.sheet.Head.{Head}
-use Rattle.fields.specs.declared.sheet.Job.{Job}
-use Rattle.fields.specs.Format.{allows}
-use Rattle.fields.specs.Tests.{jobAt}
-
--- The minutes of a job.
-abbrev pub minutesOf : List Job → ℕ → ℕ
-minutesOf js j = jobAt js j .minutes
-
--- "benches allowed (64, the first bit is bench 0)", of the benches that the head has.
-abbrev pub allowed : Head → List Job → ℕ → ℕ → Bool
-allowed h js j v = ltb v (h .benches) && allows (jobAt js j) v
-
--- "a job is heavy if q × minutes > p × T, otherwise light"
-abbrev pub heavyJob : Head → List Job → ℕ → Bool
-heavyJob h js j = ltb (h .p * h .target) (h .q * minutesOf js j)
-
--- "otherwise light"
-abbrev pub lightJob : Head → List Job → ℕ → Bool
-lightJob h js j = not (heavyJob h js j)
+use Rattle.day.specs.Day.{Day, heavy, light, loadOf, withinBound, tooLong}
 
 -- ── assignments ──
 
 -- "An assignment gives each job of the sheet one of its allowed benches."
-abbrev pub isAssignment : Head → List Job → (ℕ → ℕ) → Bool
-isAssignment h js a = all (length js) (λ j. allowed h js j (a j))
+abbrev pub isAssignment : Day → (ℕ → ℕ) → Bool
+isAssignment d a = all (d .jobs) (λ j. d .allows j (a j))
 
-pub record Assignment (h : Head) (js : List Job) (a : ℕ → ℕ) : Type 0 where
-  pub on-allowed : (j : ℕ) → j < length js → allowed h js j (a j) ≡ true
-
--- "A bench's load under it is the sum of the minutes of the jobs put there."
-abbrev pub loadOf : List Job → (ℕ → ℕ) → ℕ → ℕ
-loadOf js a v = sum (length js) (λ j. on (eqb (a j) v) (minutesOf js j))
+pub record Assignment (d : Day) (a : ℕ → ℕ) : Type 0 where
+  pub on-allowed : (j : ℕ) → j < d .jobs → d .allows j (a j) ≡ true
 
 -- A load within T.
-abbrev pub withinTarget : Head → ℕ → Bool
-withinTarget h n = leb n (h .target)
-
--- "A load is within the demand's bound if 3q × load ≤ (5q + p) × T."
-abbrev pub withinBound : Head → ℕ → Bool
-withinBound h n = leb (3 * h .q * n) ((5 * h .q + h .p) * h .target)
+abbrev pub withinTarget : Day → ℕ → Bool
+withinTarget d n = leb n (d .target)
 
 -- Every bench is within T.
-abbrev pub keepsTarget : Head → List Job → (ℕ → ℕ) → Bool
-keepsTarget h js a = all (h .benches) (λ v. withinTarget h (loadOf js a v))
+abbrev pub keepsTarget : Day → (ℕ → ℕ) → Bool
+keepsTarget d a = all (d .benches) (λ v. withinTarget d (loadOf d a v))
 
 -- Every bench is within the demand's bound.
-abbrev pub keepsBound : Head → List Job → (ℕ → ℕ) → Bool
-keepsBound h js a = all (h .benches) (λ v. withinBound h (loadOf js a v))
+abbrev pub keepsBound : Day → (ℕ → ℕ) → Bool
+keepsBound d a = all (d .benches) (λ v. withinBound d (loadOf d a v))
 
 -- "every assignment leaves some bench above T"
-abbrev pub SomeOver : Head → List Job → (ℕ → ℕ) → Type 0
-SomeOver h js a = (v : ℕ) × (v < h .benches) × (h .target < loadOf js a v)
+abbrev pub SomeOver : Day → (ℕ → ℕ) → Type 0
+SomeOver d a = (v : ℕ) × (v < d .benches) × (d .target < loadOf d a v)
 
 -- ── placements and blocking sets ──
 
 -- "A placement puts each heavy job on an allowed bench, no bench taking two."
-pub record Placement (h : Head) (js : List Job) (place : ℕ → ℕ) : Type 0 where
-  pub on-allowed : (j : ℕ) → j < length js → heavyJob h js j ≡ true → allowed h js j (place j) ≡ true
-  pub one-to-a-bench : (e f : ℕ) → e < length js → f < length js
-      → heavyJob h js e ≡ true → heavyJob h js f ≡ true → place e ≡ place f → e ≡ f
+pub record Placement (d : Day) (place : ℕ → ℕ) : Type 0 where
+  pub on-allowed : (j : ℕ) → j < d .jobs → heavy d j ≡ true → d .allows j (place j) ≡ true
+  pub one-to-a-bench : (e f : ℕ) → e < d .jobs → f < d .jobs
+      → heavy d e ≡ true → heavy d f ≡ true → place e ≡ place f → e ≡ f
 
 -- Job j may not go to bench v, or v is inside.
-abbrev pub keptInside : Head → List Job → (ℕ → Bool) → ℕ → ℕ → Bool
-keptInside h js set j v = not (allowed h js j v) || set v
+abbrev pub keptInside : Day → (ℕ → Bool) → ℕ → ℕ → Bool
+keptInside d set j v = not (d .allows j v) || set v
 
 -- "light jobs whose benches all lie inside it"
-abbrev pub liesInside : Head → List Job → (ℕ → Bool) → ℕ → Bool
-liesInside h js set j = all (h .benches) (keptInside h js set j)
+abbrev pub liesInside : Day → (ℕ → Bool) → ℕ → Bool
+liesInside d set j = all (d .benches) (keptInside d set j)
 
--- "the heavy jobs placed inside it, plus all light jobs whose benches all lie inside it"
-abbrev pub weightInside : Head → List Job → (ℕ → ℕ) → (ℕ → Bool) → ℕ
-weightInside h js place set =
-    sum (length js) (λ j. on (heavyJob h js j && set (place j)) (minutesOf js j))
-    + sum (length js) (λ j. on (lightJob h js j && liesInside h js set j) (minutesOf js j))
+-- "the heavy jobs placed inside it, plus all light jobs whose benches all lie inside it"; and what is booked on its
+-- benches.
+abbrev pub weightInside : Day → (ℕ → ℕ) → (ℕ → Bool) → ℕ
+weightInside d place set =
+    sum (d .benches) (λ v. on (set v) (d .booked v))
+    + (sum (d .jobs) (λ j. on (heavy d j && set (place j)) (d .minutes j))
+    + sum (d .jobs) (λ j. on (light d j && liesInside d set j) (d .minutes j)))
 
 -- "A non-empty set of k benches is blocking if in every placement the heavy jobs placed inside it, plus all light jobs
 -- whose benches all lie inside it, weigh more than k × T. Where no placement exists every non-empty set is blocking."
-pub record Blocking (h : Head) (js : List Job) (set : ℕ → Bool) : Type 0 where
-  pub some-bench : 0 < count (h .benches) set
-  pub heavier : (place : ℕ → ℕ) → Placement h js place
-      → count (h .benches) set * h .target < weightInside h js place set
+pub record Blocking (d : Day) (set : ℕ → Bool) : Type 0 where
+  pub some-bench : 0 < count (d .benches) set
+  pub heavier : (place : ℕ → ℕ) → Placement d place
+      → count (d .benches) set * d .target < weightInside d place set
 
 -- ── long jobs ──
 
--- "Long: the lowest job with more than T minutes." Here any such job: one is enough to shut the rival out.
-abbrev pub tooLong : Head → List Job → ℕ → Bool
-tooLong h js j = ltb (h .target) (minutesOf js j)
-
-pub record LongJob (h : Head) (js : List Job) (j : ℕ) : Type 0 where
-  pub is-job : j < length js
-  pub longer : tooLong h js j ≡ true
+-- Any job with more than T minutes: one is enough to shut the rival out.
+pub record LongJob (d : Day) (j : ℕ) : Type 0 where
+  pub is-job : j < d .jobs
+  pub longer : tooLong d j ≡ true
 
 -- "With every job at most T"
-abbrev pub EachFits : Head → List Job → Type 0
-EachFits h js = (j : ℕ) → j < length js → minutesOf js j ≤ h .target
+abbrev pub EachFits : Day → Type 0
+EachFits d = (j : ℕ) → j < d .jobs → d .minutes j ≤ d .target
 
--- ── moves ──
-
--- Benches × light jobs that have a choice.
-abbrev pub moveBound : Head → List Job → ℕ
-moveBound h js =
-    h .benches * count (length js) (λ j. lightJob h js j && leb 2 (count (h .benches) (allowed h js j)))
+-- "Long: the lowest job with more than T minutes."
+pub record SoundLong (d : Day) (j : ℕ) : Type 0 where
+  pub is-long : LongJob d j
+  pub lowest : (i : ℕ) → i < j → d .minutes i ≤ d .target

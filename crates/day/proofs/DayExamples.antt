@@ -1,0 +1,85 @@
+-- Small sheets on which the words of a day are computed: each word just where it holds, and just where it does not.
+--     allowed-last, allowed-past-head, allowed-past-64, allowed-not-there     the allowed benches of a job
+--     heavy-at-limit, heavy-above         q × minutes = p × T is light, more is heavy
+--     long-above, not-long-at-target      a job above T
+--     load-of-three, booked-load          a load; booked minutes are part of it
+--     bound-within, bound-above, load-at-bound    the demand's bound
+--     bound-of-moves                      benches × light jobs that have a choice
+use Prim.Native.Nat.{ℕ, _*_, _-_, _/_}
+use mathlib.Core.Path.{_≡_, refl}
+use mathlib.Core.Bool.{true, false}
+use mathlib.Core.List.{List, [], _∷_}
+use Rattle.bits.specs.Bits.{isSet}
+use Rattle.day.specs.Day.{Day, heavy, loadOf, withinBound, tooLong, moveBound}
+use Rattle.day.specs.SmallSheets.{dayWith, bay, first, both, three, last, withBooked}
+
+-- ── jobs ──
+
+
+-- "benches allowed (64, the first bit is bench 0)": the last bit is bench 63.
+pub allowed-last : dayWith (bay 64 4 7 5) (last 5 ∷ []) .allows 0 63 ≡ true
+unfolding isSet
+allowed-last = refl
+
+-- A bench that the head lacks is not allowed.
+pub allowed-past-head : dayWith (bay 63 4 7 5) (last 5 ∷ []) .allows 0 63 ≡ false
+unfolding isSet
+allowed-past-head = refl
+
+pub allowed-past-64 : dayWith (bay 64 4 7 5) (last 5 ∷ []) .allows 0 64 ≡ false
+unfolding isSet
+allowed-past-64 = refl
+
+-- Benches 0 and 62 are other bits.
+pub allowed-not-there : (dayWith (bay 64 4 7 5) (last 5 ∷ []) .allows 0 0 ≡ false) × (dayWith (bay 64 4 7 5) (last 5 ∷ []) .allows 0 62 ≡ false)
+unfolding isSet
+allowed-not-there = (refl, refl)
+
+-- "heavy if q × minutes > p × T": 7 × 4 is not above 4 × 7.
+pub heavy-at-limit : heavy (dayWith (bay 1 4 7 7) (first 4 ∷ [])) 0 ≡ false
+heavy-at-limit = refl
+
+pub heavy-above : heavy (dayWith (bay 1 4 7 7) (first 5 ∷ [])) 0 ≡ true
+heavy-above = refl
+
+-- "Long: the lowest job with more than T minutes."
+pub long-above : tooLong (dayWith (bay 1 4 7 5) (first 6 ∷ [])) 0 ≡ true
+long-above = refl
+
+pub not-long-at-target : tooLong (dayWith (bay 1 4 7 5) (first 5 ∷ [])) 0 ≡ false
+not-long-at-target = refl
+
+-- ── loads ──
+
+-- Three jobs of 5 on both of two benches; jobs 0 and 1 on bench 1, job 2 on bench 0.
+abbrev three-jobs : Day
+three-jobs = dayWith (bay 2 4 7 10) (both 5 ∷ both 5 ∷ both 5 ∷ [])
+
+abbrev split : ℕ → ℕ
+split j = 1 - j / 2
+
+pub load-of-three : (loadOf three-jobs split 0 ≡ 5) × (loadOf three-jobs split 1 ≡ 10)
+load-of-three = (refl, refl)
+
+-- "3q × load ≤ (5q + p) × T", here 156: 21 × 7 is 147, 21 × 8 is 168.
+pub bound-within : withinBound (dayWith (bay 2 4 7 4) []) 7 ≡ true
+bound-within = refl
+
+pub bound-above : withinBound (dayWith (bay 2 4 7 4) []) 8 ≡ false
+bound-above = refl
+
+-- "21 × 15 = 315 ≤ 39 × 9 = 351"
+pub load-at-bound : withinBound (dayWith (bay 2 4 7 9) []) 15 ≡ true
+load-at-bound = refl
+
+-- With 3 minutes booked on bench 0.
+pub booked-load : (loadOf (withBooked three-jobs (λ v. 3 - 3 * v)) split 0 ≡ 8)
+    × (loadOf (withBooked three-jobs (λ v. 3 - 3 * v)) split 1 ≡ 10)
+booked-load = (refl, refl)
+
+-- ── moves ──
+
+-- Three benches, T = 7. Two jobs have a choice and are light, of 4 on three benches and of 2 on two; one of 5 is heavy, one of 2 has no choice.
+pub bound-of-moves : moveBound (dayWith (bay 3 4 7 7) (three 4 ∷ both 5 ∷ first 2 ∷ both 2 ∷ [])) ≡ 6
+unfolding isSet
+bound-of-moves = refl

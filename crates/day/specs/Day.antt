@@ -1,0 +1,100 @@
+-- A day to plan: what the contents of a sheet mean, and the words that the run and the demand share (document 01, "The
+-- three answers" and "The run").
+--     Day                 benches, jobs, the share p / q and the target T; minutes and allowed benches of each job;
+--                         booked minutes of each bench
+--     dayOf c             the day of the contents c of a sheet
+--     choices d j         how many benches job j may go to
+--     heavy, light        the two kinds of jobs
+--     pebble d j          job j is light and has a choice: chapter 4's pebbles
+--     placeIn places      the bench that a table of places has for each job
+--     loadOf d a v        the load of bench v under the assignment a
+--     scale, bound        3q and (5q + p) × T
+--     withinBound d n     the load n is within the demand's bound
+--     tooLong, longJob    a job longer than T; the lowest such job, and the number of jobs where there is none
+--     moveBound d         benches × light jobs that have a choice
+use Prim.Native.Nat.{ℕ, _+_, _*_}
+use mathlib.Core.Bool.{Bool, not, _&&_}
+use mathlib.Core.List.{List}
+use lib.ListN.{length, getD}
+use lib.Dec.{eqb, leb, ltb}
+use Rattle.sums.specs.Sum.{on, sum, count}
+use Rattle.sums.specs.Search.{least}
+use Rattle.fields.specs.Contents.{Contents}
+use Rattle.fields.specs.Format.{allows as allowsBench}
+use Rattle.fields.specs.Tests.{jobAt}
+
+pub record Day : Type 0 where
+  pub benches : ℕ
+  pub jobs : ℕ
+  pub p : ℕ
+  pub q : ℕ
+  pub target : ℕ
+  pub minutes : ℕ → ℕ
+  pub allows : ℕ → ℕ → Bool
+  pub booked : ℕ → ℕ
+
+-- "benches allowed (64, the first bit is bench 0)", of the benches that the head has. A sheet books no minutes.
+abbrev pub dayOf : Contents → Day
+dayOf c =
+    record {
+      benches = c .head .benches;
+      jobs = length (c .jobs);
+      p = c .head .p;
+      q = c .head .q;
+      target = c .head .target;
+      minutes = λ j. jobAt (c .jobs) j .minutes;
+      allows = λ j v. ltb v (c .head .benches) && allowsBench (jobAt (c .jobs) j) v;
+      booked = λ v. 0;
+    }
+
+-- ── jobs ──
+
+abbrev pub choices : Day → ℕ → ℕ
+choices d j = count (d .benches) (d .allows j)
+
+-- "a job is heavy if q × minutes > p × T, otherwise light"
+abbrev pub heavy : Day → ℕ → Bool
+heavy d j = ltb (d .p * d .target) (d .q * d .minutes j)
+
+abbrev pub light : Day → ℕ → Bool
+light d j = not (heavy d j)
+
+-- "its pebbles light jobs with two or more"
+abbrev pub pebble : Day → ℕ → Bool
+pebble d j = light d j && leb 2 (choices d j)
+
+-- ── loads ──
+
+-- "Entry j of the first table is job j's bench"
+abbrev pub placeIn : List ℕ → ℕ → ℕ
+placeIn places j = getD places j 0
+
+-- "A bench's load under it is the sum of the minutes of the jobs put there." Booked minutes count too.
+abbrev pub loadOf : Day → (ℕ → ℕ) → ℕ → ℕ
+loadOf d a v = d .booked v + sum (d .jobs) (λ j. on (eqb (a j) v) (d .minutes j))
+
+-- "Every comparison is multiplied out by 3q and exact."
+abbrev pub scale : Day → ℕ
+scale d = 3 * d .q
+
+abbrev pub bound : Day → ℕ
+bound d = (5 * d .q + d .p) * d .target
+
+-- "A load is within the demand's bound if 3q × load ≤ (5q + p) × T."
+abbrev pub withinBound : Day → ℕ → Bool
+withinBound d n = leb (scale d * n) (bound d)
+
+-- ── long jobs ──
+
+abbrev pub tooLong : Day → ℕ → Bool
+tooLong d j = ltb (d .target) (d .minutes j)
+
+-- "Long: the lowest job with more than T minutes. Tried before the run."
+unfoldable pub longJob : Day → ℕ
+longJob d = least (d .jobs) (tooLong d)
+
+-- ── moves ──
+
+-- "Moves ≤ benches × light jobs that have a choice."
+abbrev pub moveBound : Day → ℕ
+moveBound d = d .benches * count (d .jobs) (pebble d)

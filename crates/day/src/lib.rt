@@ -1,0 +1,1 @@
+// A day to plan, as the definitions in specs/. No code.
