@@ -15,7 +15,8 @@ use lib.ListN.{getD}
 use lib.Dec.{leb}
 use borrow.Author.Tests.{ltb-true, ltb-false}
 use Rattle.bools.proofs.BoolLaws.{and-left, not-true}
-use Rattle.algorithm.specs.Day.{Day, choices, heavy, rock, pebble, weight, bound, small, limit}
+use Rattle.day.specs.Day.{Day, choices, heavy, pebble, bound}
+use Rattle.algorithm.specs.Rocks.{rock, weight, small, limit}
 use Rattle.algorithm.specs.Start.{State, start}
 use Rattle.algorithm.specs.Run.{boardOf}
 use Rattle.algorithm.specs.Properties.{SoundBoard}

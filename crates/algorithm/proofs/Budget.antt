@@ -17,7 +17,7 @@ use mathlib.Core.Bool.{true, false}
 use lib.Dec.{ltb}
 use native.Mathlib.Omega.{arith}
 use Rattle.bools.proofs.BoolLaws.{split}
-use Rattle.algorithm.specs.Day.{Day, longJob}
+use Rattle.day.specs.Day.{Day, longJob}
 use Rattle.algorithm.specs.Push.{pushJob, pushBench}
 use Rattle.algorithm.specs.Start.{State, start, crowdedBench}
 use Rattle.algorithm.specs.Run.{boardOf, Outcome, planned, long, blocked, explored, congested, canMove, nextState, answerAt, turns, budget, run}

@@ -17,7 +17,8 @@ use Rattle.bools.proofs.BoolLaws.{split, clash, and-intro, or-left, or-right, n
 use Rattle.bools.proofs.OrderLaws.{eq-or-ne}
 use Rattle.sums.specs.Sum.{count}
 use Rattle.sums.proofs.CountLaws.{count-mono, count-remove, count-two}
-use Rattle.algorithm.specs.Day.{Day, rock, lowest, highest}
+use Rattle.day.specs.Day.{Day}
+use Rattle.algorithm.specs.Rocks.{rock, lowest, highest}
 use Rattle.algorithm.specs.Board.{Board, Directions, touches, other, neutral}
 use Rattle.algorithm.specs.Forced.{direct}
 use Rattle.algorithm.specs.Start.{State, component, rocksIn, oneCycle, leftAt, start}

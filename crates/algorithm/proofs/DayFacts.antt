@@ -10,7 +10,7 @@ use Prim.Native.Nat.{ℕ, zero, suc, _+_, _≤_}
 use mathlib.Core.Path.{_≡_, _∙_}
 use mathlib.Core.Bool.{true}
 use native.Mathlib.Omega.{arith}
-use Rattle.algorithm.specs.Day.{Day}
+use Rattle.day.specs.Day.{Day}
 use Rattle.algorithm.specs.Board.{Board}
 use Rattle.algorithm.specs.Start.{State, start}
 use Rattle.algorithm.specs.Run.{boardOf, explored, canMove, nextState, turns, budget, run}

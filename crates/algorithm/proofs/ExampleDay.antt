@@ -12,7 +12,8 @@ use lib.Dec.{eqb, ltb}
 use borrow.Author.Tests.{ltb-true}
 use Rattle.bools.proofs.BoolLaws.{and-left}
 use Rattle.sums.specs.Table.{table}
-use Rattle.algorithm.specs.Day.{Day, choices, lowest, highest}
+use Rattle.day.specs.Day.{Day, choices}
+use Rattle.algorithm.specs.Rocks.{lowest, highest}
 use Rattle.algorithm.specs.Start.{crowdedBench, oneCycle, peel, start}
 use Rattle.algorithm.specs.Settle.{follow, settleFrom}
 use Rattle.algorithm.specs.SoundDay.{SoundDay, Uncrowded}

@@ -9,7 +9,9 @@ use Rattle.sums.specs.Members.{members}
 use Rattle.closure.specs.Closure.{grow, closure, reach}
 use Rattle.fields.specs.Tests.{hyperEdgeVerdict}
 use Rattle.frame.specs.Writing.{jobsVerdict, writerVerdict}
-use Rattle.algorithm.specs.Day.{Day, dayOf, lowest, highest, longJob}
+use Rattle.day.specs.Day.{Day, longJob}
+use Rattle.answers.specs.Answers.{setOf}
+use Rattle.algorithm.specs.Rocks.{lowest, highest}
 use Rattle.algorithm.specs.Board.{rockLoad}
 use Rattle.algorithm.specs.Forced.{inner, outer}
 use Rattle.algorithm.specs.Explore.{conflictSet, construct, activate, openRound, rounds, explore}
@@ -17,21 +19,21 @@ use Rattle.algorithm.specs.Settle.{follow, settleFrom}
 use Rattle.algorithm.specs.Start.{crowdedBench, oneCycle, peel, start}
 use Rattle.algorithm.specs.Run.{ownMinutes, nextState, answerAt, turns, run}
 use Rattle.algorithm.specs.States.{Reached, at-start, by-move}
-use Rattle.algorithm.specs.Answer.{planSheet}
-use Rattle.demand.specs.SmallSheets.{bay, both}
+use Rattle.algorithm.specs.Answer.{planContents}
+use Rattle.day.specs.SmallSheets.{dayWith, bay, both}
 use Rattle.algorithm.specs.Examples.{examples, errorExamples}
 
-pub examples-hold : map (λ e. planSheet (e .head) (e .jobs)) examples ≡ map (λ e. e .answer) examples
-unfolding examples isSet grow closure reach hyperEdgeVerdict jobsVerdict writerVerdict lowest highest longJob rockLoad inner outer conflictSet construct activate openRound rounds explore follow settleFrom crowdedBench oneCycle peel start ownMinutes answerAt turns run members
+pub examples-hold : map (λ e. planContents (e .contents)) examples ≡ map (λ e. e .reply) examples
+unfolding examples isSet grow closure reach hyperEdgeVerdict jobsVerdict writerVerdict lowest highest longJob rockLoad inner outer conflictSet construct activate openRound rounds explore follow settleFrom crowdedBench oneCycle peel start ownMinutes answerAt turns run members setOf
 examples-hold = refl
 
 abbrev day8 : Day
-day8 = dayOf (bay 2 4 7 4) (both 2 ∷ both 2 ∷ both 2 ∷ both 2 ∷ [])
+day8 = dayWith (bay 2 4 7 4) (both 2 ∷ both 2 ∷ both 2 ∷ both 2 ∷ [])
 
 pub one-move : Reached day8 1 (nextState day8 (start day8))
 unfolding isSet grow closure reach lowest highest longJob rockLoad inner outer conflictSet construct activate openRound rounds explore crowdedBench oneCycle peel start ownMinutes
 one-move = by-move (at-start refl refl) refl
 
-pub errors-shut-out : map (λ e. planSheet (e .head) (e .jobs)) errorExamples ≡ map (λ e. e .answer) errorExamples
-unfolding errorExamples isSet grow closure reach hyperEdgeVerdict jobsVerdict writerVerdict lowest highest longJob rockLoad inner outer conflictSet construct activate openRound rounds explore follow settleFrom crowdedBench oneCycle peel start ownMinutes answerAt turns run members
+pub errors-shut-out : map (λ e. planContents (e .contents)) errorExamples ≡ map (λ e. e .reply) errorExamples
+unfolding errorExamples isSet grow closure reach hyperEdgeVerdict jobsVerdict writerVerdict lowest highest longJob rockLoad inner outer conflictSet construct activate openRound rounds explore follow settleFrom crowdedBench oneCycle peel start ownMinutes answerAt turns run members setOf
 errors-shut-out = refl

@@ -1,7 +1,7 @@
 -- The run starts in a good state.
 --     good-start     every pebble lies on its lowest bench, which it allows
 use mathlib.Core.Path.{refl}
-use Rattle.algorithm.specs.Day.{Day}
+use Rattle.day.specs.Day.{Day}
 use Rattle.algorithm.specs.Start.{start}
 use Rattle.algorithm.specs.SoundDay.{SoundDay}
 use Rattle.algorithm.proofs.Moves.{Good}

@@ -1,4 +1,5 @@
 pub mod BoardLaws
+pub mod SheetDay
 pub mod ExampleLaws
 pub mod GrowthLaws
 pub mod StepLaws

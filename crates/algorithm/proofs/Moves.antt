@@ -23,7 +23,7 @@ use Rattle.sums.specs.Sum.{on}
 use Rattle.sums.specs.Search.{any}
 use Rattle.sums.proofs.SumLaws.{on-le, sum-update}
 use Rattle.sums.proofs.SearchLaws.{least-holds, any-least}
-use Rattle.algorithm.specs.Day.{Day, pebble, scale}
+use Rattle.day.specs.Day.{Day, pebble, scale}
 use Rattle.algorithm.specs.Push.{canPush, pushJob, pushBench}
 use Rattle.algorithm.specs.Start.{State, start}
 use Rattle.algorithm.specs.Run.{ownMinutes, boardOf, moved, explored, congested, canMove, nextState}

@@ -18,7 +18,8 @@ use Rattle.sums.specs.Sum.{on, sum, count}
 use Rattle.sums.proofs.SumLaws.{sum-cong, sum-le, sum-mul}
 use Rattle.sums.proofs.MoreSumLaws.{sum-on-gap, sum-on-const}
 use Rattle.sums.proofs.CountLaws.{count-mono, count-none, count-pos, count-swap}
-use Rattle.algorithm.specs.Day.{Day, rock, lowest, highest}
+use Rattle.day.specs.Day.{Day}
+use Rattle.algorithm.specs.Rocks.{rock, lowest, highest}
 use Rattle.algorithm.specs.Start.{component, rocksIn, oneCycle, leftAt, start}
 use Rattle.algorithm.specs.SoundDay.{SoundDay}
 use Rattle.algorithm.proofs.RockLaws.{rock-choices, low-allowed, high-allowed, high-below, low-below-high}

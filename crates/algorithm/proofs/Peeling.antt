@@ -28,15 +28,16 @@ use Rattle.sums.specs.Table.{table}
 use Rattle.sums.proofs.SearchLaws.{any-elim, any-none, least-holds, least-before, least-bound}
 use Rattle.sums.proofs.TableLaws.{length-table, getD-table}
 use Rattle.sums.proofs.CountLaws.{count-le, count-zero, count-unique, count-strict, count-pos-elim, count-remove, count-injective}
-use Rattle.algorithm.specs.Day.{Day, rock, lowest}
+use Rattle.day.specs.Day.{Day}
+use Rattle.algorithm.specs.Rocks.{rock, lowest}
 use Rattle.algorithm.specs.Start.{State, component, rocksIn, crowded, oneCycle, leftAt, hanging, peel, start}
-use Rattle.algorithm.specs.SoundDay.{SoundDay, Placement}
+use Rattle.algorithm.specs.SoundDay.{SoundDay, RockPlacement}
 use Rattle.algorithm.proofs.RockLaws.{lowest-allowed, low-allowed}
 use Rattle.algorithm.proofs.RockGraph.{component-allowed, component-self}
 
 -- ── placements ──
 
-module _ (d : Day) (sound : SoundDay d) (pl : ℕ → ℕ) (placed : Placement d pl) (v : ℕ) where
+module _ (d : Day) (sound : SoundDay d) (pl : ℕ → ℕ) (placed : RockPlacement d pl) (v : ℕ) where
   abbrev inComponent : ℕ → Bool
   inComponent j = rock d j && component d v (lowest d j)
 
@@ -75,7 +76,7 @@ module _ (d : Day) (sound : SoundDay d) (pl : ℕ → ℕ) (placed : Placement d
     ))
   ]
 
-pub crowded-no-placement : (d : Day) → SoundDay d → (v : ℕ) → crowded d v ≡ true → (pl : ℕ → ℕ) → Placement d pl → ⊥
+pub crowded-no-placement : (d : Day) → SoundDay d → (v : ℕ) → crowded d v ≡ true → (pl : ℕ → ℕ) → RockPlacement d pl → ⊥
 crowded-no-placement d sound v p pl placed =
     omega (arith, ltb-true (count (d .benches) (component d v)) (rocksIn d v) p, placement-few d sound pl placed v)
 
@@ -94,7 +95,7 @@ pub record Peeled (d : Day) (s : State) : Type 0 where
   pub peeled-bare : (j i : ℕ) → j < d .jobs → i < d .jobs → rock d j ≡ true → getD (s .left) j false ≡ false
       → leftAt d (s .left) (getD (s .place) j 0) i ≡ false
   -- Every placement puts a peeled rock there.
-  pub peeled-forced : (pl : ℕ → ℕ) → Placement d pl → (j : ℕ) → j < d .jobs → rock d j ≡ true → getD (s .left) j false ≡ false
+  pub peeled-forced : (pl : ℕ → ℕ) → RockPlacement d pl → (j : ℕ) → j < d .jobs → rock d j ≡ true → getD (s .left) j false ≡ false
       → pl j ≡ getD (s .place) j 0
 
 module _ (d : Day) (sound : SoundDay d) (s : State) (ok : Peeled d s) (v : ℕ) (hv : v < d .benches) (hangs : hanging d (s .left) v ≡ true)
@@ -158,7 +159,7 @@ module _ (d : Day) (sound : SoundDay d) (s : State) (ok : Peeled d s) (v : ℕ) 
   ]
 
   -- In a placement bench v takes a rock f. Had f been peeled, v would have no rock left; so f is the only rock left at v.
-  forced-here : (pl : ℕ → ℕ) → Placement d pl → pl j ≡ v
+  forced-here : (pl : ℕ → ℕ) → RockPlacement d pl → pl j ≡ v
   forced-here pl placed =
       let (f, hf, r, e) = placement-fills d sound pl placed v cycle v hv (component-self d v) in
       elim (split (getD (s .left) f false)) [
@@ -283,6 +284,6 @@ module _ (d : Day) (sound : SoundDay d) where
   pub start-left-rock : (j : ℕ) → j < d .jobs → getD (start d .left) j false ≡ true → rock d j ≡ true
   start-left-rock = start-peeled .left-rock
 
-  pub start-forced : (pl : ℕ → ℕ) → Placement d pl → (j : ℕ) → j < d .jobs → rock d j ≡ true → getD (start d .left) j false ≡ false
+  pub start-forced : (pl : ℕ → ℕ) → RockPlacement d pl → (j : ℕ) → j < d .jobs → rock d j ≡ true → getD (start d .left) j false ≡ false
       → pl j ≡ getD (start d .place) j 0
   start-forced = start-peeled .peeled-forced

@@ -26,7 +26,8 @@ use Rattle.sums.specs.Sum.{count}
 use Rattle.sums.proofs.SearchLaws.{any-intro, any-elim, least-before, least-holds}
 use Rattle.sums.proofs.CountLaws.{count-cong}
 use Rattle.closure.proofs.ClosureLaws.{reach-refl}
-use Rattle.algorithm.specs.Day.{Day, rock, lowest, highest}
+use Rattle.day.specs.Day.{Day}
+use Rattle.algorithm.specs.Rocks.{rock, lowest, highest}
 use Rattle.algorithm.specs.Start.{joinedBy, joined, component, rocksIn, crowded, crowdedBench, oneCycle}
 use Rattle.algorithm.specs.SoundDay.{Uncrowded}
 use Rattle.algorithm.proofs.RockLaws.{low-allowed, high-allowed, low-below-high, high-below, allowed-end}

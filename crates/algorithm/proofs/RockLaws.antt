@@ -15,7 +15,8 @@ use Rattle.bools.proofs.BoolLaws.{and-intro, and-left, and-right, not-intro-tru
 use Rattle.bools.proofs.OrderLaws.{eq-or-ne}
 use Rattle.sums.proofs.SearchLaws.{least-bound, least-holds}
 use Rattle.sums.proofs.CountLaws.{count-remove, count-two, count-two-elim}
-use Rattle.algorithm.specs.Day.{Day, choices, heavy, rock, lowest, highest}
+use Rattle.day.specs.Day.{Day, choices, heavy}
+use Rattle.algorithm.specs.Rocks.{rock, lowest, highest}
 use Rattle.algorithm.specs.SoundDay.{SoundDay}
 
 module _ (d : Day) (sound : SoundDay d) (j : ℕ) (h : j < d .jobs) where

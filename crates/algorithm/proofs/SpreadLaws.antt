@@ -9,7 +9,8 @@ use mathlib.Core.Bool.{true, false}
 use native.Mathlib.Omega.{arith}
 use lib.ListN.{getD, replicate, getD-replicate}
 use borrow.Author.Tests.{eq-eqb, eqb-false}
-use Rattle.algorithm.specs.Day.{Day, pebble, lowest, highest}
+use Rattle.day.specs.Day.{Day, pebble}
+use Rattle.algorithm.specs.Rocks.{lowest, highest}
 use Rattle.algorithm.specs.Board.{Board, Directions, touches}
 use Rattle.algorithm.specs.Settle.{settle}
 use Rattle.algorithm.specs.Start.{State, start}

@@ -1,22 +1,28 @@
--- The starred bay examples of document 01 as one table: head, jobs, and the answer that the document gives.
---     Example          one row
+-- The starred bay examples of document 01 as one table: contents of a sheet, and the reply that the document gives.
+--     Example, row     one row
+--     plan             a plan as a reply
 --     examples         the table, in the document's order; 9 and 10 have several rows
 --     errorExamples    sheets on which an error in the run would change the answer
 -- Proved in ExampleLaws.
+use Prim.Native.Nat.{ℕ}
 use mathlib.Core.List.{List, [], _∷_}
 use Rattle.fields.specs.declared.sheet.Head.{Head}
 use Rattle.fields.specs.declared.sheet.Job.{Job}
+use Rattle.fields.specs.Contents.{Contents}
 use Rattle.fields.specs.declared.fault.Fault.the-variants.{Share, HeavyHyperEdge}
-use Rattle.demand.specs.SmallSheets.{bay, first, second, both, outside, three}
-use Rattle.algorithm.specs.Answer.{Answer, plan, tooLong, none, fault}
+use Rattle.day.specs.SmallSheets.{sheet, bay, first, second, both, outside, three}
+use Rattle.answers.specs.Answers.{Reply, planReply, longReply, noneReply, faultReply}
 
 pub record Example : Type 0 where
-  pub head : Head
-  pub jobs : List Job
-  pub answer : Answer
+  pub contents : Contents
+  pub reply : Reply
 
-abbrev pub row : Head → List Job → Answer → Example
-row h js a = record { head = h; jobs = js; answer = a }
+abbrev pub row : Head → List Job → Reply → Example
+row h js r = record { contents = sheet h js; reply = r }
+
+-- A plan: its largest load, the moves, the places and the loads.
+abbrev pub plan : ℕ → ℕ → List ℕ → List ℕ → Reply
+plan largest moves places loads = planReply (record { largest = largest; moves = moves }) places loads
 
 unfoldable pub examples : List Example
 examples =
@@ -25,9 +31,9 @@ examples =
     -- 2. One bench, one job of 5 on it, T = 5: plan, 5, 0 moves.
     ∷ row (bay 1 4 7 5) (first 5 ∷ []) (plan 5 0 (0 ∷ []) (5 ∷ []))
     -- 3. The same with T = 4: long, job 0.
-    ∷ row (bay 1 4 7 4) (first 5 ∷ []) (tooLong 0)
+    ∷ row (bay 1 4 7 4) (first 5 ∷ []) (longReply 0)
     -- 4. Two benches, three jobs of 5 on both, T = 8: none, benches 0 and 1, 0 moves.
-    ∷ row (bay 2 4 7 8) (both 5 ∷ both 5 ∷ both 5 ∷ []) (none (0 ∷ 1 ∷ []) 0)
+    ∷ row (bay 2 4 7 8) (both 5 ∷ both 5 ∷ both 5 ∷ []) (noneReply (0 ∷ 1 ∷ []) 0)
     -- 5. The same with T = 9: all on bench 0; plan, 15, 0 moves.
     ∷ row (bay 2 4 7 9) (both 5 ∷ both 5 ∷ both 5 ∷ []) (plan 15 0 (0 ∷ 0 ∷ 0 ∷ []) (15 ∷ 0 ∷ []))
     -- 6. Two jobs of 5 on both, T = 5: job 0 on bench 1, job 1 on bench 0.
@@ -37,12 +43,12 @@ examples =
     -- 8. Two benches, four jobs of 2 on both, T = 4: job 0 moves to bench 1; plan, 6, 1 move.
     ∷ row (bay 2 4 7 4) (both 2 ∷ both 2 ∷ both 2 ∷ both 2 ∷ []) (plan 6 1 (1 ∷ 0 ∷ 0 ∷ 0 ∷ []) (6 ∷ 2 ∷ []))
     -- 9. Share 5/9: fault 8. Share 99/100 is taken, 7/7 is not.
-    ∷ row (bay 1 5 9 5) [] (fault (Share 0))
+    ∷ row (bay 1 5 9 5) [] (faultReply (Share 0))
     ∷ row (bay 1 99 100 5) [] (plan 0 0 [] (0 ∷ []))
-    ∷ row (bay 1 7 7 5) [] (fault (Share 0))
+    ∷ row (bay 1 7 7 5) [] (faultReply (Share 0))
     -- 10. Three benches, jobs of 7 on bench 0 and 4 on all: taken. With 5 for 4: fault 12, job 1.
     ∷ row (bay 3 4 7 7) (first 7 ∷ three 4 ∷ []) (plan 11 0 (0 ∷ 0 ∷ []) (11 ∷ 0 ∷ 0 ∷ []))
-    ∷ row (bay 3 4 7 7) (first 7 ∷ three 5 ∷ []) (fault (HeavyHyperEdge 1))
+    ∷ row (bay 3 4 7 7) (first 7 ∷ three 5 ∷ []) (faultReply (HeavyHyperEdge 1))
     ∷ []
 
 unfoldable pub errorExamples : List Example
@@ -54,11 +60,11 @@ errorExamples =
     -- "Rounding (2q + p) × T / (3q) down": the jobs of 6 are under the limit of Rule 2 (126 < 144), so bench 1 has
     -- level 0 like bench 0, and no job can be pushed. With the limit rounded to 6 bench 1 would have level 1, and job
     -- 0 be pushed there: plan, 13, 1 move.
-    ∷ row (bay 2 4 7 8) (both 3 ∷ both 6 ∷ both 6 ∷ first 7 ∷ second 3 ∷ []) (none (0 ∷ 1 ∷ []) 0)
+    ∷ row (bay 2 4 7 8) (both 3 ∷ both 6 ∷ both 6 ∷ first 7 ∷ second 3 ∷ []) (noneReply (0 ∷ 1 ∷ []) 0)
     -- With one loop over all benches in FORCED ORIENTATIONS, bench 1 would be given both rocks in one turn: none,
     -- benches 0 and 1, 0 moves.
     ∷ row (bay 2 4 7 3) (both 3 ∷ both 1 ∷ first 2 ∷ both 3 ∷ []) (plan 5 1 (1 ∷ 1 ∷ 0 ∷ 0 ∷ []) (5 ∷ 4 ∷ []))
     -- With PUSH up to the bound, job 3 would be pushed to bench 1, whose load is above (5q − 2p) × T (84 > 81): none,
     -- bench 0, 1 move.
-    ∷ row (bay 2 4 7 3) (both 2 ∷ first 3 ∷ first 3 ∷ both 1 ∷ both 2 ∷ []) (none (0 ∷ 1 ∷ []) 0)
+    ∷ row (bay 2 4 7 3) (both 2 ∷ first 3 ∷ first 3 ∷ both 1 ∷ both 2 ∷ []) (noneReply (0 ∷ 1 ∷ []) 0)
     ∷ []

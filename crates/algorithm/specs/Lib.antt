@@ -1,4 +1,4 @@
-pub mod Day
+pub mod Rocks
 pub mod Board
 pub mod Forced
 pub mod Explore

@@ -4,10 +4,11 @@ use mathlib.Core.Bool.{Bool, true, false, cond, not, _&&_}
 use mathlib.Core.List.{List}
 use lib.ListN.{getD, set}
 use lib.Dec.{eqb, ltb}
-use Rattle.sums.specs.Sum.{on, sum, count}
+use Rattle.sums.specs.Sum.{on, sum}
 use Rattle.sums.specs.Search.{any}
 use Rattle.sums.specs.Table.{table}
-use Rattle.algorithm.specs.Day.{Day, pebble, lowest, highest, scale, weight, bound, small, limit, longJob}
+use Rattle.day.specs.Day.{Day, pebble, scale, bound, longJob, moveBound}
+use Rattle.algorithm.specs.Rocks.{lowest, highest, weight, small, limit}
 use Rattle.algorithm.specs.Board.{Board, Directions}
 use Rattle.algorithm.specs.Explore.{Explored, activated, explore}
 use Rattle.algorithm.specs.Push.{pushJob, pushBench}
@@ -82,7 +83,7 @@ turns (suc k) d s moves = elim (canMove d s) [ false ↦ answerAt d s moves | tr
 
 -- Moves are at most benches × light jobs that have a choice.
 abbrev pub budget : Day → ℕ
-budget d = d .benches * count (d .jobs) (pebble d)
+budget d = moveBound d
 
 -- A long job first, then a crowded component, then the turns.
 unfoldable pub run : Day → Outcome

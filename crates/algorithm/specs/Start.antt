@@ -8,7 +8,8 @@ use Rattle.sums.specs.Sum.{count}
 use Rattle.sums.specs.Search.{any, least}
 use Rattle.sums.specs.Table.{table}
 use Rattle.closure.specs.Closure.{reach}
-use Rattle.algorithm.specs.Day.{Day, rock, lowest}
+use Rattle.day.specs.Day.{Day}
+use Rattle.algorithm.specs.Rocks.{rock, lowest}
 
 -- "Heavy jobs join their two benches": rock j joins u and v.
 abbrev pub joinedBy : Day → ℕ → ℕ → ℕ → Bool

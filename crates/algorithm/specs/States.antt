@@ -6,7 +6,7 @@ use Prim.Native.Nat.{ℕ, suc, _+_}
 use mathlib.Core.Path.{_≡_}
 use mathlib.Core.Bool.{true, false}
 use lib.Dec.{ltb}
-use Rattle.algorithm.specs.Day.{Day, longJob}
+use Rattle.day.specs.Day.{Day, longJob}
 use Rattle.algorithm.specs.Explore.{roundOf}
 use Rattle.algorithm.specs.Start.{State, crowdedBench, start}
 use Rattle.algorithm.specs.Run.{boardOf, explored, canMove, nextState, turns, budget, run}

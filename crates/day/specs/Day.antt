@@ -8,6 +8,7 @@
 --     pebble d j          job j is light and has a choice: chapter 4's pebbles
 --     placeIn places      the bench that a table of places has for each job
 --     loadOf d a v        the load of bench v under the assignment a
+--     loadsOf, largestOf  the loads of a table of places, bench by bench; the greatest of them
 --     scale, bound        3q and (5q + p) × T
 --     withinBound d n     the load n is within the demand's bound
 --     tooLong, longJob    a job longer than T; the lowest such job, and the number of jobs where there is none
@@ -17,8 +18,9 @@ use mathlib.Core.Bool.{Bool, not, _&&_}
 use mathlib.Core.List.{List}
 use lib.ListN.{length, getD}
 use lib.Dec.{eqb, leb, ltb}
-use Rattle.sums.specs.Sum.{on, sum, count}
+use Rattle.sums.specs.Sum.{on, sum, count, largest}
 use Rattle.sums.specs.Search.{least}
+use Rattle.sums.specs.Table.{table}
 use Rattle.fields.specs.Contents.{Contents}
 use Rattle.fields.specs.Format.{allows as allowsBench}
 use Rattle.fields.specs.Tests.{jobAt}
@@ -72,6 +74,14 @@ placeIn places j = getD places j 0
 -- "A bench's load under it is the sum of the minutes of the jobs put there." Booked minutes count too.
 abbrev pub loadOf : Day → (ℕ → ℕ) → ℕ → ℕ
 loadOf d a v = d .booked v + sum (d .jobs) (λ j. on (eqb (a j) v) (d .minutes j))
+
+-- "entry b of the second is bench b's load"
+abbrev pub loadsOf : Day → List ℕ → List ℕ
+loadsOf d places = table (d .benches) (loadOf d (placeIn places))
+
+-- "the largest load is the greatest of them"
+abbrev pub largestOf : Day → List ℕ → ℕ
+largestOf d places = largest (d .benches) (loadOf d (placeIn places))
 
 -- "Every comparison is multiplied out by 3q and exact."
 abbrev pub scale : Day → ℕ

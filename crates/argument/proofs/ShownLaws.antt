@@ -26,10 +26,10 @@ use Rattle.fields.specs.declared.sheet.Head.{Head}
 use Rattle.fields.specs.declared.sheet.Job.{Job}
 use Rattle.fields.specs.Format.{allows}
 use Rattle.fields.specs.Tests.{jobAt}
-use Rattle.algorithm.specs.Day.{dayOf}
+use Rattle.day.specs.Day.{dayOf}
 use Rattle.algorithm.specs.Answer.{loadOf as dayLoad, loadsOf, largestOf}
 use Rattle.demand.specs.Demand.{Assignment, loadOf, withinBound, keepsBound, Placement, heavyJob, lightJob, keptInside, liesInside, minutesOf, Blocking, moveBound}
-use Rattle.blocking.specs.Answers.{placeIn, oneOf, SoundPlan, SoundNone}
+use Rattle.argument.specs.Answers.{placeIn, oneOf, SoundPlan, SoundNone}
 
 -- ── the list of a set's benches ──
 

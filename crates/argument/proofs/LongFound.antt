@@ -10,7 +10,7 @@ use borrow.Author.Tests.{ltb-true, ltb-false}
 use Rattle.sums.proofs.SearchLaws.{least-holds, least-before}
 use Rattle.fields.specs.declared.sheet.Head.{Head}
 use Rattle.fields.specs.declared.sheet.Job.{Job}
-use Rattle.algorithm.specs.Day.{dayOf, longJob}
+use Rattle.day.specs.Day.{dayOf, longJob}
 use Rattle.demand.specs.Demand.{minutesOf, LongJob}
 
 module _ (h : Head) (js : List Job) where

@@ -32,7 +32,8 @@ use Rattle.sums.proofs.SearchLaws.{any-elim, any-none, all-intro}
 use Rattle.sums.proofs.TableLaws.{getD-table}
 use Rattle.fields.specs.declared.sheet.Head.{Head}
 use Rattle.fields.specs.declared.sheet.Job.{Job}
-use Rattle.algorithm.specs.Day.{Day, dayOf, lowest, highest, scale, bound}
+use Rattle.day.specs.Day.{Day, dayOf, scale, bound}
+use Rattle.algorithm.specs.Rocks.{lowest, highest}
 use Rattle.algorithm.specs.Board.{Board, Directions, touches, neutral, towards, rockLoad, load}
 use Rattle.algorithm.specs.Explore.{Explored, never, activated}
 use Rattle.algorithm.specs.Properties.{SoundBoard, Facts, lev}
@@ -40,7 +41,7 @@ use Rattle.algorithm.specs.Settle.{settle}
 use Rattle.algorithm.specs.Start.{State}
 use Rattle.algorithm.specs.Run.{ownMinutes, boardOf, placesOf, explored, congested}
 use Rattle.demand.specs.Demand.{Assignment, loadOf, withinBound, keepsBound}
-use Rattle.blocking.specs.RunFacts.{SoundState, Settled}
+use Rattle.argument.specs.RunFacts.{SoundState, Settled}
 use Rattle.algorithm.proofs.RockLaws.{low-allowed, high-allowed}
 
 -- ── on the board ──

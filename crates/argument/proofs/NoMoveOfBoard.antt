@@ -31,12 +31,12 @@ use Rattle.algorithm.specs.Explore.{Explored, inConflict, activated, father, ch
 use Rattle.algorithm.specs.Push.{leaf, lightFathers, canPush}
 use Rattle.algorithm.specs.Properties.{SoundBoard, Facts, rnd, lev}
 use Rattle.algorithm.proofs.BoardLaws.{touches-rock, touches-end, touches-below, other-low, other-high, other-touches, other-other, other-below}
-use Rattle.blocking.specs.Exploration.{Exploration, FatherAbove, EarlierNeighbour, NoMoveLeft, Placement, bound, push-limit, inside, children, into}
+use Rattle.argument.specs.Exploration.{Exploration, FatherAbove, EarlierNeighbour, NoMoveLeft, Placement, bound, push-limit, inside, children, into}
 use Rattle.algorithm.specs.Properties.{Opened, JoinedBy}
-use Rattle.blocking.proofs.ExplorationLaws.{inside-rock, inside-head, inside-tail, father-above}
-use Rattle.blocking.proofs.OrientationLaws.{number-pos}
-use Rattle.blocking.proofs.Activated.{activated-blocks}
-use Rattle.blocking.proofs.ExplorationOfBoard.{headOf, tailOf, reachedBy, opens, explorationOf, conflict-round, round-conflict, activated-level, level-activated, head-touches, tail-other, head-at, tail-at, inside-towards, inside-of, into-rockLoad, father-of}
+use Rattle.argument.proofs.ExplorationLaws.{inside-rock, inside-head, inside-tail, father-above}
+use Rattle.argument.proofs.OrientationLaws.{number-pos}
+use Rattle.argument.proofs.Activated.{activated-blocks}
+use Rattle.argument.proofs.ExplorationOfBoard.{headOf, tailOf, reachedBy, opens, explorationOf, conflict-round, round-conflict, activated-level, level-activated, head-touches, tail-other, head-at, tail-at, inside-towards, inside-of, into-rockLoad, father-of}
 
 module _ (b : Board) (x : Explored) (ok : SoundBoard b) (facts : Facts b x) where
   pub activated-in-conflict : (v : ℕ) → v < b .benches → activated b x v ≡ true → inConflict b x v ≡ true

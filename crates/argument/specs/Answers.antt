@@ -15,7 +15,7 @@ use lib.Dec.{eqb, ltb}
 use Rattle.sums.specs.Search.{any}
 use Rattle.fields.specs.declared.sheet.Head.{Head}
 use Rattle.fields.specs.declared.sheet.Job.{Job}
-use Rattle.algorithm.specs.Day.{Day, longJob}
+use Rattle.day.specs.Day.{Day, longJob}
 use Rattle.algorithm.specs.Start.{State, component, crowded}
 use Rattle.algorithm.specs.Run.{Outcome, long, blocked, canMove, answerAt, budget}
 use Rattle.algorithm.specs.States.{Reached}

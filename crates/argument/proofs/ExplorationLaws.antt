@@ -11,8 +11,8 @@ use mathlib.Core.Path.{_≡_}
 use native.Mathlib.Omega.{arith}
 use Rattle.bools.proofs.BoolLaws.{and-intro, and-left, and-right}
 use Rattle.sums.specs.Sum.{on, sum, count}
-use Rattle.blocking.specs.Exploration.{Exploration, FatherAbove, inside, children, fathers, into}
-use Rattle.blocking.proofs.OrientationLaws.{gathered-none, gathered-all, number-all}
+use Rattle.argument.specs.Exploration.{Exploration, FatherAbove, inside, children, fathers, into}
+use Rattle.argument.proofs.OrientationLaws.{gathered-none, gathered-all, number-all}
 
 module _ (x : Exploration) (e : ℕ) where
   pub inside-intro : x .rock e ≡ true → x .conflict (x .head e) ≡ true → x .conflict (x .tail e) ≡ true → inside x e ≡ true

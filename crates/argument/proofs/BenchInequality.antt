@@ -14,12 +14,12 @@ use mathlib.Core.Path.{_≡_, refl, ap}
 use mathlib.Core.Logic.{inl, inr}
 use native.Mathlib.Omega.{arith}
 use native.Mathlib.Nat.{mul-le-mul-right}
-use Rattle.blocking.specs.Exploration.{Exploration, NoMoveLeft, FatherAbove, EarlierNeighbour, target, bound, push-limit, inside}
-use Rattle.blocking.specs.Exploration.{children, fathers, over-children, over-fathers, into}
-use Rattle.blocking.proofs.OrientationLaws.{gathered-add, gathered-mono, gathered-term, gathered-at-most, gathered-gap}
-use Rattle.blocking.proofs.ExplorationLaws.{inside-rock}
-use Rattle.blocking.proofs.Gifts.{share, saved-head, saved-tail, gift-head, gift-tail, share-small, share-fits}
-use Rattle.blocking.proofs.Gifts.{saved-earlier, gift-head-saved, gift-tail-saved}
+use Rattle.argument.specs.Exploration.{Exploration, NoMoveLeft, FatherAbove, EarlierNeighbour, target, bound, push-limit, inside}
+use Rattle.argument.specs.Exploration.{children, fathers, over-children, over-fathers, into}
+use Rattle.argument.proofs.OrientationLaws.{gathered-add, gathered-mono, gathered-term, gathered-at-most, gathered-gap}
+use Rattle.argument.proofs.ExplorationLaws.{inside-rock}
+use Rattle.argument.proofs.Gifts.{share, saved-head, saved-tail, gift-head, gift-tail, share-small, share-fits}
+use Rattle.argument.proofs.Gifts.{saved-earlier, gift-head-saved, gift-tail-saved}
 
 abbrev pub Enough : Exploration → ℕ → ℕ → Type 0
 Enough x v k = 2 * x .R + 2 + 4 * x .d + 2 * (over-children x (gift-head x) v + over-fathers x (gift-tail x) v)

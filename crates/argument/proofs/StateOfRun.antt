@@ -12,7 +12,8 @@ use lib.ListN.{getD}
 use lib.Dec.{leb}
 use borrow.Author.Tests.{eqb-false}
 use Rattle.bools.proofs.BoolLaws.{split, and-false-left, not-intro-false}
-use Rattle.algorithm.specs.Day.{Day, rock, pebble, choices}
+use Rattle.day.specs.Day.{Day, pebble, choices}
+use Rattle.algorithm.specs.Rocks.{rock}
 use Rattle.algorithm.specs.Start.{State, start}
 use Rattle.algorithm.specs.Run.{boardOf, explored}
 use Rattle.algorithm.specs.SoundDay.{SoundDay, Uncrowded, Placement}
@@ -21,8 +22,8 @@ use Rattle.algorithm.proofs.Peeling.{start-allowed, start-left-rock, start-forc
 use Rattle.algorithm.proofs.SpreadLaws.{settle-left}
 use Rattle.algorithm.proofs.Moves.{Good}
 use Rattle.algorithm.proofs.DayFacts.{good-facts}
-use Rattle.blocking.specs.RunFacts.{SoundState, DayPlacement, PeeledPlaced, CrowdedUnplaceable, Settled}
-use Rattle.blocking.proofs.PlanBound.{planDirections}
+use Rattle.argument.specs.RunFacts.{SoundState, DayPlacement, PeeledPlaced, CrowdedUnplaceable, Settled}
+use Rattle.argument.proofs.PlanBound.{planDirections}
 
 module _ (d : Day) (sound : SoundDay d) where
   rocks-placed : (place : ℕ → ℕ) → DayPlacement d place → Placement d place

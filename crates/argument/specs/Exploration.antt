@@ -13,7 +13,7 @@ use Prim.Native.Nat.{ℕ, _+_, _*_, _≤_, _<_}
 use mathlib.Core.Bool.{Bool, true, _&&_}
 use mathlib.Core.Path.{_≡_}
 use mathlib.Core.Logic.{_⊎_}
-use Rattle.blocking.specs.Orientation.{number, gathered}
+use Rattle.argument.specs.Orientation.{number, gathered}
 
 -- Benches are the numbers below benches, jobs those below jobs; what a function says of other numbers is without meaning.
 pub record Exploration : Type 0 where

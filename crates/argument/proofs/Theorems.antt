@@ -30,7 +30,7 @@ use Rattle.frame.specs.Reading.{accepted, readSheet}
 use Rattle.frame.specs.Sound.{SoundSheet}
 use Rattle.frame.proofs.AcceptedLaws.{accepted-sound}
 use Rattle.frame.proofs.WriterLaws.{sound-writerVerdict}
-use Rattle.algorithm.specs.Day.{Day, dayOf, pebble, longJob}
+use Rattle.day.specs.Day.{Day, dayOf, pebble, longJob}
 use Rattle.algorithm.specs.Start.{State, component, crowded, crowdedBench}
 use Rattle.algorithm.specs.Run.{long, blocked, boardOf, placesOf, explored, congested, canMove, nextState, answerAt, run}
 use Rattle.algorithm.specs.States.{Reached, at-start, by-move, levelOf, RunFrom}
@@ -44,14 +44,14 @@ use Rattle.algorithm.proofs.SpreadLaws.{spreadOf}
 use Rattle.algorithm.proofs.Budget.{TurnsEnd, run-turns, movesOf, moves-bound, next-good}
 use Rattle.algorithm.proofs.DayFacts.{good-sound, good-facts, good-spread, reached-good, reached-run, run-ends}
 use Rattle.demand.specs.Demand.{Assignment, keepsTarget, withinTarget, loadOf, minutesOf, SomeOver, LongJob, EachFits}
-use Rattle.blocking.specs.Answers.{SoundAnswer, plan-sound, long-sound, none-sound, isPlan, isLong, WholeClaim, RunEnd, long-job, crowded-component, no-move-left}
+use Rattle.argument.specs.Answers.{SoundAnswer, plan-sound, long-sound, none-sound, isPlan, isLong, WholeClaim, RunEnd, long-job, crowded-component, no-move-left}
 use Rattle.planning.proofs.SheetDay.{sound-day, none-long}
-use Rattle.blocking.proofs.LongFound.{long-found}
-use Rattle.blocking.proofs.Rival.{blocking-overloads, long-overloads}
-use Rattle.blocking.proofs.PlanBound.{planDirections, plan-assignment, plan-keeps-bound}
-use Rattle.blocking.proofs.NoneBlocks.{activated-blocking, component-blocking}
-use Rattle.blocking.proofs.StateOfRun.{good-state, good-peeled, good-settled, unplaceable}
-use Rattle.blocking.proofs.ShownLaws.{plan-shown, none-shown}
+use Rattle.argument.proofs.LongFound.{long-found}
+use Rattle.argument.proofs.Rival.{blocking-overloads, long-overloads}
+use Rattle.argument.proofs.PlanBound.{planDirections, plan-assignment, plan-keeps-bound}
+use Rattle.argument.proofs.NoneBlocks.{activated-blocking, component-blocking}
+use Rattle.argument.proofs.StateOfRun.{good-state, good-peeled, good-settled, unplaceable}
+use Rattle.argument.proofs.ShownLaws.{plan-shown, none-shown}
 
 -- ── one turn of the run's tests ──
 

@@ -12,8 +12,8 @@ use mathlib.Core.Path.{_≡_, refl}
 use mathlib.Core.Logic.{_⊎_, inl, inr}
 use native.Mathlib.Omega.{arith}
 use Rattle.bools.proofs.BoolLaws.{clash}
-use Rattle.blocking.specs.Exploration.{Exploration, NoMoveLeft, FatherAbove, EarlierNeighbour, Placement, bound, push-limit, children, into}
-use Rattle.blocking.proofs.Activated.{activated-blocks}
+use Rattle.argument.specs.Exploration.{Exploration, NoMoveLeft, FatherAbove, EarlierNeighbour, Placement, bound, push-limit, children, into}
+use Rattle.argument.proofs.Activated.{activated-blocks}
 
 abbrev own-load : ℕ → ℕ
 own-load zero = 8

@@ -27,8 +27,8 @@ use Rattle.algorithm.specs.Board.{Board, Directions, touches, other, neutral, t
 use Rattle.algorithm.specs.Explore.{Explored, never, inConflict, activated}
 use Rattle.algorithm.specs.Properties.{SoundBoard, Facts, rnd, lev}
 use Rattle.algorithm.proofs.BoardLaws.{touches-rock, touches-end, touches-low, touches-high, other-low, other-high, other-touches, other-other, other-below, other-differs, touches-below, towards-unique}
-use Rattle.blocking.specs.Exploration.{Exploration, FatherAbove, inside, into}
-use Rattle.blocking.proofs.ExplorationLaws.{inside-intro, inside-rock, inside-head}
+use Rattle.argument.specs.Exploration.{Exploration, FatherAbove, inside, into}
+use Rattle.argument.proofs.ExplorationLaws.{inside-intro, inside-rock, inside-head}
 
 abbrev pub headOf : Board → Directions → ℕ → ℕ
 headOf b dir e = cond (towards dir e (b .low e)) (b .low e) (b .high e)

@@ -9,7 +9,8 @@ use mathlib.Core.Path.{_≡_}
 use mathlib.Core.Logic.{_⊎_}
 use mathlib.Core.Bool.{true, false}
 use lib.ListN.{getD}
-use Rattle.algorithm.specs.Day.{Day, heavy, rock}
+use Rattle.day.specs.Day.{Day, heavy}
+use Rattle.algorithm.specs.Rocks.{rock}
 use Rattle.algorithm.specs.Board.{Board, Directions, touches, neutral, towards}
 use Rattle.algorithm.specs.Start.{State, crowded}
 

@@ -24,7 +24,7 @@ use Rattle.sums.specs.Sum.{on, sum, count}
 use Rattle.sums.proofs.SumLaws.{sum-zero}
 use Rattle.sums.proofs.CountLaws.{count-pos, count-none, count-zero, count-two-elim, sum-on-at-most}
 use Rattle.sums.proofs.MoreSumLaws.{sum-on-mono, sum-on-gap, sum-on-add, sum-on-const, sum-on-term, sum-gather, sum-gather-all}
-use Rattle.blocking.specs.Orientation.{given, number, gathered}
+use Rattle.argument.specs.Orientation.{given, number, gathered}
 
 module _ (S : ℕ → Bool) (to : ℕ → ℕ) (v : ℕ) where
   pub given-intro : (e : ℕ) → S e ≡ true → to e ≡ v → given S to v e ≡ true

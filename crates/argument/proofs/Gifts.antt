@@ -24,9 +24,9 @@ use Rattle.bools.proofs.BoolLaws.{split, and-false-right}
 use Rattle.bools.proofs.OrderLaws.{lt-or-le}
 use Rattle.sums.specs.Sum.{on, sum}
 use Rattle.sums.proofs.SumLaws.{on-le, sum-add, sum-le}
-use Rattle.blocking.specs.Exploration.{Exploration, NoMoveLeft, Placement, target, inside, over-children, over-fathers}
-use Rattle.blocking.proofs.OrientationLaws.{gathered-over}
-use Rattle.blocking.proofs.ExplorationLaws.{inside-rock}
+use Rattle.argument.specs.Exploration.{Exploration, NoMoveLeft, Placement, target, inside, over-children, over-fathers}
+use Rattle.argument.proofs.OrientationLaws.{gathered-over}
+use Rattle.argument.proofs.ExplorationLaws.{inside-rock}
 
 abbrev pub share : Exploration → ℕ → ℕ
 share x e = min (target x - x .weight e) (2 * x .d)

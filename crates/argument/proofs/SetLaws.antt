@@ -18,7 +18,7 @@ use Rattle.sums.specs.Search.{any}
 use Rattle.bits.specs.Bits.{isSet}
 use Rattle.bits.proofs.SetBits.{isSet-digit, isSet-zero}
 use Rattle.planning.specs.Planner.{setOf}
-use Rattle.blocking.specs.Answers.{oneOf}
+use Rattle.argument.specs.Answers.{oneOf}
 
 -- ── one binary digit ──
 

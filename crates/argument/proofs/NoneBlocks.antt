@@ -39,7 +39,8 @@ use Rattle.sums.proofs.SearchLaws.{any-elim, any-none, all-intro, least-before}
 use Rattle.closure.proofs.ClosureLaws.{reach-refl}
 use Rattle.fields.specs.declared.sheet.Head.{Head}
 use Rattle.fields.specs.declared.sheet.Job.{Job}
-use Rattle.algorithm.specs.Day.{Day, dayOf, choices, heavy, pebble, lowest, highest, scale, small}
+use Rattle.day.specs.Day.{Day, dayOf, choices, heavy, pebble, scale}
+use Rattle.algorithm.specs.Rocks.{lowest, highest, small}
 use Rattle.algorithm.specs.SoundDay.{SoundDay}
 use Rattle.algorithm.specs.Board.{towards}
 use Rattle.algorithm.specs.Explore.{Explored, activated}
@@ -49,13 +50,13 @@ use Rattle.algorithm.specs.Push.{canPush, pushJob}
 use Rattle.algorithm.specs.Start.{State, joined, component, crowded}
 use Rattle.algorithm.specs.Run.{ownMinutes, boardOf, explored, congested, canMove}
 use Rattle.demand.specs.Demand.{Placement as SheetPlacement, Blocking}
-use Rattle.blocking.specs.Exploration.{Placement, inside}
-use Rattle.blocking.specs.RunFacts.{SoundState, DayPlacement, PeeledPlaced, CrowdedUnplaceable}
-use Rattle.blocking.proofs.ExplorationLaws.{inside-rock}
+use Rattle.argument.specs.Exploration.{Placement, inside}
+use Rattle.argument.specs.RunFacts.{SoundState, DayPlacement, PeeledPlaced, CrowdedUnplaceable}
+use Rattle.argument.proofs.ExplorationLaws.{inside-rock}
 use Rattle.algorithm.proofs.RockLaws.{allowed-end}
-use Rattle.blocking.proofs.DayLaws.{one-choice}
-use Rattle.blocking.proofs.ExplorationOfBoard.{headOf, tailOf, explorationOf, activated-level, level-activated}
-use Rattle.blocking.proofs.NoMoveOfBoard.{board-blocks}
+use Rattle.argument.proofs.DayLaws.{one-choice}
+use Rattle.argument.proofs.ExplorationOfBoard.{headOf, tailOf, explorationOf, activated-level, level-activated}
+use Rattle.argument.proofs.NoMoveOfBoard.{board-blocks}
 
 abbrev pub dayLiesInside : Day → (ℕ → Bool) → ℕ → Bool
 dayLiesInside d set j = all (d .benches) (λ v. not (d .allows j v) || set v)

@@ -19,10 +19,10 @@ use Rattle.bools.proofs.OrderLaws.{lt-or-le}
 use Rattle.sums.specs.Sum.{on, sum, count}
 use Rattle.sums.proofs.CountLaws.{sum-on-at-most}
 use Rattle.sums.proofs.MoreSumLaws.{sum-exchange}
-use Rattle.blocking.specs.Orientation.{number}
-use Rattle.blocking.specs.Exploration.{Exploration, NoMoveLeft, FatherAbove, Placement, bound, inside, children, fathers, into}
-use Rattle.blocking.proofs.OrientationLaws.{number-pos, number-none, number-one, number-all, number-over}
-use Rattle.blocking.proofs.ExplorationLaws.{inside-head, inside-tail, father-above, into-none}
+use Rattle.argument.specs.Orientation.{number}
+use Rattle.argument.specs.Exploration.{Exploration, NoMoveLeft, FatherAbove, Placement, bound, inside, children, fathers, into}
+use Rattle.argument.proofs.OrientationLaws.{number-pos, number-none, number-one, number-all, number-over}
+use Rattle.argument.proofs.ExplorationLaws.{inside-head, inside-tail, father-above, into-none}
 
 abbrev pub placed : Exploration → (ℕ → ℕ) → ℕ → ℕ
 placed x place v = number (x .jobs) (inside x) place v

@@ -11,11 +11,11 @@ use native.Mathlib.Nat.{mul-le-mul-left}
 use Rattle.bools.proofs.BoolLaws.{and-left}
 use Rattle.sums.specs.Sum.{on, sum, count}
 use Rattle.sums.proofs.MoreSumLaws.{sum-on-mono, sum-on-cong, sum-on-add, sum-on-mul, sum-on-const}
-use Rattle.blocking.specs.Exploration.{Exploration, NoMoveLeft, Placement, target, inside, children, fathers, over-children, over-fathers}
-use Rattle.blocking.proofs.ExplorationLaws.{inside-rock}
-use Rattle.blocking.proofs.Gifts.{gift-head, gift-tail, gifts-enough}
-use Rattle.blocking.proofs.BenchInequality.{bench-inequality}
-use Rattle.blocking.proofs.Counting.{placed-activated, children-activated, fathers-activated, placed-at-most-activated}
+use Rattle.argument.specs.Exploration.{Exploration, NoMoveLeft, Placement, target, inside, children, fathers, over-children, over-fathers}
+use Rattle.argument.proofs.ExplorationLaws.{inside-rock}
+use Rattle.argument.proofs.Gifts.{gift-head, gift-tail, gifts-enough}
+use Rattle.argument.proofs.BenchInequality.{bench-inequality}
+use Rattle.argument.proofs.Counting.{placed-activated, children-activated, fathers-activated, placed-at-most-activated}
 
 abbrev over-activated : Exploration → (ℕ → ℕ) → ℕ
 over-activated x f = sum (x .benches) (λ v. on (x .activated v) (f v))

@@ -4,7 +4,7 @@ use Prim.Native.Nat.{ℕ, _≤_}
 use mathlib.Core.Path.{_≡_}
 use mathlib.Core.Bool.{true}
 use Rattle.sums.proofs.CountLaws.{count-unique}
-use Rattle.algorithm.specs.Day.{Day, choices}
+use Rattle.day.specs.Day.{Day, choices}
 use Rattle.algorithm.specs.SoundDay.{SoundDay}
 
 pub one-choice : (d : Day) → SoundDay d → (j u v : ℕ) → choices d j ≤ 1 → d .allows j u ≡ true → d .allows j v ≡ true → u ≡ v
