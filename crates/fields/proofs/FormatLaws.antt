@@ -17,6 +17,7 @@ use Rattle.bits.specs.Layout.{packed}
 use Rattle.bits.proofs.LayoutLaws.{length-packed}
 use Rattle.fields.specs.declared.sheet.Head.{Head}
 use Rattle.fields.specs.declared.sheet.Job.{Job}
+use Rattle.fields.specs.Contents.{Contents}
 use Rattle.fields.specs.Format.{headerLayout, headLayout, jobLayout, endLayout, ours, headKind, jobKind, endKind, headFrame, jobFrame, endFrame, jobFrames, sheetBytes, frameBytes}
 
 abbrev pub headValues : Head → List ℕ
@@ -63,10 +64,11 @@ unfolding jobFrames
 length-jobFrames [] = refl
 length-jobFrames (j ∷ js) = length-append (jobFrame j) (jobFrames js) ∙ omega (arith, length-jobFrame j, length-jobFrames js)
 
-pub length-sheetBytes : (h : Head) (js : List Job) → length (sheetBytes h js) ≡ 13 + 14 * length js
-length-sheetBytes h js =
-    length-append (headFrame h ++ jobFrames js) endFrame
-    ∙ omega (arith, length-append (headFrame h) (jobFrames js), length-headFrame h, length-jobFrames js, length-endFrame)
+pub length-sheetBytes : (c : Contents) → length (sheetBytes c) ≡ 13 + 14 * length (c .jobs)
+length-sheetBytes c =
+    length-append (headFrame (c .head) ++ jobFrames (c .jobs)) endFrame
+    ∙ omega (arith, length-append (headFrame (c .head)) (jobFrames (c .jobs)), length-headFrame (c .head), length-jobFrames (c .jobs),
+      length-endFrame)
 
 pub jobFrames-append : (first second : List Job) → jobFrames (first ++ second) ≡ jobFrames first ++ jobFrames second
 unfolding jobFrames

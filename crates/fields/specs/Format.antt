@@ -13,7 +13,7 @@
 --     spareOf kind body           the spare bits, as a number
 --     allows job b                whether the job may run on bench b
 --     frameBytes kind body        a frame of version 1
---     headFrame, jobFrame, endFrame, sheetBytes    what the writer gives
+--     headFrame, jobFrame, endFrame, sheetBytes c  what the writer gives
 use Prim.Native.Nat.{ℕ, _+_, _/_}
 use mathlib.Core.Bool.{Bool, cond}
 use mathlib.Core.List.{List, [], _∷_, _++_}
@@ -23,6 +23,7 @@ use Rattle.bits.specs.Bits.{isSet}
 use Rattle.bits.specs.Layout.{total, field, packed}
 use Rattle.fields.specs.declared.sheet.Head.{Head}
 use Rattle.fields.specs.declared.sheet.Job.{Job}
+use Rattle.fields.specs.Contents.{Contents}
 
 -- "Version 1 has these kinds."
 abbrev pub ours : ℕ
@@ -115,5 +116,5 @@ jobFrames [] = []
 jobFrames (j ∷ js) = jobFrame j ++ jobFrames js
 
 -- "The writer gives the head, the jobs in order, and the end, all version 1."
-abbrev pub sheetBytes : Head → List Job → List ℕ
-sheetBytes h js = headFrame h ++ jobFrames js ++ endFrame
+abbrev pub sheetBytes : Contents → List ℕ
+sheetBytes c = headFrame (c .head) ++ jobFrames (c .jobs) ++ endFrame

@@ -1,3 +1,4 @@
 pub mod Numbers
+pub mod Contents
 pub mod Format
 pub mod Tests

@@ -17,7 +17,7 @@
 --     Reached s at rest g     reading s comes to byte at with the bytes rest left and the progress g
 --     FaultHere s at rest g f       at this place the fault f is found
 --     SheetFault s f          reading s comes to such a place
---     SheetSound s h js       reading s comes to its end with the head h and the jobs js, and finds no fault
+--     SheetSound s c          reading s comes to its end with the contents c, and finds no fault
 --     Judgement s r           what s has to be read as
 use Prim.Native.Nat.{ℕ, _+_, _-_, _≤_, _<_}
 use mathlib.Core.Path.{_≡_}
@@ -26,8 +26,7 @@ use mathlib.Core.Logic.{_≢_}
 use mathlib.Core.List.{List, [], _∷_, _++_}
 use lib.ListN.{length}
 use lib.Dec.{leb, ltb}
-use Rattle.fields.specs.declared.sheet.Head.{Head}
-use Rattle.fields.specs.declared.sheet.Job.{Job}
+use Rattle.fields.specs.Contents.{Contents}
 use Rattle.judging.specs.declared.judge.Stage.the-variants.{Closed}
 use Rattle.fields.specs.declared.fault.Fault.{Fault}
 use Rattle.fields.specs.declared.fault.Fault.the-variants.{TooLong, Truncated, UnknownKind, Misplaced, WrongLength}
@@ -94,7 +93,7 @@ abbrev pub moved : ℕ → ℕ → Fault → Fault
 moved from by f = movedBy (fromOn from by) f
 
 unfoldable pub movedReadBy : (ℕ → ℕ) → Read → Read
-movedReadBy by (accepted h js) = accepted h js
+movedReadBy by (accepted c) = accepted c
 movedReadBy by (refused f) = refused (movedBy by f)
 
 abbrev pub movedRead : ℕ → ℕ → Read → Read
@@ -141,7 +140,7 @@ pub data FaultHere (s : List ℕ) (at : ℕ) (rest : List ℕ) (g : Progress) : 
   -- "2. … or its frames are over and none was an end frame (place: the sheet's length)"
   no-end : rest ≡ [] → g .stage ≢ Closed → FaultHere s at rest g (Truncated (length s))
   -- "12. After the whole sheet: …"
-  heavy-hyper-edge : {n : ℕ} → rest ≡ [] → g .stage ≡ Closed → LowestHeavyHyperEdge (g .head) (g .jobs) n
+  heavy-hyper-edge : {n : ℕ} → rest ≡ [] → g .stage ≡ Closed → LowestHeavyHyperEdge (g .contents .head) (g .contents .jobs) n
       → FaultHere s at rest g (HeavyHyperEdge n)
 
 -- The first fault of a sheet: the place is reached, so no frame before it has a fault.
@@ -153,16 +152,15 @@ pub record SheetFault (s : List ℕ) (f : Fault) : Type 0 where
   pub fault-here : FaultHere s at rest progress f
 
 -- The sheet's frames are over, its end frame has come, and 12 holds of no job.
-pub record SheetSound (s : List ℕ) (h : Head) (js : List Job) : Type 0 where
+pub record SheetSound (s : List ℕ) (c : Contents) : Type 0 where
   pub progress : Progress
   pub reached : Reached s (length s) [] progress
   pub closed : progress .stage ≡ Closed
-  pub head-read : progress .head ≡ h
-  pub jobs-read : progress .jobs ≡ js
-  pub none-heavy : (n : ℕ) → n < length js → heavyHyperEdgeAt h js n ≡ false
+  pub contents-read : progress .contents ≡ c
+  pub none-heavy : (n : ℕ) → n < length (c .jobs) → heavyHyperEdgeAt (c .head) (c .jobs) n ≡ false
 
 -- "1. The sheet is longer than 65,536 bytes", then the first of the others, or none.
 pub data Judgement (s : List ℕ) : Read → Type 0 where
   too-long : 65536 < length s → Judgement s (refused TooLong)
   faulty : {f : Fault} → length s ≤ 65536 → SheetFault s f → Judgement s (refused f)
-  sound : {h : Head} {js : List Job} → length s ≤ 65536 → SheetSound s h js → Judgement s (accepted h js)
+  sound : {c : Contents} → length s ≤ 65536 → SheetSound s c → Judgement s (accepted c)

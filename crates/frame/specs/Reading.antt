@@ -1,7 +1,9 @@
--- What a sheet is read as: its head and jobs, or its first fault (document 01, "Faults, in checking order").
---     Progress                what has been read so far
+-- What a sheet is read as: its contents, or its first fault (document 01, "Faults, in checking order").
+--     Progress                how far reading has come, and the contents so far
 --     Read                    what a sheet is read as
+--     noHead, noContents, nothingRead     before the first frame
 --     faultsAt                numbers 3 to 11 at a frame of version 1, in this order (judging FrameTests: frameFaults)
+--     withHead, withJob       contents with another head; with one job more
 --     after                   the progress after a sound frame of version 1
 --     endVerdict, ending      after the last frame
 --     readFrom                the frames from byte at on. The first argument bounds the frames that are left to read
@@ -15,6 +17,7 @@ use lib.ListN.{length, drop, replicate}
 use lib.Dec.{eqb, ltb}
 use Rattle.fields.specs.declared.sheet.Head.{Head}
 use Rattle.fields.specs.declared.sheet.Job.{Job}
+use Rattle.fields.specs.Contents.{Contents}
 use Rattle.fields.specs.declared.sheet.Sheet.{Sheet}
 use Rattle.fields.specs.declared.sheet.Reading.{Reading}
 use Rattle.judging.specs.declared.judge.Stage.{Stage}
@@ -31,40 +34,50 @@ unfoldable pub use Rattle.judging.specs.FrameTests.{frameFaults}
 -- Start: the head is still to come. Open: the end frame is. Closed: both have come.
 pub record Progress : Type 0 where
   pub stage : Stage
-  pub head : Head
-  pub jobs : List Job
+  pub contents : Contents
 
 pub data Read : Type 0 where
-  accepted : Head → List Job → Read
+  accepted : Contents → Read
   refused : Fault → Read
 
 abbrev pub noHead : Head
 noHead = record { benches = 0; p = 0; q = 0; target = 0 }
 
+abbrev pub noContents : Contents
+noContents = record { head = noHead; jobs = [] }
+
 abbrev pub nothingRead : Progress
-nothingRead = record { stage = Start; head = noHead; jobs = [] }
+nothingRead = record { stage = Start; contents = noContents }
 
 abbrev pub faultsAt : Progress → ℕ → List ℕ → List Test
-faultsAt g at frame = frameFaults (g .stage) (g .head .benches) (length (g .jobs)) at (kindOf frame) (bodyOf frame)
+faultsAt g at frame =
+    frameFaults (g .stage) (g .contents .head .benches) (length (g .contents .jobs)) at (kindOf frame) (bodyOf frame)
+
+-- The contents with this head; with one job more.
+abbrev pub withHead : Contents → Head → Contents
+withHead c h = record { head = h; jobs = c .jobs }
+
+abbrev pub withJob : Contents → Job → Contents
+withJob c j = record { head = c .head; jobs = c .jobs ++ (j ∷ []) }
 
 unfoldable pub after : Progress → ℕ → List ℕ → Progress
 after g kind body =
-    cond (eqb kind headKind) (record { stage = Open; head = headOf body; jobs = g .jobs })
-    (cond (eqb kind jobKind) (record { stage = g .stage; head = g .head; jobs = g .jobs ++ (jobOf body ∷ []) })
-    (record { stage = Closed; head = g .head; jobs = g .jobs }))
+    cond (eqb kind headKind) (record { stage = Open; contents = withHead (g .contents) (headOf body) })
+    (cond (eqb kind jobKind) (record { stage = g .stage; contents = withJob (g .contents) (jobOf body) })
+    (record { stage = Closed; contents = g .contents }))
 
-abbrev pub judged : Verdict → Head → List Job → Read
-judged Accepted h js = accepted h js
-judged (Refused f) h js = refused f
+abbrev pub judged : Verdict → Contents → Read
+judged Accepted c = accepted c
+judged (Refused f) c = refused f
 
 -- "or its frames are over and none was an end frame (place: the sheet's length)"; then 12.
-abbrev pub endVerdict : Stage → ℕ → Head → List Job → Verdict
-endVerdict Start at h js = Refused (Truncated at)
-endVerdict Open at h js = Refused (Truncated at)
-endVerdict Closed at h js = hyperEdgeVerdict h js
+abbrev pub endVerdict : Stage → ℕ → Contents → Verdict
+endVerdict Start at c = Refused (Truncated at)
+endVerdict Open at c = Refused (Truncated at)
+endVerdict Closed at c = hyperEdgeVerdict (c .head) (c .jobs)
 
 abbrev pub ending : Progress → ℕ → Read
-ending g at = judged (endVerdict (g .stage) at (g .head) (g .jobs)) (g .head) (g .jobs)
+ending g at = judged (endVerdict (g .stage) at (g .contents)) (g .contents)
 
 -- "A frame whose version is not 1 is skipped by its length, wherever it stands, also after the end frame."
 unfoldable pub readFrom : ℕ → List ℕ → ℕ → Progress → Read
@@ -97,19 +110,19 @@ readSheet s = elim (ltb 65536 (length s)) [ true ↦ refused TooLong | false ↦
 abbrev pub padded : List ℕ → List ℕ
 padded xs = xs ++ replicate (512 - length xs) 0
 
-abbrev pub sheetOf : Head → List Job → Sheet
-sheetOf h js =
+abbrev pub sheetOf : Contents → Sheet
+sheetOf c =
     record {
-      head = h;
-      count = length js;
-      minutes = padded (map (λ j. j .minutes) js);
-      allowed = padded (map (λ j. j .allowed) js);
+      head = c .head;
+      count = length (c .jobs);
+      minutes = padded (map (λ j. j .minutes) (c .jobs));
+      allowed = padded (map (λ j. j .allowed) (c .jobs));
     }
 
 -- After a fault the sheet is empty.
 unfoldable pub stored : Read → Reading
-stored (accepted h js) = record { verdict = Accepted; sheet = sheetOf h js }
-stored (refused f) = record { verdict = Refused f; sheet = sheetOf noHead [] }
+stored (accepted c) = record { verdict = Accepted; sheet = sheetOf c }
+stored (refused f) = record { verdict = Refused f; sheet = sheetOf noContents }
 
 abbrev pub readingOf : Verdict → Sheet → Reading
 readingOf Accepted sheet = record { verdict = Accepted; sheet = sheet }

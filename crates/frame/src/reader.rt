@@ -8,12 +8,11 @@ use judging::Frame;
 use judging::Stage;
 ghost use mathlib.Core.Path.{_≡_};
 ghost use Prim.Native.Nat.{ℕ, _<_, _^_};
-ghost use mathlib.Core.List.{[]};
 ghost use lib.ListN.{getD};
 ghost use Rattle.fields.specs.Tests.{jobTable};
-ghost use Rattle.frame.specs.Reading.{Read, readSheet, stored, sheetOf, noHead, endVerdict};
+ghost use Rattle.frame.specs.Reading.{Read, readSheet, stored, sheetOf, noContents, endVerdict};
 
-// The first fault of a sheet, or its head and jobs.
+// The first fault of a sheet, or its contents.
 pub fn read(s: &[u8]) -> Reading
     ensures { λ r. ⌜ r ≡ stored (readSheet (now (s .entry))) ⌝ }
 {
@@ -60,7 +59,7 @@ pub fn read(s: &[u8]) -> Reading
 
 // A sheet with no jobs and no head.
 fn empty() -> Sheet
-    ensures { λ r. ⌜ r ≡ sheetOf noHead [] ⌝ }
+    ensures { λ r. ⌜ r ≡ sheetOf noContents ⌝ }
 {
     Sheet {
         head: Head {
@@ -94,7 +93,8 @@ fn finish<'a>(
     allowed: &'a [u64],
 ) -> Verdict
     requires { ⌜ (h .p < 128) × (h .q < 128) × ((n : ℕ) → n < count → getD (now minutes) n 0 < 2 ^ 20) ⌝ }
-    ensures { λ r. ⌜ r ≡ endVerdict stage at h (jobTable count (now (minutes .entry)) (now (allowed .entry))) ⌝ }
+    ensures { λ r. ⌜ r ≡ endVerdict stage at
+        (record { head = h; jobs = jobTable count (now (minutes .entry)) (now (allowed .entry)) }) ⌝ }
 {
     match stage {
         Stage::Closed => checks::check_hyper_edges(h, count, minutes, allowed),

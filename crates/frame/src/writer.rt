@@ -9,7 +9,7 @@ ghost use mathlib.Core.List.{_++_};
 ghost use lib.ListN.{length, take, drop, getD};
 ghost use Rattle.fields.specs.Format.{jobFrames};
 ghost use Rattle.fields.specs.Tests.{jobTable};
-ghost use Rattle.frame.specs.Writing.{jobsOf, jobsVerdict, writerVerdict, writeSheet, output};
+ghost use Rattle.frame.specs.Writing.{contentsOf, jobsVerdict, writerVerdict, writeSheet, output};
 
 // The length of what was written, or why nothing was.
 pub enum Written {
@@ -21,8 +21,8 @@ pub enum Written {
 // A table that is shorter than the other counts as 0 from its end on.
 pub fn write<'a>(h: Head, minutes: &'a [u64], allowed: &'a [u64], out: &mut [u8]) -> Written
     ensures { λ r. ⌜
-        (r ≡ writeSheet h (jobsOf (now (minutes .entry)) (now (allowed .entry))) (length (now (out .entry))))
-        × (now (out .exit) ≡ output r h (jobsOf (now (minutes .entry)) (now (allowed .entry))) (now (out .entry)))
+        (r ≡ writeSheet (contentsOf h (now (minutes .entry)) (now (allowed .entry))) (length (now (out .entry))))
+        × (now (out .exit) ≡ output r (contentsOf h (now (minutes .entry)) (now (allowed .entry))) (now (out .entry)))
         ⌝ }
 {
     let n = longer(minutes.len(), allowed.len());
@@ -49,7 +49,8 @@ fn longer(a: usize, b: usize) -> usize
 
 // Faults 7 to 12.
 fn check<'a>(h: Head, n: usize, minutes: &'a [u64], allowed: &'a [u64]) -> Verdict
-    ensures { λ r. ⌜ r ≡ writerVerdict h (jobTable n (now (minutes .entry)) (now (allowed .entry))) ⌝ }
+    ensures { λ r. ⌜ r ≡ writerVerdict
+        (record { head = h; jobs = jobTable n (now (minutes .entry)) (now (allowed .entry)) }) ⌝ }
 {
     match checks::check_head(h, 0) {
         Verdict::Refused(f) => Verdict::Refused(f),
