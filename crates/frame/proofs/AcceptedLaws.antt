@@ -1,9 +1,9 @@
--- What an accepted sheet holds is sound: its head and jobs pass the tests 7 to 12.
+-- What an accepted sheet holds is sound: its contents pass the tests 7 to 12.
 --     SoundProgress g         what has been read so far is sound
 --     content-accepted        a sound frame's last tests are those of what it holds
 --     sound-after             a sound frame keeps it so
 --     reached-sound           so it is wherever reading comes to
---     accepted-sound          an accepted sheet's head and jobs are sound
+--     accepted-sound          an accepted sheet's contents are sound
 use Prim.Native.Nat.{ℕ, _+_, _≤_, _<_}
 use mathlib.Core.Path.{_≡_, refl, sym, subst, _∙_}
 use mathlib.Core.Bool.{true, false, not}
@@ -15,8 +15,8 @@ use lib.Seq.{getD-append-seam}
 use lib.Dec.{eqb}
 use Rattle.bools.proofs.BoolLaws.{clash, split}
 use Rattle.bools.proofs.OrderLaws.{lt-or-le}
-use Rattle.fields.specs.declared.sheet.Head.{Head}
 use Rattle.fields.specs.declared.sheet.Job.{Job}
+use Rattle.fields.specs.Contents.{Contents}
 use Rattle.judging.specs.declared.judge.Stage.{Stage}
 use Rattle.judging.specs.declared.judge.Stage.the-variants.{Start, Open, Closed}
 use Rattle.fields.specs.declared.fault.Verdict.the-variants.{Accepted}
@@ -30,10 +30,11 @@ use Rattle.frame.proofs.WriterLaws.{cond-accepted, head-sound, job-soun
 use Rattle.frame.proofs.FirstFault.{none-holds-passes, hyper-edge-none, read-accepted}
 
 pub record SoundProgress (g : Progress) : Type 0 where
-  pub nothing-before-head : g .stage ≡ Start → g .jobs ≡ []
-  pub head-sound-after : (g .stage ≡ Start → ⊥) → SoundHead (g .head)
-  pub jobs-sound : (i : ℕ) → i < length (g .jobs) → SoundJob (g .head .benches) i (jobAt (g .jobs) i)
-  pub at-most-512 : length (g .jobs) ≤ 512
+  pub nothing-before-head : g .stage ≡ Start → g .contents .jobs ≡ []
+  pub head-sound-after : (g .stage ≡ Start → ⊥) → SoundHead (g .contents .head)
+  pub jobs-sound : (i : ℕ) → i < length (g .contents .jobs)
+      → SoundJob (g .contents .head .benches) i (jobAt (g .contents .jobs) i)
+  pub at-most-512 : length (g .contents .jobs) ≤ 512
 
 -- Where no frame is misplaced: a head comes at the start, and anything else when the head has come.
 not-start : (s : Stage) (k : ℕ) → misplaced s k ≡ false → eqb k headKind ≡ false → s ≡ Start → ⊥
@@ -55,7 +56,8 @@ module _ (g : Progress) (at : ℕ) (f : List ℕ) (e : firstFault (faultsAt g at
   unfolding frameFaults
   in-place = cond-accepted (misplaced (g .stage) (kindOf f)) _ _ (cond-accepted (not (knownKind (kindOf f))) _ _ e .1) .0
 
-  pub content-accepted : firstFault (contentFaults (g .head .benches) (length (g .jobs)) at (kindOf f) (bodyOf f)) ≡ Accepted
+  pub content-accepted :
+      firstFault (contentFaults (g .contents .head .benches) (length (g .contents .jobs)) at (kindOf f) (bodyOf f)) ≡ Accepted
   unfolding frameFaults
   content-accepted =
       let kind-known = cond-accepted (not (knownKind (kindOf f))) _ _ e in
@@ -67,7 +69,7 @@ module _ (g : Progress) (at : ℕ) (f : List ℕ) (e : firstFault (faultsAt g at
     after-head : eqb (kindOf f) headKind ≡ true → SoundProgress (after g (kindOf f) (bodyOf f))
     unfolding after
     after-head k =
-        let none : g .jobs ≡ [] = ok .nothing-before-head (at-start (g .stage) (kindOf f) in-place k) in
+        let none : g .contents .jobs ≡ [] = ok .nothing-before-head (at-start (g .stage) (kindOf f) in-place k) in
         let h : SoundHead (headOf (bodyOf f)) = head-sound (headOf (bodyOf f)) at (rw k at content-accepted) in
         rw k
         (record {
@@ -81,9 +83,10 @@ module _ (g : Progress) (at : ℕ) (f : List ℕ) (e : firstFault (faultsAt g at
       after-job : eqb (kindOf f) jobKind ≡ true → SoundProgress (after g (kindOf f) (bodyOf f))
       unfolding after
       after-job l =
-          let js = g .jobs in
+          let js = g .contents .jobs in
           let j = jobOf (bodyOf f) in
-          let sound : SoundJob (g .head .benches) (length js) j = job-sound (g .head .benches) (length js) j at (rw (k, l) at content-accepted) in
+          let m = g .contents .head .benches in
+          let sound : SoundJob m (length js) j = job-sound m (length js) j at (rw (k, l) at content-accepted) in
           let more : length (js ++ (j ∷ [])) ≡ length js + 1 = length-append js (j ∷ []) in
           rw (k, l)
           (record {
@@ -126,17 +129,16 @@ reached-sound start = sound-start
 reached-sound (past-foreign r f) = reached-sound r
 reached-sound (past-sound {at = at} {f = f} {g = g} r w v n) = sound-after g at f (none-holds-passes (faultsAt g at f) n) (reached-sound r)
 
-pub accepted-sound : (s : List ℕ) (h : Head) (js : List Job) → readSheet s ≡ accepted h js → SoundSheet h js
-accepted-sound s h js e =
-    let found = read-accepted s h js e .1 in
+pub accepted-sound : (s : List ℕ) (c : Contents) → readSheet s ≡ accepted c → SoundSheet c
+accepted-sound s c e =
+    let found = read-accepted s c e .1 in
     let ok = reached-sound (found .reached) in
     let opened : found .progress .stage ≡ Start → ⊥ = λ q. closed-not-start (sym (found .closed) ∙ q) in
     record {
-      head = subst SoundHead (found .head-read) (ok .head-sound-after opened);
+      head = subst (λ (x : Contents). SoundHead (x .head)) (found .contents-read) (ok .head-sound-after opened);
       jobs = λ i lt.
-          subst (λ (x : List Job). SoundJob (h .benches) i (jobAt x i)) (found .jobs-read)
-          (subst (λ (y : Head). SoundJob (y .benches) i (jobAt (found .progress .jobs) i)) (found .head-read)
-          (ok .jobs-sound i (subst (λ (x : List Job). i < length x) (sym (found .jobs-read)) lt)));
-      at-most-512-jobs = subst (λ (x : List Job). length x ≤ 512) (found .jobs-read) (ok .at-most-512);
-      no-heavy-hyper-edge = hyper-edge-none h js (found .none-heavy);
+          subst (λ (x : Contents). SoundJob (x .head .benches) i (jobAt (x .jobs) i)) (found .contents-read)
+          (ok .jobs-sound i (subst (λ (x : Contents). i < length (x .jobs)) (sym (found .contents-read)) lt));
+      at-most-512-jobs = subst (λ (x : Contents). length (x .jobs) ≤ 512) (found .contents-read) (ok .at-most-512);
+      no-heavy-hyper-edge = hyper-edge-none (c .head) (c .jobs) (found .none-heavy);
     }

@@ -1,5 +1,6 @@
 -- Only the first 513 jobs matter to the writer: with more than 512 it refuses, by a fault that it finds at job 512 or before.
 --     jobsOf-take         the jobs of the first k entries of two tables are the first k jobs of the tables
+--     firstJobs c         the contents c with its first 513 jobs only
 --     jobsVerdict-take    the tests 9 to 11 come to the same verdict on the first 513 jobs as on all
 --     jobs-needed         all jobs are among the first 513, or the writer refuses both by the same fault
 --     verdict-enough, write-enough, output-enough     what it finds, returns and gives for the first 513 jobs and for all
@@ -17,12 +18,13 @@ use Rattle.sums.specs.Table.{table}
 use Rattle.sums.proofs.TableLaws.{table-cong, take-table-min}
 use Rattle.fields.specs.declared.sheet.Head.{Head}
 use Rattle.fields.specs.declared.sheet.Job.{Job}
+use Rattle.fields.specs.Contents.{Contents}
 use Rattle.fields.specs.declared.fault.Fault.{Fault}
 use Rattle.fields.specs.declared.fault.Verdict.the-variants.{Refused}
 use Rattle.frame.specs.declared.writer.Written.{Written}
 use Rattle.frame.specs.declared.writer.Written.the-variants.{Refusal}
 use Rattle.fields.specs.Tests.{firstFault, headFaults, jobFaults}
-use Rattle.frame.specs.Writing.{jobsOf, andThen, jobsVerdict, writerVerdict, writeSheet, output}
+use Rattle.frame.specs.Writing.{jobsOf, contentsOf, andThen, jobsVerdict, writerVerdict, writeSheet, output}
 use Rattle.frame.proofs.WriterLaws.{jobs-bound}
 use Rattle.frame.proofs.WholeFrames.{verdict-cases}
 
@@ -49,55 +51,68 @@ jobsVerdict-take m n (suc k) (j ∷ js) l e = elim (lt-or-le n 512) [
   | inr h ↦ rw (le-leb 512 n h)
 ]
 
-pub jobs-needed : (h : Head) (js : List Job)
-    → (take 513 js ≡ js) ⊎ ((f : Fault) × (writerVerdict h (take 513 js) ≡ Refused f) × (writerVerdict h js ≡ Refused f))
+abbrev pub firstJobs : Contents → Contents
+firstJobs c = record { head = c .head; jobs = take 513 (c .jobs) }
+
+pub jobs-needed : (c : Contents)
+    → (firstJobs c ≡ c) ⊎ ((f : Fault) × (writerVerdict (firstJobs c) ≡ Refused f) × (writerVerdict c ≡ Refused f))
 unfolding writerVerdict
-jobs-needed h js =
-    let same = jobsVerdict-take (h .benches) 0 513 js (omega arith) refl in
-    elim (verdict-cases (firstFault (headFaults h 0))) [
+jobs-needed c =
+    let m : ℕ = c .head .benches in
+    let js : List Job = c .jobs in
+    let same = jobsVerdict-take m 0 513 js (omega arith) refl in
+    elim (verdict-cases (firstFault (headFaults (c .head) 0))) [
       | inr a ↦ inr (a .0, rw (a .1), rw (a .1))
-      | inl a ↦ elim (verdict-cases (jobsVerdict (h .benches) 0 js)) [
-        | inl b ↦ inl (take-all 513 js (omega (arith, jobs-bound (h .benches) 0 js b (omega arith))))
+      | inl a ↦ elim (verdict-cases (jobsVerdict m 0 js)) [
+        | inl b ↦ inl
+            (ap (λ (us : List Job). record { head = c .head; jobs = us })
+            (take-all 513 js (omega (arith, jobs-bound m 0 js b (omega arith)))))
         | inr b ↦ inr (b .0, rw (a, same, b .1), rw (a, b .1))
       ]
     ]
 
-pub verdict-enough : (h : Head) (js : List Job) → writerVerdict h (take 513 js) ≡ writerVerdict h js
-verdict-enough h js = elim (jobs-needed h js) [ inl e ↦ ap (writerVerdict h) e | inr r ↦ r .1 ∙ sym (r .2) ]
+pub verdict-enough : (c : Contents) → writerVerdict (firstJobs c) ≡ writerVerdict c
+verdict-enough c = elim (jobs-needed c) [ inl e ↦ ap writerVerdict e | inr r ↦ r .1 ∙ sym (r .2) ]
 
 -- ── what is returned ──
 
-write-refused : (h : Head) (js : List Job) (room : ℕ) (f : Fault) → writerVerdict h js ≡ Refused f → writeSheet h js room ≡ Refusal f
+write-refused : (c : Contents) (room : ℕ) (f : Fault) → writerVerdict c ≡ Refused f → writeSheet c room ≡ Refusal f
 unfolding writeSheet
-write-refused h js room f e = rw (e, writeSheet)
+write-refused c room f e = rw (e, writeSheet)
 
-pub write-enough : (h : Head) (js : List Job) (room : ℕ) → writeSheet h (take 513 js) room ≡ writeSheet h js room
-write-enough h js room = elim (jobs-needed h js) [
-  | inl e ↦ ap (λ (us : List Job). writeSheet h us room) e
-  | inr r ↦ write-refused h (take 513 js) room (r .0) (r .1) ∙ sym (write-refused h js room (r .0) (r .2))
+pub write-enough : (c : Contents) (room : ℕ) → writeSheet (firstJobs c) room ≡ writeSheet c room
+write-enough c room = elim (jobs-needed c) [
+  | inl e ↦ ap (λ (x : Contents). writeSheet x room) e
+  | inr r ↦ write-refused (firstJobs c) room (r .0) (r .1) ∙ sym (write-refused c room (r .0) (r .2))
 ]
 
-output-refused : (w : Written) (f : Fault) (h : Head) (js : List Job) (out : List ℕ) → w ≡ Refusal f → output w h js out ≡ out
+output-refused : (w : Written) (f : Fault) (c : Contents) (out : List ℕ) → w ≡ Refusal f → output w c out ≡ out
 unfolding output
-output-refused w f h js out e = rw e
+output-refused w f c out e = rw e
 
-pub output-enough : (h : Head) (js : List Job) (room : ℕ) (out : List ℕ)
-    → output (writeSheet h (take 513 js) room) h (take 513 js) out ≡ output (writeSheet h js room) h js out
-output-enough h js room out = elim (jobs-needed h js) [
-  | inl e ↦ ap (λ (us : List Job). output (writeSheet h us room) h us out) e
+pub output-enough : (c : Contents) (room : ℕ) (out : List ℕ)
+    → output (writeSheet (firstJobs c) room) (firstJobs c) out ≡ output (writeSheet c room) c out
+output-enough c room out = elim (jobs-needed c) [
+  | inl e ↦ ap (λ (x : Contents). output (writeSheet x room) x out) e
   | inr r ↦
-      output-refused _ (r .0) h (take 513 js) out (write-refused h (take 513 js) room (r .0) (r .1))
-      ∙ sym (output-refused _ (r .0) h js out (write-refused h js room (r .0) (r .2)))
+      output-refused _ (r .0) (firstJobs c) out (write-refused (firstJobs c) room (r .0) (r .1))
+      ∙ sym (output-refused _ (r .0) c out (write-refused c room (r .0) (r .2)))
 ]
 
 -- ── two tables ──
 
+contentsOf-take : (h : Head) (ms bs : List ℕ)
+    → contentsOf h (take 513 ms) (take 513 bs) ≡ firstJobs (contentsOf h ms bs)
+contentsOf-take h ms bs = ap (λ (js : List Job). record { head = h; jobs = js }) (jobsOf-take 513 ms bs)
+
 pub jobs-enough : (h : Head) (ms bs : List ℕ) (room : ℕ)
-    → writeSheet h (jobsOf (take 513 ms) (take 513 bs)) room ≡ writeSheet h (jobsOf ms bs) room
-jobs-enough h ms bs room = ap (λ (js : List Job). writeSheet h js room) (jobsOf-take 513 ms bs) ∙ write-enough h (jobsOf ms bs) room
+    → writeSheet (contentsOf h (take 513 ms) (take 513 bs)) room ≡ writeSheet (contentsOf h ms bs) room
+jobs-enough h ms bs room =
+    ap (λ (c : Contents). writeSheet c room) (contentsOf-take h ms bs) ∙ write-enough (contentsOf h ms bs) room
 
 pub output-jobs-enough : (h : Head) (ms bs : List ℕ) (room : ℕ) (out : List ℕ)
-    → output (writeSheet h (jobsOf (take 513 ms) (take 513 bs)) room) h (jobsOf (take 513 ms) (take 513 bs)) out
-    ≡ output (writeSheet h (jobsOf ms bs) room) h (jobsOf ms bs) out
+    → output (writeSheet (contentsOf h (take 513 ms) (take 513 bs)) room) (contentsOf h (take 513 ms) (take 513 bs)) out
+    ≡ output (writeSheet (contentsOf h ms bs) room) (contentsOf h ms bs) out
 output-jobs-enough h ms bs room out =
-    ap (λ (js : List Job). output (writeSheet h js room) h js out) (jobsOf-take 513 ms bs) ∙ output-enough h (jobsOf ms bs) room out
+    ap (λ (c : Contents). output (writeSheet c room) c out) (contentsOf-take h ms bs)
+    ∙ output-enough (contentsOf h ms bs) room out

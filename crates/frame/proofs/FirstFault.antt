@@ -32,6 +32,7 @@ use Rattle.bools.proofs.BoolLaws.{split}
 use Rattle.bools.proofs.OrderLaws.{lt-or-le, eq-or-ne, last-or-below}
 use Rattle.fields.specs.declared.sheet.Head.{Head}
 use Rattle.fields.specs.declared.sheet.Job.{Job}
+use Rattle.fields.specs.Contents.{Contents}
 use Rattle.judging.specs.declared.judge.Stage.{Stage}
 use Rattle.judging.specs.declared.judge.Stage.the-variants.{Start, Open, Closed}
 use Rattle.fields.specs.declared.fault.Fault.{Fault}
@@ -99,7 +100,8 @@ pub faultsAt-numbers : (g : Progress) (at : ℕ) (frame : List ℕ)
 unfolding frameFaults
 faultsAt-numbers g at frame =
     ap (λ (ns : List ℕ). 3 ∷ 4 ∷ 5 ∷ 6 ∷ ns)
-    (contentNumbers (eqb (kindOf frame) headKind) (eqb (kindOf frame) jobKind) (headOf (bodyOf frame)) (g .head .benches) (length (g .jobs)) (jobOf (bodyOf frame)) at)
+    (contentNumbers (eqb (kindOf frame) headKind) (eqb (kindOf frame) jobKind) (headOf (bodyOf frame))
+    (g .contents .head .benches) (length (g .contents .jobs)) (jobOf (bodyOf frame)) at)
 
 -- What holds of the fault of every test holds of the fault that is found.
 abbrev Every : (Fault → Type 0) → List Test → Type 0
@@ -126,7 +128,8 @@ faultsAt-in-frame : (g : Progress) (at : ℕ) (frame : List ℕ) → Every (InFr
 unfolding frameFaults
 faultsAt-in-frame g at frame =
     let content =
-    content-in-frame (eqb (kindOf frame) headKind) (eqb (kindOf frame) jobKind) (headOf (bodyOf frame)) (g .head .benches) (length (g .jobs)) (jobOf (bodyOf frame)) at in
+    content-in-frame (eqb (kindOf frame) headKind) (eqb (kindOf frame) jobKind) (headOf (bodyOf frame))
+    (g .contents .head .benches) (length (g .contents .jobs)) (jobOf (bodyOf frame)) at in
     (omega arith, (omega arith, (omega arith, (omega arith, content))))
 
 pub in-frame-number : (g : Progress) (at : ℕ) (frame : List ℕ) (f : Fault) → FirstTest (faultsAt g at frame) f
@@ -208,16 +211,17 @@ over : (at : ℕ) (g : Progress) → readOn [] at g ≡ ending g at
 unfolding readFrom
 over at g = refl
 
-truncated : (stage : Stage) (at : ℕ) (h : Head) (js : List Job) → stage ≢ Closed → endVerdict stage at h js ≡ Refused (Truncated at)
-truncated Start at h js n = refl
-truncated Open at h js n = refl
-truncated Closed at h js n = absurd (n refl)
+truncated : (stage : Stage) (at : ℕ) (c : Contents) → stage ≢ Closed → endVerdict stage at c ≡ Refused (Truncated at)
+truncated Start at c n = refl
+truncated Open at c n = refl
+truncated Closed at c n = absurd (n refl)
 
 module _ (at : ℕ) (g : Progress) where
   ending-open : g .stage ≢ Closed → ending g at ≡ refused (Truncated at)
-  ending-open n = rw (truncated (g .stage) at (g .head) (g .jobs) n)
+  ending-open n = rw (truncated (g .stage) at (g .contents) n)
 
-  ending-closed : g .stage ≡ Closed → ending g at ≡ judged (hyperEdgeVerdict (g .head) (g .jobs)) (g .head) (g .jobs)
+  ending-closed : g .stage ≡ Closed
+      → ending g at ≡ judged (hyperEdgeVerdict (g .contents .head) (g .contents .jobs)) (g .contents)
   ending-closed c = rw c
 
 -- ── the first fault ──
@@ -238,7 +242,7 @@ module _ {s : List ℕ} {at : ℕ} {rest : List ℕ} {g : Progress} where
       ap (λ (b : List ℕ). readOn b at g) e ∙ over at g ∙ ending-open at g n ∙ ap (λ (i : ℕ). refused (Truncated i)) l
   fault-here-read r (heavy-hyper-edge {n} e c l) =
       ap (λ (b : List ℕ). readOn b at g) e ∙ over at g ∙ ending-closed at g c
-      ∙ ap (λ (v : Verdict). judged v (g .head) (g .jobs)) (hyper-edge-lowest (g .head) (g .jobs) n l)
+      ∙ ap (λ (v : Verdict). judged v (g .contents)) (hyper-edge-lowest (g .contents .head) (g .contents .jobs) n l)
 
 sheet-fault-read : {s : List ℕ} {f : Fault} → SheetFault s f → readOn s 0 nothingRead ≡ refused f
 sheet-fault-read x = reached-read (x .reached) ∙ fault-here-read (x .reached) (x .fault-here)
@@ -255,10 +259,10 @@ read-too-long s h = rw (lt-ltb 65536 (length s) h, readSheet)
 pub judged-read : {s : List ℕ} {r : Read} → Judgement s r → readSheet s ≡ r
 judged-read {s} (too-long h) = read-too-long s h
 judged-read {s} (faulty l x) = readSheet-within s l ∙ sheet-fault-read x
-judged-read {s} (sound {h} {js} l x) =
+judged-read {s} (sound {c} l x) =
     let g = x .progress in
     readSheet-within s l ∙ reached-read (x .reached) ∙ over (length s) g ∙ ending-closed (length s) g (x .closed)
-    ∙ rw (x .head-read, x .jobs-read, hyper-edge-none h js (x .none-heavy))
+    ∙ rw (x .contents-read, hyper-edge-none (c .head) (c .jobs) (x .none-heavy))
 
 stage-cases : (stage : Stage) → (stage ≡ Closed) ⊎ (stage ≢ Closed)
 stage-cases Start = inr (λ e. let z : _≡_ {A = ℕ} 0 1 = cc in omega arith)
@@ -273,18 +277,17 @@ module _ (s : List ℕ) (within : length s ≤ 65536) where
     all-over = omega (arith, reached-length r)
 
     judge-closed : g .stage ≡ Closed → Judgement s (ending g at)
-    judge-closed c = elim (verdict-cases (hyperEdgeVerdict (g .head) (g .jobs))) [
+    judge-closed c = elim (verdict-cases (hyperEdgeVerdict (g .contents .head) (g .contents .jobs))) [
       | inl a ↦ rw (ending-closed at g c, a)
           (sound within (record {
             progress = g;
             reached = subst (λ (i : ℕ). Reached s i [] g) all-over r;
             closed = c;
-            head-read = refl;
-            jobs-read = refl;
-            none-heavy = none-hyper-edge (g .head) (g .jobs) a;
+            contents-read = refl;
+            none-heavy = none-hyper-edge (g .contents .head) (g .contents .jobs) a;
           }))
       | inr a ↦
-          let q = lowest-hyper-edge (g .head) (g .jobs) (a .0) (a .1) in
+          let q = lowest-hyper-edge (g .contents .head) (g .contents .jobs) (a .0) (a .1) in
           rw (ending-closed at g c, a .1, q .1)
           (faulty within (record { at = at; rest = []; progress = g; reached = r; fault-here = heavy-hyper-edge refl c (q .2) }))
     ]
@@ -340,7 +343,7 @@ judged-fault : {s : List ℕ} {f : Fault} → length s ≤ 65536 → Judgement s
 judged-fault h (too-long l) = absurd (omega arith)
 judged-fault h (faulty l x) = x
 
-judged-accepted : {s : List ℕ} {h : Head} {js : List Job} → Judgement s (accepted h js) → (length s ≤ 65536) × SheetSound s h js
+judged-accepted : {s : List ℕ} {c : Contents} → Judgement s (accepted c) → (length s ≤ 65536) × SheetSound s c
 judged-accepted (sound l x) = (l, x)
 
 pub too-long-read : (s : List ℕ) → readSheet s ≡ refused TooLong → 65536 < length s
@@ -352,8 +355,8 @@ read-fault s f h e = judged-fault h (rw e at (read-judged s))
 pub fault-read : (s : List ℕ) (f : Fault) → length s ≤ 65536 → SheetFault s f → readSheet s ≡ refused f
 fault-read s f h x = judged-read (faulty h x)
 
-pub read-accepted : (s : List ℕ) (h : Head) (js : List Job) → readSheet s ≡ accepted h js → (length s ≤ 65536) × SheetSound s h js
-read-accepted s h js e = judged-accepted (rw e at (read-judged s))
+pub read-accepted : (s : List ℕ) (c : Contents) → readSheet s ≡ accepted c → (length s ≤ 65536) × SheetSound s c
+read-accepted s c e = judged-accepted (rw e at (read-judged s))
 
-pub accepted-read : (s : List ℕ) (h : Head) (js : List Job) → length s ≤ 65536 → SheetSound s h js → readSheet s ≡ accepted h js
-accepted-read s h js l x = judged-read (sound l x)
+pub accepted-read : (s : List ℕ) (c : Contents) → length s ≤ 65536 → SheetSound s c → readSheet s ≡ accepted c
+accepted-read s c l x = judged-read (sound l x)

@@ -13,7 +13,7 @@
 --     readOn-padded           what is read of bytes with foreign frames added is the same, moved
 --     padded-length           adding frames makes no sheet shorter
 --     read-padded             the sentence itself, for any number of added frames: a byte place moves by the bytes added before it
---     read-padded-accepted    with frames added a sheet is accepted exactly where it is without, with the same head and jobs
+--     read-padded-accepted    with frames added a sheet is accepted exactly where it is without, with the same contents
 --     padded-one              one foreign frame behind a row of frames is a case of this
 --     read-foreign            the sentence for one added frame
 use Prim.Native.Nat.{ℕ, zero, suc, _+_, _-_, _≤_, _<_}
@@ -31,6 +31,7 @@ use Rattle.bools.proofs.OrderLaws.{eq-or-ne}
 use Rattle.sums.specs.Search.{least}
 use Rattle.fields.specs.declared.sheet.Head.{Head}
 use Rattle.fields.specs.declared.sheet.Job.{Job}
+use Rattle.fields.specs.Contents.{Contents}
 use Rattle.judging.specs.declared.judge.Stage.{Stage}
 use Rattle.judging.specs.declared.judge.Stage.the-variants.{Start, Open, Closed}
 use Rattle.fields.specs.declared.fault.Fault.{Fault}
@@ -92,7 +93,8 @@ frameFaults-moved by stage m n at kind body =
 pub faultsAt-moved : (by : ℕ → ℕ) (g : Progress) (at : ℕ) (frame : List ℕ)
     → firstFault (faultsAt g (at + by at) frame) ≡ movedVerdict by (firstFault (faultsAt g at frame))
 faultsAt-moved by g at frame =
-    ap firstFault (frameFaults-moved by (g .stage) (g .head .benches) (length (g .jobs)) at (kindOf frame) (bodyOf frame))
+    ap firstFault
+    (frameFaults-moved by (g .stage) (g .contents .head .benches) (length (g .contents .jobs)) at (kindOf frame) (bodyOf frame))
     ∙ firstFault-moved by (faultsAt g at frame)
 
 -- 12 has a job number for its place.
@@ -106,22 +108,22 @@ hyperEdgeVerdict-moved : (by : ℕ → ℕ) (h : Head) (js : List Job) → hyper
 unfolding hyperEdgeVerdict
 hyperEdgeVerdict-moved by h js = let n = least (length js) (heavyHyperEdgeAt h js) in jobFault-moved by (ltb n (length js)) n
 
-endVerdict-moved : (by : ℕ → ℕ) (stage : Stage) (at : ℕ) (h : Head) (js : List Job)
-    → endVerdict stage (at + by at) h js ≡ movedVerdict by (endVerdict stage at h js)
+endVerdict-moved : (by : ℕ → ℕ) (stage : Stage) (at : ℕ) (c : Contents)
+    → endVerdict stage (at + by at) c ≡ movedVerdict by (endVerdict stage at c)
 unfolding movedBy
-endVerdict-moved by Start at h js = refl
-endVerdict-moved by Open at h js = refl
-endVerdict-moved by Closed at h js = hyperEdgeVerdict-moved by h js
+endVerdict-moved by Start at c = refl
+endVerdict-moved by Open at c = refl
+endVerdict-moved by Closed at c = hyperEdgeVerdict-moved by (c .head) (c .jobs)
 
-judged-moved : (by : ℕ → ℕ) (v : Verdict) (h : Head) (js : List Job) → judged (movedVerdict by v) h js ≡ movedReadBy by (judged v h js)
+judged-moved : (by : ℕ → ℕ) (v : Verdict) (c : Contents) → judged (movedVerdict by v) c ≡ movedReadBy by (judged v c)
 unfolding movedReadBy
-judged-moved by Accepted h js = refl
-judged-moved by (Refused f) h js = refl
+judged-moved by Accepted c = refl
+judged-moved by (Refused f) c = refl
 
 pub ending-moved : (by : ℕ → ℕ) (g : Progress) (at : ℕ) → ending g (at + by at) ≡ movedReadBy by (ending g at)
 ending-moved by g at =
-    ap (λ (v : Verdict). judged v (g .head) (g .jobs)) (endVerdict-moved by (g .stage) at (g .head) (g .jobs))
-    ∙ judged-moved by (endVerdict (g .stage) at (g .head) (g .jobs)) (g .head) (g .jobs)
+    ap (λ (v : Verdict). judged v (g .contents)) (endVerdict-moved by (g .stage) at (g .contents))
+    ∙ judged-moved by (endVerdict (g .stage) at (g .contents)) (g .contents)
 
 -- ── the same frames at another place ──
 
@@ -270,14 +272,14 @@ read-padded {s} {t} p h =
     rw (readSheet-within t h, readSheet-within s (omega (arith, padded-length p)))
     (readOn-padded p (addedBefore p) 0 0 nothingRead (λ x. rw zero-add refl))
 
-movedRead-accepted : (by : ℕ → ℕ) (r : Read) (h : Head) (js : List Job) → (movedReadBy by r ≡ accepted h js) ↔ (r ≡ accepted h js)
+movedRead-accepted : (by : ℕ → ℕ) (r : Read) (c : Contents) → (movedReadBy by r ≡ accepted c) ↔ (r ≡ accepted c)
 unfolding movedReadBy
-movedRead-accepted by (accepted h′ js′) h js = (λ e. e, λ e. e)
-movedRead-accepted by (refused f) h js = (λ e. cc, λ e. cc)
+movedRead-accepted by (accepted c′) c = (λ e. e, λ e. e)
+movedRead-accepted by (refused f) c = (λ e. cc, λ e. cc)
 
-pub read-padded-accepted : {s t : List ℕ} → Padded s t → length t ≤ 65536 → (h : Head) (js : List Job)
-    → (readSheet t ≡ accepted h js) ↔ (readSheet s ≡ accepted h js)
-read-padded-accepted {s} {t} p l h js = rw (read-padded p l) (movedRead-accepted (addedBefore p) (readSheet s) h js)
+pub read-padded-accepted : {s t : List ℕ} → Padded s t → length t ≤ 65536 → (c : Contents)
+    → (readSheet t ≡ accepted c) ↔ (readSheet s ≡ accepted c)
+read-padded-accepted {s} {t} p l c = rw (read-padded p l) (movedRead-accepted (addedBefore p) (readSheet s) c)
 
 -- ── one added frame ──
 

@@ -65,7 +65,7 @@ sound-not-foreign (Refused f) x k e = let z : _≡_ {A = ℕ} 0 1 = cc in omega 
 
 module _ (g : Progress) (at : ℕ) (rest : List ℕ) where
   abbrev pub found : Frame
-  found = frameAt (g .stage) (g .head .benches) (length (g .jobs)) at rest
+  found = frameAt (g .stage) (g .contents .head .benches) (length (g .contents .jobs)) at rest
 
   pub found-fault : 0 < length rest → (f : Fault) → found ≡ frame.Faulty f → readOn rest at g ≡ refused f
   unfolding frameAt

@@ -5,7 +5,7 @@
 use Prim.Native.Nat.{ℕ, suc, _+_, _-_, _<_}
 use mathlib.Core.Path.{_≡_, refl, sym, ap, subst, _∙_}
 use mathlib.Core.Bool.{Bool, true, false, cond}
-use mathlib.Core.List.{List, [], _∷_, _++_}
+use mathlib.Core.List.{List}
 use native.Mathlib.Omega.{arith}
 use lib.ListN.{length, drop, length-drop}
 use lib.Dec.{eqb}
@@ -22,7 +22,7 @@ use Rattle.fields.specs.Format.{ours, headKind, jobKind, versionOf, kindOf, fra
 use Rattle.fields.specs.Tests.{firstFault, jobFaults}
 use Rattle.frame.specs.Sound.{SoundJob}
 use Rattle.judging.specs.FrameTests.{cut}
-use Rattle.frame.specs.Reading.{Progress, refused, faultsAt, after, readFrom}
+use Rattle.frame.specs.Reading.{Progress, refused, faultsAt, withHead, withJob, after, readFrom}
 use Rattle.frame.specs.Frames.{readOn}
 use Rattle.judging.specs.Steps.{frameOf, contentOf, sound}
 use Rattle.frame.proofs.ReadLaws.{cut-false, frameSize-pos, readFrom-foreign, readFrom-fault, readFrom-next, readFrom-enough}
@@ -103,7 +103,8 @@ sound-end (Refused f) x e = let z : _≡_ {A = ℕ} 0 1 = cc in absurd (omega ar
 module _ (g : Progress) (at : ℕ) (rest : List ℕ) where
   -- What the judge is asked of the frame at the front of rest.
   abbrev pub judgement : Frame
-  judgement = frameOf (g .stage) (g .head .benches) (length (g .jobs)) at (kindOf rest) (bodyOf rest)
+  judgement =
+      frameOf (g .stage) (g .contents .head .benches) (length (g .contents .jobs)) at (kindOf rest) (bodyOf rest)
 
   pub frameOf-fault : (f : Fault) → judgement ≡ frame.Faulty f → firstFault (faultsAt g at rest) ≡ Refused f
   unfolding frameOf
@@ -111,32 +112,38 @@ module _ (g : Progress) (at : ℕ) (rest : List ℕ) where
 
   pub frameOf-head : (h : Head) → judgement ≡ frame.Head h
       → (firstFault (faultsAt g at rest) ≡ Accepted) × (h ≡ headOf (bodyOf rest))
-      × (after g (kindOf rest) (bodyOf rest) ≡ record { stage = Open; head = h; jobs = g .jobs })
+      × (after g (kindOf rest) (bodyOf rest) ≡ record { stage = Open; contents = withHead (g .contents) h })
   unfolding frameOf after
   frameOf-head h e =
       let s = sound-head (firstFault (faultsAt g at rest)) (contentOf (kindOf rest) (bodyOf rest)) h e in
       let k = content-head (eqb (kindOf rest) headKind) (eqb (kindOf rest) jobKind) (headOf (bodyOf rest)) h (jobOf (bodyOf rest)) (s .1) in
-      (s .0, sym (k .1), rw (k .0) (ap (λ (x : Head). record { stage = Open; head = x; jobs = g .jobs }) (k .1)))
+      (
+        s .0,
+        sym (k .1),
+        rw (k .0) (ap (λ (x : Head). record { stage = Open; contents = withHead (g .contents) x }) (k .1)),
+      )
 
   pub frameOf-job : (j : Job) → judgement ≡ frame.Job j
       → (firstFault (faultsAt g at rest) ≡ Accepted) × (j ≡ jobOf (bodyOf rest))
-      × (after g (kindOf rest) (bodyOf rest) ≡ record { stage = g .stage; head = g .head; jobs = g .jobs ++ (j ∷ []) })
-      × SoundJob (g .head .benches) (length (g .jobs)) j
+      × (after g (kindOf rest) (bodyOf rest) ≡ record { stage = g .stage; contents = withJob (g .contents) j })
+      × SoundJob (g .contents .head .benches) (length (g .contents .jobs)) j
   unfolding frameOf after
   frameOf-job j e =
       let s = sound-job (firstFault (faultsAt g at rest)) (contentOf (kindOf rest) (bodyOf rest)) j e in
       let k = content-job (eqb (kindOf rest) headKind) (eqb (kindOf rest) jobKind) (headOf (bodyOf rest)) (jobOf (bodyOf rest)) j (s .1) in (
         s .0,
         sym (k .2),
-        rw (k .0, k .1) (ap (λ (x : Job). record { stage = g .stage; head = g .head; jobs = g .jobs ++ (x ∷ []) }) (k .2)),
-        job-sound (g .head .benches) (length (g .jobs)) j at
-            (subst (λ (x : Job). firstFault (jobFaults (g .head .benches) (length (g .jobs)) x at) ≡ Accepted) (k .2)
+        rw (k .0, k .1) (ap (λ (x : Job). record { stage = g .stage; contents = withJob (g .contents) x }) (k .2)),
+        job-sound (g .contents .head .benches) (length (g .contents .jobs)) j at
+            (subst
+            (λ (x : Job). firstFault (jobFaults (g .contents .head .benches) (length (g .contents .jobs)) x at) ≡ Accepted)
+            (k .2)
             (rw (k .0, k .1) at (content-accepted g at rest (s .0)))),
       )
 
   pub frameOf-end : judgement ≡ frame.End
       → (firstFault (faultsAt g at rest) ≡ Accepted)
-      × (after g (kindOf rest) (bodyOf rest) ≡ record { stage = Closed; head = g .head; jobs = g .jobs })
+      × (after g (kindOf rest) (bodyOf rest) ≡ record { stage = Closed; contents = g .contents })
   unfolding frameOf after
   frameOf-end e =
       let s = sound-end (firstFault (faultsAt g at rest)) (contentOf (kindOf rest) (bodyOf rest)) e in

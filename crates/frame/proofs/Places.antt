@@ -26,6 +26,7 @@ use Rattle.bools.proofs.BoolLaws.{split, tests}
 use Rattle.bools.proofs.OrderLaws.{lt-or-le}
 use Rattle.fields.specs.declared.sheet.Head.{Head}
 use Rattle.fields.specs.declared.sheet.Job.{Job}
+use Rattle.fields.specs.Contents.{Contents}
 use Rattle.fields.specs.declared.fault.Fault.{Fault}
 use Rattle.fields.specs.declared.fault.Fault.the-variants.{Table}
 use Rattle.fields.specs.declared.fault.Verdict.{Verdict}
@@ -88,13 +89,15 @@ jobs-place m n (j ∷ js) f l e = elim (andThen-refused (firstFault (jobFaults m
 pub hyper-edge-place : (h : Head) (js : List Job) (f : Fault) → hyperEdgeVerdict h js ≡ Refused f → placeOf f < length js
 hyper-edge-place h js f e = let r = lowest-hyper-edge h js f e in omega (arith, ap placeOf (r .1), r .2 .is-job)
 
-pub writer-place : (h : Head) (js : List Job) (f : Fault) → writerVerdict h js ≡ Refused f → placeOf f ≤ 512
+pub writer-place : (c : Contents) (f : Fault) → writerVerdict c ≡ Refused f → placeOf f ≤ 512
 unfolding writerVerdict
-writer-place h js f e = elim (andThen-refused (firstFault (headFaults h 0)) _ f e) [
-  | inl p ↦ omega (arith, head-place h 0 f p)
-  | inr q ↦ elim (andThen-refused (jobsVerdict (h .benches) 0 js) _ f (q .1)) [
-    | inl p ↦ jobs-place (h .benches) 0 js f (omega arith) p
-    | inr r ↦ omega (arith, hyper-edge-place h js f (r .1), jobs-bound (h .benches) 0 js (r .0) (omega arith))
+writer-place c f e = elim (andThen-refused (firstFault (headFaults (c .head) 0)) _ f e) [
+  | inl p ↦ omega (arith, head-place (c .head) 0 f p)
+  | inr q ↦ elim (andThen-refused (jobsVerdict (c .head .benches) 0 (c .jobs)) _ f (q .1)) [
+    | inl p ↦ jobs-place (c .head .benches) 0 (c .jobs) f (omega arith) p
+    | inr r ↦
+        let few = jobs-bound (c .head .benches) 0 (c .jobs) (r .0) (omega arith) in
+        omega (arith, hyper-edge-place (c .head) (c .jobs) f (r .1), few)
   ]
 ]
 
@@ -102,31 +105,34 @@ fitted-place : (b : Bool) (n : ℕ) (f : Fault) → cond b (Length n) (Refusal (
 fitted-place true n f e = let z : _≡_ {A = ℕ} 0 1 = cc in absurd (omega arith)
 fitted-place false n f e = let g : Table 0 ≡ f = cc in sym (ap placeOf g)
 
-pub written-place : (h : Head) (js : List Job) (room : ℕ) (f : Fault) → writeSheet h js room ≡ Refusal f → placeOf f ≤ 512
+pub written-place : (c : Contents) (room : ℕ) (f : Fault) → writeSheet c room ≡ Refusal f → placeOf f ≤ 512
 unfolding writeSheet
-written-place h js room f e = elim (verdict-cases (writerVerdict h js)) [
-  | inl a ↦ omega (arith, fitted-place (leb (length (sheetBytes h js)) room) (length (sheetBytes h js)) f (rw (a, writeSheet) at e))
-  | inr a ↦ let g : a .0 ≡ f = cc in writer-place h js f (a .1 ∙ ap Refused g)
+written-place c room f e = elim (verdict-cases (writerVerdict c)) [
+  | inl a ↦
+      let size : ℕ = length (sheetBytes c) in
+      omega (arith, fitted-place (leb size room) size f (rw (a, writeSheet) at e))
+  | inr a ↦ let g : a .0 ≡ f = cc in writer-place c f (a .1 ∙ ap Refused g)
 ]
 
 fitted-length : (b : Bool) (m n : ℕ) → cond b (Length m) (Refusal (Table 0)) ≡ Length n → m ≡ n
 fitted-length true m n e = cc
 fitted-length false m n e = let z : _≡_ {A = ℕ} 0 1 = cc in absurd (omega arith)
 
-pub written-length : (h : Head) (js : List Job) (room n : ℕ) → writeSheet h js room ≡ Length n → (n ≡ 13 + 14 * length js) × (n ≤ 7181)
+pub written-length : (c : Contents) (room n : ℕ) → writeSheet c room ≡ Length n
+    → (n ≡ 13 + 14 * length (c .jobs)) × (n ≤ 7181)
 unfolding writeSheet
-written-length h js room n e = elim (verdict-cases (writerVerdict h js)) [
+written-length c room n e = elim (verdict-cases (writerVerdict c)) [
   | inl a ↦
-      let size : ℕ = length (sheetBytes h js) in
+      let size : ℕ = length (sheetBytes c) in
       let same : size ≡ n = fitted-length (leb size room) size n (rw (a, writeSheet) at e) in
-      omega (arith, same, length-sheetBytes h js, writerVerdict-sound h js a .at-most-512-jobs)
+      omega (arith, same, length-sheetBytes c, writerVerdict-sound c a .at-most-512-jobs)
   | inr a ↦ let z : _≡_ {A = ℕ} 0 1 = cc in absurd (omega arith)
 ]
 
 -- ── the reader ──
 
-few-after : (g : Progress) (at : ℕ) (f : List ℕ) → length (g .jobs) ≤ 512 → NoneHolds (faultsAt g at f)
-    → length (after g (kindOf f) (bodyOf f) .jobs) ≤ 512
+few-after : (g : Progress) (at : ℕ) (f : List ℕ) → length (g .contents .jobs) ≤ 512 → NoneHolds (faultsAt g at f)
+    → length (after g (kindOf f) (bodyOf f) .contents .jobs) ≤ 512
 unfolding frameFaults after
 few-after g at f l n = elim (split (eqb (kindOf f) headKind)) [
   | inl p ↦ rw p l
@@ -136,13 +142,16 @@ few-after g at f l n = elim (split (eqb (kindOf f) headKind)) [
   ]
 ]
 
-pub reached-jobs : {s : List ℕ} {at : ℕ} {rest : List ℕ} {g : Progress} → Reached s at rest g → length (g .jobs) ≤ 512
+pub reached-jobs : {s : List ℕ} {at : ℕ} {rest : List ℕ} {g : Progress} → Reached s at rest g
+    → length (g .contents .jobs) ≤ 512
 reached-jobs start = omega arith
 reached-jobs (past-foreign r w) = reached-jobs r
 reached-jobs (past-sound {at} {f} {rest} {g} r w v n) = few-after g at f (reached-jobs r) n
 
-pub read-jobs : (s : List ℕ) (h : Head) (js : List Job) → readSheet s ≡ accepted h js → length js ≤ 512
-read-jobs s h js e = let x = read-accepted s h js e .1 in omega (arith, reached-jobs (x .reached), ap length (x .jobs-read))
+pub read-jobs : (s : List ℕ) (c : Contents) → readSheet s ≡ accepted c → length (c .jobs) ≤ 512
+read-jobs s c e =
+    let x = read-accepted s c e .1 in
+    omega (arith, reached-jobs (x .reached), ap (λ (y : Contents). length (y .jobs)) (x .contents-read))
 
 fault-here-place : {s : List ℕ} {at : ℕ} {rest : List ℕ} {g : Progress} {f : Fault} → length s ≤ 65536 → Reached s at rest g
     → FaultHere s at rest g f → placeOf f ≤ 65536

@@ -3,7 +3,7 @@
 --     state-start, state-fault, state-foreign, state-head, state-job, state-end     the loop
 --     job-room                       a sound job is not the 513th
 --     next-is, found-is              where the frame at byte at ends, and what it is, by the answers of the program's functions
---     state-count, state-minutes, state-jobs, state-over     after the loop
+--     state-count, state-minutes, state-contents, state-over     after the loop
 use Prim.Native.Nat.{ℕ, _+_, _-_, _^_, _≤_, _<_}
 use mathlib.Core.Path.{_≡_, refl, sym, ap, ap₂, _∙_}
 use mathlib.Core.Logic.{⊎-elim}
@@ -17,6 +17,7 @@ use Rattle.bools.proofs.OrderLaws.{lt-or-le}
 use Rattle.bits.proofs.BitsLaws.{bits-lt}
 use Rattle.fields.specs.declared.sheet.Head.{Head}
 use Rattle.fields.specs.declared.sheet.Job.{Job}
+use Rattle.fields.specs.Contents.{Contents}
 use Rattle.fields.specs.declared.sheet.Sheet.{Sheet}
 use Rattle.fields.specs.declared.sheet.Reading.{Reading}
 use Rattle.judging.specs.declared.judge.Stage.{Stage}
@@ -30,7 +31,7 @@ use Rattle.fields.specs.Format.{ours, versionOf, kindOf, frameSize, bodyOf}
 use Rattle.fields.specs.Tests.{firstFault, jobTable, jobAt, noJob}
 use Rattle.frame.specs.Sound.{SoundJob}
 use Rattle.judging.specs.FrameTests.{cut}
-use Rattle.frame.specs.Reading.{Progress, refused, faultsAt, after, endVerdict, judged, readSheet, stored, padded, sheetOf, noHead, readingOf}
+use Rattle.frame.specs.Reading.{Progress, refused, noContents, faultsAt, withHead, withJob, after, endVerdict, judged, readSheet, stored, padded, sheetOf, readingOf}
 use Rattle.frame.specs.Frames.{readOn}
 use Rattle.judging.specs.Steps.{frameAt}
 use Rattle.frame.proofs.ReadLaws.{cut-false, readFrom-over}
@@ -42,26 +43,27 @@ use Rattle.frame.proofs.FrameAt.{found, found-fault, found-foreign, fou
 -- ── the loop ──
 
 pub record ReadState (s : List ℕ) (sheet : Sheet) (stage : Stage) (at : ℕ) : Type 0 where
-  pub jobs : List Job
+  pub contents : Contents
   pub within : at ≤ length s
-  pub same-sheet : sheet ≡ sheetOf (sheet .head) jobs
-  pub at-most-512 : length jobs ≤ 512
+  pub same-sheet : sheet ≡ sheetOf contents
+  pub at-most-512 : length (contents .jobs) ≤ 512
   pub p-fits : sheet .head .p < 128
   pub q-fits : sheet .head .q < 128
-  pub minutes-fit : (n : ℕ) → n < length jobs → jobAt jobs n .minutes < 2 ^ 20
-  pub so-far : readSheet s ≡ readOn (drop at s) at (record { stage = stage; head = sheet .head; jobs = jobs })
+  pub minutes-fit : (n : ℕ) → n < length (contents .jobs) → jobAt (contents .jobs) n .minutes < 2 ^ 20
+  pub so-far : readSheet s ≡ readOn (drop at s) at (record { stage = stage; contents = contents })
 
-pub state-start : (s : List ℕ) (sheet : Sheet) → length s ≤ 65536 → sheet ≡ sheetOf noHead [] → ReadState s sheet Start 0
+pub state-start : (s : List ℕ) (sheet : Sheet) → length s ≤ 65536 → sheet ≡ sheetOf noContents
+    → ReadState s sheet Start 0
 state-start s sheet short e =
     record {
-      jobs = [];
+      contents = noContents;
       within = omega arith;
-      same-sheet = rw e;
+      same-sheet = e;
       at-most-512 = omega arith;
       p-fits = rw e (omega arith);
       q-fits = rw e (omega arith);
       minutes-fit = λ n h. absurd (omega arith);
-      so-far = rw e (readSheet-within s short);
+      so-far = readSheet-within s short;
     }
 
 module _ (s : List ℕ) (sheet : Sheet) (stage : Stage) (at : ℕ) (here : ReadState s sheet stage at) (inside : at < length s) where
@@ -69,7 +71,7 @@ module _ (s : List ℕ) (sheet : Sheet) (stage : Stage) (at : ℕ) (here : ReadS
   rest = drop at s
 
   abbrev progress : Progress
-  progress = record { stage = stage; head = sheet .head; jobs = here .jobs }
+  progress = record { stage = stage; contents = here .contents }
 
   some : 0 < length rest
   some = rw length-drop (omega arith)
@@ -91,7 +93,7 @@ module _ (s : List ℕ) (sheet : Sheet) (stage : Stage) (at : ℕ) (here : ReadS
     state-foreign e =
         let w = found-foreign progress at rest e in
         record {
-          jobs = here .jobs;
+          contents = here .contents;
           within = next-within (w .0);
           same-sheet = here .same-sheet;
           at-most-512 = here .at-most-512;
@@ -115,7 +117,7 @@ module _ (s : List ℕ) (sheet : Sheet) (stage : Stage) (at : ℕ) (here : ReadS
         let w = found-ours progress at rest (frame.Head h) refl e in
         let read = frameOf-head progress at rest h (w .2) in
         record {
-          jobs = here .jobs;
+          contents = withHead (here .contents) h;
           within = next-within (w .0);
           same-sheet = ap (λ (x : Sheet). record { head = h; count = x .count; minutes = x .minutes; allowed = x .allowed }) (here .same-sheet);
           at-most-512 = here .at-most-512;
@@ -130,7 +132,7 @@ module _ (s : List ℕ) (sheet : Sheet) (stage : Stage) (at : ℕ) (here : ReadS
         let w = found-ours progress at rest frame.End refl e in
         let read = frameOf-end progress at rest (w .2) in
         record {
-          jobs = here .jobs;
+          contents = here .contents;
           within = next-within (w .0);
           same-sheet = here .same-sheet;
           at-most-512 = here .at-most-512;
@@ -150,43 +152,47 @@ module _ (s : List ℕ) (sheet : Sheet) (stage : Stage) (at : ℕ) (here : ReadS
       judged-job : judgement progress at rest ≡ frame.Job j
       judged-job = found-ours progress at rest (frame.Job j) refl e .2
 
-      job-found : SoundJob (sheet .head .benches) (length (here .jobs)) j
+      job-found : SoundJob (here .contents .head .benches) (length (here .contents .jobs)) j
       job-found = frameOf-job progress at rest j judged-job .3
 
-      count-is : sheet .count ≡ length (here .jobs)
+      count-is : sheet .count ≡ length (here .contents .jobs)
       count-is = ap (λ (x : Sheet). x .count) (here .same-sheet)
 
       pub job-room : sheet .count < 512
       job-room = omega (arith, count-is, job-found)
 
-      jobs-length : length (here .jobs ++ (j ∷ [])) ≡ length (here .jobs) + 1
-      jobs-length = length-append (here .jobs) (j ∷ [])
+      jobs-length : length (here .contents .jobs ++ (j ∷ [])) ≡ length (here .contents .jobs) + 1
+      jobs-length = length-append (here .contents .jobs) (j ∷ [])
 
       one-job-more : record {
         head = sheet .head;
         count = sheet .count + 1;
         minutes = set (sheet .minutes) (sheet .count) (j .minutes);
         allowed = set (sheet .allowed) (sheet .count) (j .allowed);
-      } ≡ sheetOf (sheet .head) (here .jobs ++ (j ∷ []))
+      } ≡ sheetOf (withJob (here .contents) j)
       one-job-more =
-          let a : sheet .count + 1 ≡ length (here .jobs ++ (j ∷ [])) = omega (arith, count-is, jobs-length) in
-          let b : set (sheet .minutes) (sheet .count) (j .minutes) ≡ padded (map (λ x. x .minutes) (here .jobs ++ (j ∷ []))) =
+          let h : sheet .head ≡ here .contents .head = ap (λ (x : Sheet). x .head) (here .same-sheet) in
+          let a : sheet .count + 1 ≡ length (here .contents .jobs ++ (j ∷ [])) = omega (arith, count-is, jobs-length) in
+          let b : set (sheet .minutes) (sheet .count) (j .minutes)
+          ≡ padded (map (λ x. x .minutes) (here .contents .jobs ++ (j ∷ []))) =
           ap₂ (λ (xs : List ℕ) (n : ℕ). set xs n (j .minutes)) (ap (λ (x : Sheet). x .minutes) (here .same-sheet)) count-is
-          ∙ set-padded (λ x. x .minutes) refl (here .jobs) j (job-found .number-below-512)
+          ∙ set-padded (λ x. x .minutes) refl (here .contents .jobs) j (job-found .number-below-512)
           in
-          let c : set (sheet .allowed) (sheet .count) (j .allowed) ≡ padded (map (λ x. x .allowed) (here .jobs ++ (j ∷ []))) =
+          let c : set (sheet .allowed) (sheet .count) (j .allowed)
+          ≡ padded (map (λ x. x .allowed) (here .contents .jobs ++ (j ∷ []))) =
           ap₂ (λ (xs : List ℕ) (n : ℕ). set xs n (j .allowed)) (ap (λ (x : Sheet). x .allowed) (here .same-sheet)) count-is
-          ∙ set-padded (λ x. x .allowed) refl (here .jobs) j (job-found .number-below-512)
+          ∙ set-padded (λ x. x .allowed) refl (here .contents .jobs) j (job-found .number-below-512)
           in
-          rw (a, b, c)
+          rw (h, a, b, c)
 
-      more-minutes : (n : ℕ) → n < length (here .jobs ++ (j ∷ [])) → jobAt (here .jobs ++ (j ∷ [])) n .minutes < 2 ^ 20
+      more-minutes : (n : ℕ) → n < length (here .contents .jobs ++ (j ∷ []))
+          → jobAt (here .contents .jobs ++ (j ∷ [])) n .minutes < 2 ^ 20
       more-minutes n h =
           ⊎-elim
-          (λ lt. rw (List·getD-append (here .jobs) (j ∷ []) noJob n lt) (here .minutes-fit n lt))
-          (λ le. let last : n ≡ length (here .jobs) = omega (arith, jobs-length) in
-          rw (last, getD-append-seam (here .jobs) j [] noJob) (job-found .minutes-fit))
-          (lt-or-le n (length (here .jobs)))
+          (λ lt. rw (List·getD-append (here .contents .jobs) (j ∷ []) noJob n lt) (here .minutes-fit n lt))
+          (λ le. let last : n ≡ length (here .contents .jobs) = omega (arith, jobs-length) in
+          rw (last, getD-append-seam (here .contents .jobs) j [] noJob) (job-found .minutes-fit))
+          (lt-or-le n (length (here .contents .jobs)))
 
       pub state-job : ReadState s
           (record {
@@ -200,7 +206,7 @@ module _ (s : List ℕ) (sheet : Sheet) (stage : Stage) (at : ℕ) (here : ReadS
       state-job =
           let read = frameOf-job progress at rest j judged-job in
           record {
-            jobs = here .jobs ++ (j ∷ []);
+            contents = withJob (here .contents) j;
             within = next-within whole;
             same-sheet = one-job-more;
             at-most-512 = omega (arith, jobs-length, job-found);
@@ -220,45 +226,55 @@ next-is s at size e = ap (λ (n : ℕ). at + n) (e ∙ ap (λ (xs : List ℕ). f
 
 pub found-is : (s : List ℕ) (sheet : Sheet) (stage : Stage) (at : ℕ) (here : ReadState s sheet stage at) (x y : Frame)
     → x ≡ frameAt stage (sheet .head .benches) (sheet .count) at (take (length s - at) (drop at s)) → x ≡ y
-    → found (record { stage = stage; head = sheet .head; jobs = here .jobs }) at (drop at s) ≡ y
+    → found (record { stage = stage; contents = here .contents }) at (drop at s) ≡ y
 found-is s sheet stage at here x y e w =
     sym (
     e
-    ∙ ap (λ (n : ℕ). frameAt stage (sheet .head .benches) n at (take (length s - at) (drop at s))) (ap (λ (z : Sheet). z .count) (here .same-sheet))
-    ∙ ap (λ (xs : List ℕ). frameAt stage (sheet .head .benches) (length (here .jobs)) at xs) (part-is s at)
+    ∙ ap (λ (z : Sheet). frameAt stage (z .head .benches) (z .count) at (take (length s - at) (drop at s)))
+    (here .same-sheet)
+    ∙ ap (λ (xs : List ℕ). frameAt stage (here .contents .head .benches) (length (here .contents .jobs)) at xs)
+    (part-is s at)
     )
     ∙ w
 
 -- ── after the loop ──
 
-reading-judged : (v : Verdict) (h : Head) (js : List Job) (sheet : Sheet) → sheet ≡ sheetOf h js → readingOf v sheet ≡ stored (judged v h js)
+reading-judged : (v : Verdict) (c : Contents) (sheet : Sheet) → sheet ≡ sheetOf c
+    → readingOf v sheet ≡ stored (judged v c)
 unfolding stored
-reading-judged Accepted h js sheet e = ap (λ (x : Sheet). record { verdict = Accepted; sheet = x }) e
-reading-judged (Refused f) h js sheet e = refl
+reading-judged Accepted c sheet e = ap (λ (x : Sheet). record { verdict = Accepted; sheet = x }) e
+reading-judged (Refused f) c sheet e = refl
 
 module _ (s : List ℕ) (sheet : Sheet) (stage : Stage) (at : ℕ) (here : ReadState s sheet stage at) where
-  pub state-count : sheet .count ≡ length (here .jobs)
+  pub state-count : sheet .count ≡ length (here .contents .jobs)
   state-count = ap (λ (x : Sheet). x .count) (here .same-sheet)
 
   pub state-minutes : (n : ℕ) → n < sheet .count → getD (sheet .minutes) n 0 < 2 ^ 20
   state-minutes n h =
-      let lt : n < length (here .jobs) = omega (arith, state-count) in
-      let e : getD (sheet .minutes) n 0 ≡ jobAt (here .jobs) n .minutes =
-      ap (λ (x : Sheet). getD (x .minutes) n 0) (here .same-sheet) ∙ getD-padded (λ j. j .minutes) refl (here .jobs) n lt
+      let lt : n < length (here .contents .jobs) = omega (arith, state-count) in
+      let e : getD (sheet .minutes) n 0 ≡ jobAt (here .contents .jobs) n .minutes =
+      ap (λ (x : Sheet). getD (x .minutes) n 0) (here .same-sheet)
+      ∙ getD-padded (λ j. j .minutes) refl (here .contents .jobs) n lt
       in
       rw e (here .minutes-fit n lt)
 
-  pub state-jobs : jobTable (sheet .count) (sheet .minutes) (sheet .allowed) ≡ here .jobs
-  state-jobs = ap (λ (x : Sheet). jobTable (x .count) (x .minutes) (x .allowed)) (here .same-sheet) ∙ table-padded (here .jobs)
+  pub state-contents :
+      record { head = sheet .head; jobs = jobTable (sheet .count) (sheet .minutes) (sheet .allowed) } ≡ here .contents
+  state-contents =
+      ap (λ (x : Sheet). record { head = x .head; jobs = jobTable (x .count) (x .minutes) (x .allowed) })
+      (here .same-sheet)
+      ∙ ap (λ (js : List Job). record { head = here .contents .head; jobs = js }) (table-padded (here .contents .jobs))
 
   pub state-over : length s ≤ at → (r : Reading)
-      → r ≡ readingOf (endVerdict stage at (sheet .head) (jobTable (sheet .count) (sheet .minutes) (sheet .allowed))) sheet
+      → r ≡ readingOf (endVerdict stage at
+        (record { head = sheet .head; jobs = jobTable (sheet .count) (sheet .minutes) (sheet .allowed) })) sheet
       → r ≡ stored (readSheet s)
   state-over over r e =
       e
-      ∙ rw state-jobs
-      (reading-judged (endVerdict stage at (sheet .head) (here .jobs)) (sheet .head) (here .jobs) sheet (here .same-sheet)
+      ∙ ap (λ (c : Contents). readingOf (endVerdict stage at c) sheet) state-contents
+      ∙ reading-judged (endVerdict stage at (here .contents)) (here .contents) sheet (here .same-sheet)
       ∙ ap stored (sym (
       here .so-far
-      ∙ readFrom-over (length (drop at s)) (drop at s) at (record { stage = stage; head = sheet .head; jobs = here .jobs }) (rw length-drop (omega arith))
-      )))
+      ∙ readFrom-over (length (drop at s)) (drop at s) at (record { stage = stage; contents = here .contents })
+      (rw length-drop (omega arith))
+      ))

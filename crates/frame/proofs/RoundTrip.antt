@@ -9,13 +9,13 @@
 --     Fit-head, Fit-job   the numbers of a sound head and of a sound job fit their fields
 --     headOf-headBody, jobOf-jobBody      the body of a head or job holds that head or job
 --     spareOf-headBody, spareOf-jobBody   and its spare bits are 0
---     reading h js        the progress after the head h and the jobs js
+--     reading c           the progress after the head and the jobs of c
 --     readFrom-headFrame, readFrom-jobFrame, readFrom-endFrame    a head, a job and an end in their places are read
 --     readFrom-jobFrames  so are the jobs of a list
 -- The whole sheet:
---     write-read          an accepted head and accepted jobs are read back from the bytes written
+--     write-read          accepted contents are read back from the bytes written
 --     write-read-computed the same by two tests, for sheets on which they compute
---     sheetBytes-injective        so the bytes written tell head and jobs
+--     sheetBytes-injective        so the bytes written tell the contents
 use Prim.Native.Nat.{ℕ, suc, _+_, _^_, _≤_, _<_}
 use native.Mathlib.Nat.{add-zero, zero-add, add-suc, suc-add, add-assoc}
 use native.Mathlib.Omega.{arith}
@@ -34,12 +34,13 @@ use Rattle.bits.specs.Layout.{packed, field, Fit}
 use Rattle.bits.proofs.LayoutLaws.{length-packed, field-packed, field-packed-append}
 use Rattle.fields.specs.declared.sheet.Head.{Head}
 use Rattle.fields.specs.declared.sheet.Job.{Job}
+use Rattle.fields.specs.Contents.{Contents}
 use Rattle.judging.specs.declared.judge.Stage.the-variants.{Start, Open, Closed}
 use Rattle.fields.specs.declared.fault.Verdict.the-variants.{Accepted}
 use Rattle.fields.specs.Format.{ours, headKind, jobKind, endKind, headerLayout, headLayout, jobLayout, headerSize, versionOf, kindOf, lengthOf, frameSize, bodyOf, headOf, jobOf, spareOf, frameBytes, headFrame, jobFrame, endFrame, jobFrames, sheetBytes}
 use Rattle.fields.specs.Tests.{firstFault, headFaults, jobFaults, jobAt}
 use Rattle.judging.specs.FrameTests.{frameFaults, cut}
-use Rattle.frame.specs.Reading.{Progress, accepted, nothingRead, faultsAt, after, readFrom, readSheet}
+use Rattle.frame.specs.Reading.{Progress, accepted, nothingRead, faultsAt, withJob, after, readFrom, readSheet}
 use Rattle.frame.specs.Writing.{writerVerdict}
 use Rattle.frame.specs.Sound.{SoundHead, SoundJob}
 use Rattle.frame.proofs.ReadLaws.{readFrom-over, readFrom-next, readFrom-enough}
@@ -89,7 +90,8 @@ module _ (kind : ℕ) (body rest : List ℕ) (kind-fits : kind < 2 ^ 4) (body-fi
       or-false (le-ltb (length (frameBytes kind body ++ rest)) 3 (omega arith)) (le-ltb _ _ whole)
 
   pub readFrom-frame : (k at : ℕ) (g : Progress)
-      → firstFault (frameFaults (g .stage) (g .head .benches) (length (g .jobs)) at kind body) ≡ Accepted
+      → firstFault (frameFaults (g .stage) (g .contents .head .benches) (length (g .contents .jobs)) at kind body)
+      ≡ Accepted
       → readFrom (suc k) (frameBytes kind body ++ rest) at g ≡ readFrom k rest (at + length (frameBytes kind body)) (after g kind body)
   readFrom-frame k at g e =
       let frame = frameBytes kind body ++ rest in
@@ -129,11 +131,12 @@ module _ (j : Job) (fit : Fit jobLayout (jobValues j)) where
 
 -- ── the frames in their places ──
 
-abbrev pub reading : Head → List Job → Progress
-reading h js = record { stage = Open; head = h; jobs = js }
+abbrev pub reading : Contents → Progress
+reading c = record { stage = Open; contents = c }
 
 pub readFrom-headFrame : (h : Head) → SoundHead h → (k : ℕ) (rest : List ℕ) (at : ℕ)
-    → readFrom (suc k) (headFrame h ++ rest) at nothingRead ≡ readFrom k rest (at + length (headFrame h)) (reading h [])
+    → readFrom (suc k) (headFrame h ++ rest) at nothingRead
+    ≡ readFrom k rest (at + length (headFrame h)) (reading (record { head = h; jobs = [] }))
 unfolding frameFaults after
 readFrom-headFrame h s k rest at =
     let fit = Fit-head h s in
@@ -144,80 +147,92 @@ readFrom-headFrame h s k rest at =
     readFrom-frame headKind (headBody h) rest (lit< tt) (omega arith) k at nothingRead sound
     ∙ rw (headOf-headBody h fit)
 
-pub readFrom-jobFrame : (h : Head) (js : List Job) (j : Job) → SoundJob (h .benches) (length js) j → j .allowed < 2 ^ 64
+pub readFrom-jobFrame : (c : Contents) (j : Job) → SoundJob (c .head .benches) (length (c .jobs)) j
+    → j .allowed < 2 ^ 64
     → (k : ℕ) (rest : List ℕ) (at : ℕ)
-    → readFrom (suc k) (jobFrame j ++ rest) at (reading h js) ≡ readFrom k rest (at + length (jobFrame j)) (reading h (js ++ (j ∷ [])))
+    → readFrom (suc k) (jobFrame j ++ rest) at (reading c)
+    ≡ readFrom k rest (at + length (jobFrame j)) (reading (withJob c j))
 unfolding frameFaults after
-readFrom-jobFrame h js j s w k rest at =
-    let fit = Fit-job (h .benches) (length js) j s w in
+readFrom-jobFrame c j s w k rest at =
+    let m : ℕ = c .head .benches in
+    let n : ℕ = length (c .jobs) in
+    let fit = Fit-job m n j s w in
     let size = length-jobBody j in
-    let sound : firstFault (frameFaults Open (h .benches) (length js) at jobKind (jobBody j)) ≡ Accepted =
+    let sound : firstFault (frameFaults Open m n at jobKind (jobBody j)) ≡ Accepted =
     rw (eq-eqb (length (jobBody j)) 11 size, eq-eqb _ 0 (spareOf-jobBody j fit))
-    (ap (λ (x : Job). firstFault (jobFaults (h .benches) (length js) x at)) (jobOf-jobBody j fit) ∙ sound-job (h .benches) (length js) j at s) in
-    readFrom-frame jobKind (jobBody j) rest (lit< tt) (omega arith) k at (reading h js) sound
+    (ap (λ (x : Job). firstFault (jobFaults m n x at)) (jobOf-jobBody j fit) ∙ sound-job m n j at s) in
+    readFrom-frame jobKind (jobBody j) rest (lit< tt) (omega arith) k at (reading c) sound
     ∙ rw (jobOf-jobBody j fit)
 
-pub readFrom-endFrame : (h : Head) (js : List Job) (k : ℕ) (rest : List ℕ) (at : ℕ)
-    → readFrom (suc k) (endFrame ++ rest) at (reading h js) ≡ readFrom k rest (at + length endFrame) (record { stage = Closed; head = h; jobs = js })
+pub readFrom-endFrame : (c : Contents) (k : ℕ) (rest : List ℕ) (at : ℕ)
+    → readFrom (suc k) (endFrame ++ rest) at (reading c)
+    ≡ readFrom k rest (at + length endFrame) (record { stage = Closed; contents = c })
 unfolding frameFaults after bytesOf
-readFrom-endFrame h js k rest at = readFrom-frame endKind [] rest (lit< tt) (lit< tt) k at (reading h js) refl
+readFrom-endFrame c k rest at = readFrom-frame endKind [] rest (lit< tt) (lit< tt) k at (reading c) refl
 
 -- By induction on the jobs: each job joins those read before it, so its number is how many these are.
-pub readFrom-jobFrames : (h : Head) (before js : List Job)
-    → ((i : ℕ) → i < length js → SoundJob (h .benches) (length before + i) (jobAt js i))
+pub readFrom-jobFrames : (c : Contents) (js : List Job)
+    → ((i : ℕ) → i < length js → SoundJob (c .head .benches) (length (c .jobs) + i) (jobAt js i))
     → ((i : ℕ) → i < length js → jobAt js i .allowed < 2 ^ 64)
     → (k : ℕ) (rest : List ℕ) (at : ℕ)
-    → readFrom (length js + k) (jobFrames js ++ rest) at (reading h before)
-    ≡ readFrom k rest (at + length (jobFrames js)) (reading h (before ++ js))
+    → readFrom (length js + k) (jobFrames js ++ rest) at (reading c)
+    ≡ readFrom k rest (at + length (jobFrames js)) (reading (record { head = c .head; jobs = c .jobs ++ js }))
 unfolding jobFrames
-readFrom-jobFrames h before [] s w k rest at = rw (zero-add k, add-zero at, append-nil before)
-readFrom-jobFrames h before (j ∷ js) s w k rest at =
-    let number : length (before ++ (j ∷ [])) ≡ suc (length before) = length-append before (j ∷ []) ∙ omega arith in
+readFrom-jobFrames c [] s w k rest at = rw (zero-add k, add-zero at, append-nil (c .jobs))
+readFrom-jobFrames c (j ∷ js) s w k rest at =
+    let number : length (c .jobs ++ (j ∷ [])) ≡ suc (length (c .jobs)) =
+    length-append (c .jobs) (j ∷ []) ∙ omega arith in
     rw (suc-add (length js) k, append-assoc (jobFrame j) (jobFrames js) rest)
-    (readFrom-jobFrame h before j (rw add-zero at (s 0 (omega arith))) (w 0 (omega arith)) (length js + k) (jobFrames js ++ rest) at
-    ∙ readFrom-jobFrames h (before ++ (j ∷ [])) js
+    (readFrom-jobFrame c j (rw add-zero at (s 0 (omega arith))) (w 0 (omega arith))
+    (length js + k) (jobFrames js ++ rest) at
+    ∙ readFrom-jobFrames (withJob c j) js
     (λ i l. rw (number, suc-add, ← add-suc) (s (suc i) (omega arith)))
     (λ i l. w (suc i) (omega arith))
     k rest (at + length (jobFrame j))
-    ∙ rw (add-assoc at, ← (length-append (jobFrame j) (jobFrames js)), append-assoc before)
+    ∙ rw (add-assoc at, ← (length-append (jobFrame j) (jobFrames js)), append-assoc (c .jobs))
     )
 
 -- ── the whole sheet ──
 
-sheetBytes-parts : (h : Head) (js : List Job) → sheetBytes h js ≡ headFrame h ++ (jobFrames js ++ (endFrame ++ []))
-sheetBytes-parts h js =
-    append-assoc (headFrame h) (jobFrames js) endFrame ∙ ap (λ (l : List ℕ). headFrame h ++ (jobFrames js ++ l)) (sym (append-nil endFrame))
+sheetBytes-parts : (c : Contents) → sheetBytes c ≡ headFrame (c .head) ++ (jobFrames (c .jobs) ++ (endFrame ++ []))
+sheetBytes-parts c =
+    append-assoc (headFrame (c .head)) (jobFrames (c .jobs)) endFrame
+    ∙ ap (λ (l : List ℕ). headFrame (c .head) ++ (jobFrames (c .jobs) ++ l)) (sym (append-nil endFrame))
 
 -- The head frame is read first, then the job frames, one for each job, then the end frame. The bound on the frames is
 -- the number of bytes; by readFrom-enough it may be taken larger, as a sum of the frames of each kind.
-pub write-read : (h : Head) (js : List Job) → writerVerdict h js ≡ Accepted
-    → ((i : ℕ) → i < length js → jobAt js i .allowed < 2 ^ 64) → readSheet (sheetBytes h js) ≡ accepted h js
+pub write-read : (c : Contents) → writerVerdict c ≡ Accepted
+    → ((i : ℕ) → i < length (c .jobs) → jobAt (c .jobs) i .allowed < 2 ^ 64) → readSheet (sheetBytes c) ≡ accepted c
 unfolding readSheet
-write-read h js e w =
-    let s = writerVerdict-sound h js e in
-    let bytes = sheetBytes h js in
+write-read c e w =
+    let s = writerVerdict-sound c e in
+    let bytes = sheetBytes c in
+    let n = length (c .jobs) in
     let k = length bytes in
-    let short : ltb 65536 k ≡ false = le-ltb 65536 k (omega (arith, length-sheetBytes h js)) in
+    let short : ltb 65536 k ≡ false = le-ltb 65536 k (omega (arith, length-sheetBytes c)) in
     rw (short, readSheet)
-    (readFrom-enough k (suc (length js + suc k)) bytes 0 nothingRead (omega arith) (omega arith)
-    ∙ ap (λ (l : List ℕ). readFrom (suc (length js + suc k)) l 0 nothingRead) (sheetBytes-parts h js)
-    ∙ readFrom-headFrame h (s .head) (length js + suc k) _ 0
-    ∙ readFrom-jobFrames h [] js (λ i l. rw zero-add (s .jobs i l)) w (suc k) _ _
-    ∙ readFrom-endFrame h js k [] _
+    (readFrom-enough k (suc (n + suc k)) bytes 0 nothingRead (omega arith) (omega arith)
+    ∙ ap (λ (l : List ℕ). readFrom (suc (n + suc k)) l 0 nothingRead) (sheetBytes-parts c)
+    ∙ readFrom-headFrame (c .head) (s .head) (n + suc k) _ 0
+    ∙ readFrom-jobFrames (record { head = c .head; jobs = [] }) (c .jobs)
+    (λ i l. rw zero-add (s .jobs i l)) w (suc k) _ _
+    ∙ readFrom-endFrame c k [] _
     ∙ readFrom-over k [] _ _ refl
     ∙ rw (s .no-heavy-hyper-edge)
     )
 
-pub write-read-computed : (h : Head) (js : List Job) → writerVerdict h js ≡ Accepted
-    → all (length js) (λ i. ltb (jobAt js i .allowed) (2 ^ 64)) ≡ true → readSheet (sheetBytes h js) ≡ accepted h js
-write-read-computed h js e narrow =
-    write-read h js e
-    (λ i l. ltb-true (jobAt js i .allowed) (2 ^ 64) (all-elim (length js) (λ i. ltb (jobAt js i .allowed) (2 ^ 64)) narrow i l))
+pub write-read-computed : (c : Contents) → writerVerdict c ≡ Accepted
+    → all (length (c .jobs)) (λ i. ltb (jobAt (c .jobs) i .allowed) (2 ^ 64)) ≡ true
+    → readSheet (sheetBytes c) ≡ accepted c
+write-read-computed c e narrow =
+    write-read c e
+    (λ i l. ltb-true (jobAt (c .jobs) i .allowed) (2 ^ 64)
+    (all-elim (length (c .jobs)) (λ i. ltb (jobAt (c .jobs) i .allowed) (2 ^ 64)) narrow i l))
 
-pub sheetBytes-injective : (h : Head) (js : List Job) (g : Head) (ks : List Job)
-    → writerVerdict h js ≡ Accepted → ((i : ℕ) → i < length js → jobAt js i .allowed < 2 ^ 64)
-    → writerVerdict g ks ≡ Accepted → ((i : ℕ) → i < length ks → jobAt ks i .allowed < 2 ^ 64)
-    → sheetBytes h js ≡ sheetBytes g ks → (h ≡ g) × (js ≡ ks)
-sheetBytes-injective h js g ks a v b w e =
-    let same : accepted h js ≡ accepted g ks = sym (write-read h js a v) ∙ ap readSheet e ∙ write-read g ks b w in
-    (cc, cc)
+pub sheetBytes-injective : (c e : Contents)
+    → writerVerdict c ≡ Accepted → ((i : ℕ) → i < length (c .jobs) → jobAt (c .jobs) i .allowed < 2 ^ 64)
+    → writerVerdict e ≡ Accepted → ((i : ℕ) → i < length (e .jobs) → jobAt (e .jobs) i .allowed < 2 ^ 64)
+    → sheetBytes c ≡ sheetBytes e → c ≡ e
+sheetBytes-injective c e a v b w same-bytes =
+    let same : accepted c ≡ accepted e = sym (write-read c a v) ∙ ap readSheet same-bytes ∙ write-read e b w in
+    cc

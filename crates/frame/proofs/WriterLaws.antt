@@ -28,6 +28,7 @@ use Rattle.sums.specs.Search.{any}
 use Rattle.sums.proofs.SearchLaws.{any-intro, any-elim, any-false, any-none}
 use Rattle.fields.specs.declared.sheet.Head.{Head}
 use Rattle.fields.specs.declared.sheet.Job.{Job}
+use Rattle.fields.specs.Contents.{Contents}
 use Rattle.fields.specs.declared.fault.Fault.{Fault}
 use Rattle.fields.specs.declared.fault.Verdict.{Verdict}
 use Rattle.fields.specs.declared.fault.Verdict.the-variants.{Accepted, Refused}
@@ -171,22 +172,22 @@ jobsVerdict-over m n (suc i) (j ∷ js) h = rw (add-suc, ← suc-add) (jobsVerdi
 
 -- ── the whole sheet ──
 
-pub writerVerdict-sound : (h : Head) (js : List Job) → writerVerdict h js ≡ Accepted → SoundSheet h js
+pub writerVerdict-sound : (c : Contents) → writerVerdict c ≡ Accepted → SoundSheet c
 unfolding writerVerdict
-writerVerdict-sound h js e =
-    let a = andThen-accepted (firstFault (headFaults h 0)) _ e in
-    let b = andThen-accepted (jobsVerdict (h .benches) 0 js) _ (a .1) in
+writerVerdict-sound c e =
+    let a = andThen-accepted (firstFault (headFaults (c .head) 0)) _ e in
+    let b = andThen-accepted (jobsVerdict (c .head .benches) 0 (c .jobs)) _ (a .1) in
     record {
-      head = head-sound h 0 (a .0);
-      jobs = λ i l. rw zero-add at (jobsVerdict-sound (h .benches) 0 js (b .0) i l);
-      at-most-512-jobs = omega (arith, jobs-bound (h .benches) 0 js (b .0) (omega arith));
+      head = head-sound (c .head) 0 (a .0);
+      jobs = λ i l. rw zero-add at (jobsVerdict-sound (c .head .benches) 0 (c .jobs) (b .0) i l);
+      at-most-512-jobs = omega (arith, jobs-bound (c .head .benches) 0 (c .jobs) (b .0) (omega arith));
       no-heavy-hyper-edge = b .1;
     }
 
-pub sound-writerVerdict : (h : Head) (js : List Job) → SoundSheet h js → writerVerdict h js ≡ Accepted
+pub sound-writerVerdict : (c : Contents) → SoundSheet c → writerVerdict c ≡ Accepted
 unfolding writerVerdict
-sound-writerVerdict h js s =
-    let head : firstFault (headFaults h 0) ≡ Accepted = sound-head h 0 (s .head) in
-    let jobs : jobsVerdict (h .benches) 0 js ≡ Accepted =
-    sound-jobsVerdict (h .benches) 0 js (λ i l. rw zero-add (s .jobs i l)) in
+sound-writerVerdict c s =
+    let head : firstFault (headFaults (c .head) 0) ≡ Accepted = sound-head (c .head) 0 (s .head) in
+    let jobs : jobsVerdict (c .head .benches) 0 (c .jobs) ≡ Accepted =
+    sound-jobsVerdict (c .head .benches) 0 (c .jobs) (λ i l. rw zero-add (s .jobs i l)) in
     rw (head, jobs) (s .no-heavy-hyper-edge)

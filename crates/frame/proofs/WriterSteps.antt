@@ -4,6 +4,7 @@
 --     jobs-none, jobs-more    no job makes no bytes; a job's frame behind those of the first i
 --     sheet-put               the head, the jobs and the end are the sheet
 -- Jobs of two tables:
+--     given h n ms bs         what the program writes: a head, and n jobs of two tables
 --     length-jobTable         there are n of them
 --     job-at, minutes-at      job i, and its minutes
 -- Verdict:
@@ -26,6 +27,7 @@ use Rattle.sums.specs.Table.{table}
 use Rattle.sums.proofs.TableLaws.{length-table, getD-table, table-snoc}
 use Rattle.fields.specs.declared.sheet.Head.{Head}
 use Rattle.fields.specs.declared.sheet.Job.{Job}
+use Rattle.fields.specs.Contents.{Contents}
 use Rattle.fields.specs.declared.fault.Fault.{Fault}
 use Rattle.fields.specs.declared.fault.Fault.the-variants.{Table}
 use Rattle.fields.specs.declared.fault.Verdict.{Verdict}
@@ -41,6 +43,9 @@ use Rattle.fields.proofs.FormatLaws.{length-headFrame, length-jobFrames, length
 use Rattle.frame.proofs.WriterLaws.{head-sound, jobsVerdict-sound, writerVerdict-sound, jobsVerdict-drop, jobsVerdict-fault, jobsVerdict-over}
 
 -- ── the jobs of two tables ──
+
+abbrev pub given : Head → ℕ → List ℕ → List ℕ → Contents
+given h n ms bs = record { head = h; jobs = jobTable n ms bs }
 
 module _ (n : ℕ) (ms bs : List ℕ) where
   pub length-jobTable : length (jobTable n ms bs) ≡ n
@@ -83,7 +88,7 @@ pub sheet-put : (out : List ℕ) (h : Head) (ms bs : List ℕ) (n : ℕ) {one tw
     → one ≡ headFrame h ++ drop 10 out
     → two ≡ written one 10 (jobFrames (jobTable n ms bs)) (10 + 14 * n)
     → three ≡ written two (13 + 14 * n - 3) endFrame (13 + 14 * n - 3 + 3)
-    → three ≡ sheetBytes h (jobTable n ms bs) ++ drop (13 + 14 * n) out
+    → three ≡ sheetBytes (given h n ms bs) ++ drop (13 + 14 * n) out
 sheet-put out h ms bs n {two = two} l first second third =
     let js = jobTable n ms bs in
     let front = headFrame h ++ jobFrames js in
@@ -122,19 +127,20 @@ module _ (m n : ℕ) (ms bs : List ℕ) where
   pub jobs-over : (i : ℕ) → n ≤ i → verdictFrom i ≡ Accepted
   jobs-over i l = rw zero-add at (jobsVerdict-over m 0 i (jobTable n ms bs) (omega (arith, length-jobTable n ms bs)))
 
--- ── the verdict on head and jobs ──
+-- ── the verdict on the contents ──
 
-module _ (h : Head) (js : List Job) {v : Verdict} (head : v ≡ firstFault (headFaults h 0)) where
-  pub head-fault : {f : Fault} → v ≡ Refused f → Refused f ≡ writerVerdict h js
+module _ (c : Contents) {v : Verdict} (head : v ≡ firstFault (headFaults (c .head) 0)) where
+  pub head-fault : {f : Fault} → v ≡ Refused f → Refused f ≡ writerVerdict c
   unfolding writerVerdict
   head-fault a = rw (← head, a)
 
-  pub job-fault : {w : Verdict} {f : Fault} → v ≡ Accepted → w ≡ jobsVerdict (h .benches) 0 js → w ≡ Refused f → Refused f ≡ writerVerdict h js
+  pub job-fault : {w : Verdict} {f : Fault} → v ≡ Accepted → w ≡ jobsVerdict (c .head .benches) 0 (c .jobs)
+      → w ≡ Refused f → Refused f ≡ writerVerdict c
   unfolding writerVerdict
   job-fault a jobs b = rw (← head, a, ← jobs, b)
 
-  pub all-checked : {w x : Verdict} → v ≡ Accepted → w ≡ jobsVerdict (h .benches) 0 js → w ≡ Accepted
-      → x ≡ hyperEdgeVerdict h js → x ≡ writerVerdict h js
+  pub all-checked : {w x : Verdict} → v ≡ Accepted → w ≡ jobsVerdict (c .head .benches) 0 (c .jobs) → w ≡ Accepted
+      → x ≡ hyperEdgeVerdict (c .head) (c .jobs) → x ≡ writerVerdict c
   unfolding writerVerdict
   all-checked a jobs b last = rw (← head, a, ← jobs, b) last
 
@@ -148,19 +154,20 @@ hyper-edges-ready h n ms bs head a jobs b =
 
 -- ── what is returned ──
 
-pub refused : (h : Head) (js : List Job) (room : ℕ) {v : Verdict} {f : Fault} → v ≡ writerVerdict h js → v ≡ Refused f
-    → Refusal f ≡ writeSheet h js room
+pub refused : (c : Contents) (room : ℕ) {v : Verdict} {f : Fault} → v ≡ writerVerdict c → v ≡ Refused f
+    → Refusal f ≡ writeSheet c room
 unfolding writeSheet
-refused h js room e a = rw (← e, a, writeSheet)
+refused c room e a = rw (← e, a, writeSheet)
 
-writeSheet-sound : (h : Head) (js : List Job) (room : ℕ) → writerVerdict h js ≡ Accepted
-    → writeSheet h js room ≡ fitted (length (sheetBytes h js)) room
+writeSheet-sound : (c : Contents) (room : ℕ) → writerVerdict c ≡ Accepted
+    → writeSheet c room ≡ fitted (length (sheetBytes c)) room
 unfolding writeSheet
-writeSheet-sound h js room e = rw (e, writeSheet)
+writeSheet-sound c room e = rw (e, writeSheet)
 
-module _ (h : Head) (n : ℕ) (ms bs : List ℕ) {v : Verdict} (e : v ≡ writerVerdict h (jobTable n ms bs)) (a : v ≡ Accepted) where
-  sound : SoundSheet h (jobTable n ms bs)
-  sound = writerVerdict-sound h (jobTable n ms bs) (sym e ∙ a)
+module _ (h : Head) (n : ℕ) (ms bs : List ℕ) {v : Verdict}
+    (e : v ≡ writerVerdict (given h n ms bs)) (a : v ≡ Accepted) where
+  sound : SoundSheet (given h n ms bs)
+  sound = writerVerdict-sound (given h n ms bs) (sym e ∙ a)
 
   pub head-ready : NarrowHead h
   head-ready = omega (arith, sound .head)
@@ -171,13 +178,13 @@ module _ (h : Head) (n : ℕ) (ms bs : List ℕ) {v : Verdict} (e : v ≡ writer
   pub minutes-ready : (i : ℕ) → i < n → getD ms i 0 < 2 ^ 20
   minutes-ready i l = minutes-at n ms bs i l (sound .jobs i (omega (arith, length-jobTable n ms bs)) .minutes-fit)
 
-  fits : (room : ℕ) → writeSheet h (jobTable n ms bs) room ≡ fitted (13 + 14 * n) room
+  fits : (room : ℕ) → writeSheet (given h n ms bs) room ≡ fitted (13 + 14 * n) room
   fits room =
-      writeSheet-sound h (jobTable n ms bs) room (sym e ∙ a)
-      ∙ rw (length-sheetBytes h (jobTable n ms bs), length-jobTable n ms bs)
+      writeSheet-sound (given h n ms bs) room (sym e ∙ a)
+      ∙ rw (length-sheetBytes (given h n ms bs), length-jobTable n ms bs)
 
-  pub no-room : (room : ℕ) → room < 13 + 14 * n → Refusal (Table 0) ≡ writeSheet h (jobTable n ms bs) room
+  pub no-room : (room : ℕ) → room < 13 + 14 * n → Refusal (Table 0) ≡ writeSheet (given h n ms bs) room
   no-room room l = rw (fits room, lt-leb (13 + 14 * n) room l)
 
-  pub all-written : (room : ℕ) → 13 + 14 * n ≤ room → Length (13 + 14 * n) ≡ writeSheet h (jobTable n ms bs) room
+  pub all-written : (room : ℕ) → 13 + 14 * n ≤ room → Length (13 + 14 * n) ≡ writeSheet (given h n ms bs) room
   all-written room l = rw (fits room, le-leb (13 + 14 * n) room l)

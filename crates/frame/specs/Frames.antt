@@ -140,7 +140,8 @@ pub data FaultHere (s : List ℕ) (at : ℕ) (rest : List ℕ) (g : Progress) : 
   -- "2. … or its frames are over and none was an end frame (place: the sheet's length)"
   no-end : rest ≡ [] → g .stage ≢ Closed → FaultHere s at rest g (Truncated (length s))
   -- "12. After the whole sheet: …"
-  heavy-hyper-edge : {n : ℕ} → rest ≡ [] → g .stage ≡ Closed → LowestHeavyHyperEdge (g .contents .head) (g .contents .jobs) n
+  heavy-hyper-edge : {n : ℕ} → rest ≡ [] → g .stage ≡ Closed
+      → LowestHeavyHyperEdge (g .contents .head) (g .contents .jobs) n
       → FaultHere s at rest g (HeavyHyperEdge n)
 
 -- The first fault of a sheet: the place is reached, so no frame before it has a fault.

@@ -1,5 +1,5 @@
 -- The arrays that a sound sheet is kept in.
---     Tables c ..         benches, number of jobs, and each job's minutes and set of benches are those of the contents c
+--     Tables c ..         benches, number of jobs, and each job's minutes and set of benches are those of c
 use Prim.Native.Nat.{ℕ, _<_}
 use mathlib.Core.Path.{_≡_}
 use mathlib.Core.List.{List}

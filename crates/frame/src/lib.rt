@@ -1,4 +1,4 @@
-// The sheet: bytes to a head and jobs, or to the first fault, and back.
+// The sheet: bytes to its contents, or to the first fault, and back.
 // `read` and `write` are the entry points; neither asks anything of its caller.
 mod reader;
 mod writer;

@@ -2,9 +2,8 @@
 use mathlib.Core.Path.{_∙_}
 use denote.Ref.{now}
 use borrow.Author.Needs.{needs}
-use Rattle.fields.specs.Tests.{jobTable}
 use Rattle.checks.proofs.HyperEdges.{checked-fits}
-use Rattle.frame.proofs.WriterSteps.{head-fault, job-fault, all-checked, hyper-edges-ready}
+use Rattle.frame.proofs.WriterSteps.{given, head-fault, job-fault, all-checked, hyper-edges-ready}
 use Rattle.frame.proofs.writer.check.Statement.{statement}
 use Rattle.frame.proofs.writer.check.Tie as tie
 
@@ -33,26 +32,28 @@ returns : tie.Need-returns
 returns c =
     let head = c .before .before .before in
     let a = head .before .before .before .args in
-    let js = jobTable (a .n) (now (a .minutes)) (now (a .allowed)) in
-    head-fault (a .h) js (head .check-head .ensures) (c .before .f .given .1)
+    let what = given (a .h) (a .n) (now (a .minutes)) (now (a .allowed)) in
+    head-fault what (head .check-head .ensures) (c .before .f .given .1)
 
 returns-2 : tie.Need-returns-2
 returns-2 c =
     let jobs = c .before .before .before in
     let head = jobs .before .before .before in
     let a = head .before .before .before .args in
-    let js = jobTable (a .n) (now (a .minutes)) (now (a .allowed)) in
-    job-fault (a .h) js (head .check-head .ensures) (jobs .before .enum-told .given .1) (jobs .check-jobs .ensures) (c .before .f2 .given .1)
+    let what = given (a .h) (a .n) (now (a .minutes)) (now (a .allowed)) in
+    job-fault what (head .check-head .ensures) (jobs .before .enum-told .given .1) (jobs .check-jobs .ensures)
+    (c .before .f2 .given .1)
 
 returns-3 : tie.Need-returns-3
 returns-3 c =
     let jobs = c .before .before .before in
     let head = jobs .before .before .before in
     let a = head .before .before .before .args in
-    let js = jobTable (a .n) (now (a .minutes)) (now (a .allowed)) in
+    let what = given (a .h) (a .n) (now (a .minutes)) (now (a .allowed)) in
     let ready = hyper-edges-ready (a .h) (a .n) (now (a .minutes)) (now (a .allowed)) (head .check-head .ensures) (jobs .before .enum-told .given .1)
     (jobs .check-jobs .ensures) (c .before .enum-told2 .given .1) in
-    all-checked (a .h) js (head .check-head .ensures) (jobs .before .enum-told .given .1) (jobs .check-jobs .ensures) (c .before .enum-told2 .given .1)
+    all-checked what (head .check-head .ensures) (jobs .before .enum-told .given .1) (jobs .check-jobs .ensures)
+    (c .before .enum-told2 .given .1)
     (c .check-hyper-edges .ensures ∙ checked-fits (now (a .minutes)) (now (a .allowed)) (a .n) (a .h) ready)
 
 pub check-spec : {M : Type 1} → statement M

@@ -4,10 +4,9 @@ use mathlib.Core.Path.{refl, _∙_}
 use lib.ListN.{length}
 use denote.Ref.{now}
 use borrow.Author.Needs.{needs}
-use Rattle.fields.specs.Tests.{jobTable}
 use Rattle.frame.specs.Writing.{output}
 use Rattle.packing.proofs.PutLaws.{head-fits, end-fits}
-use Rattle.frame.proofs.WriterSteps.{refused, no-room, all-written, head-ready, few-jobs, minutes-ready, sheet-put}
+use Rattle.frame.proofs.WriterSteps.{given, refused, no-room, all-written, head-ready, few-jobs, minutes-ready, sheet-put}
 use Rattle.frame.proofs.writer.write.Statement.{statement}
 use Rattle.frame.proofs.writer.write.Tie as tie
 
@@ -65,8 +64,8 @@ returns-2 c =
     let checked = c .before .before .before in
     let n = checked .before .longer in
     let a = checked .before .before .before .before .before .args in
-    let js = jobTable (n .result) (now (a .minutes)) (now (a .allowed)) in
-    (rw (← n .ensures) (refused (a .h) js (length (now (a .out))) (checked .check .ensures) (c .before .f .given .1)), refl)
+    let what = given (a .h) (n .result) (now (a .minutes)) (now (a .allowed)) in
+    (rw (← n .ensures) (refused what (length (now (a .out))) (checked .check .ensures) (c .before .f .given .1)), refl)
 
 same-length : tie.Need-same-length
 same-length c = search needs
