@@ -11,7 +11,7 @@ use native.Mathlib.Nat.{mul-le-mul-left}
 use Rattle.bools.proofs.BoolLaws.{and-left}
 use Rattle.sums.specs.Sum.{on, sum, count}
 use Rattle.sums.proofs.MoreSumLaws.{sum-on-mono, sum-on-cong, sum-on-add, sum-on-mul, sum-on-const}
-use Rattle.argument.specs.Exploration.{Exploration, NoMoveLeft, Placement, target, inside, children, fathers, over-children, over-fathers}
+use Rattle.argument.specs.Exploration.{Exploration, NoMoveLeft, InsidePlacement, target, inside, children, fathers, over-children, over-fathers}
 use Rattle.argument.proofs.ExplorationLaws.{inside-rock}
 use Rattle.argument.proofs.Gifts.{gift-head, gift-tail, gifts-enough}
 use Rattle.argument.proofs.BenchInequality.{bench-inequality}
@@ -51,7 +51,7 @@ module _ (x : Exploration) (no-move : NoMoveLeft x) where
       mul : (c : ℕ) (f : ℕ → ℕ) → over-activated x (λ v. c * f v) ≡ c * over-activated x f
       mul = sum-on-mul (x .benches) (x .activated)
 
-  module _ (place : ℕ → ℕ) (placement : Placement x place) where
+  module _ (place : ℕ → ℕ) (placement : InsidePlacement x place) where
     rocks-weigh : sum (x .jobs) (λ e. on (inside x e && x .activated (place e)) (x .weight e))
         + sum (x .jobs) (λ e. on (inside x e && x .activated (place e)) (target x - x .weight e)) ≡ target x * placed-activated x place
     rocks-weigh = omega (

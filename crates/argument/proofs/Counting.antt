@@ -20,7 +20,7 @@ use Rattle.sums.specs.Sum.{on, sum, count}
 use Rattle.sums.proofs.CountLaws.{sum-on-at-most}
 use Rattle.sums.proofs.MoreSumLaws.{sum-exchange}
 use Rattle.argument.specs.Orientation.{number}
-use Rattle.argument.specs.Exploration.{Exploration, NoMoveLeft, FatherAbove, Placement, bound, inside, children, fathers, into}
+use Rattle.argument.specs.Exploration.{Exploration, NoMoveLeft, FatherAbove, InsidePlacement, bound, inside, children, fathers, into}
 use Rattle.argument.proofs.OrientationLaws.{number-pos, number-none, number-one, number-all, number-over}
 use Rattle.argument.proofs.ExplorationLaws.{inside-head, inside-tail, father-above, into-none}
 
@@ -48,7 +48,7 @@ module _ (x : Exploration) (no-move : NoMoveLeft x) (v : ℕ) (below : v < x .be
 
 -- ── a placement ──
 
-module _ (x : Exploration) (no-move : NoMoveLeft x) (place : ℕ → ℕ) (placement : Placement x place) where
+module _ (x : Exploration) (no-move : NoMoveLeft x) (place : ℕ → ℕ) (placement : InsidePlacement x place) where
   pub place-below : (e : ℕ) → e < x .jobs → inside x e ≡ true → place e < x .benches
   place-below e l p = elim (placement .on-an-end e l p) [
     | inl q ↦ rw q (no-move .head-below e l p)

@@ -12,7 +12,7 @@ use mathlib.Core.Path.{_≡_, refl}
 use mathlib.Core.Logic.{_⊎_, inl, inr}
 use native.Mathlib.Omega.{arith}
 use Rattle.bools.proofs.BoolLaws.{clash}
-use Rattle.argument.specs.Exploration.{Exploration, NoMoveLeft, FatherAbove, EarlierNeighbour, Placement, bound, push-limit, children, into}
+use Rattle.argument.specs.Exploration.{Exploration, NoMoveLeft, FatherAbove, EarlierNeighbour, InsidePlacement, bound, push-limit, children, into}
 use Rattle.argument.proofs.Activated.{activated-blocks}
 
 abbrev own-load : ℕ → ℕ
@@ -94,7 +94,7 @@ example-no-move = record {
     activated-cause (suc (suc zero)) l a = inr (inl (record { father = 1; below = omega arith; within = refl; leaves = refl; above = omega arith }))
     activated-cause (suc (suc (suc v))) l a = absurd (omega arith)
 
-pub example-placement : Placement example (λ e. e)
+pub example-placement : InsidePlacement example (λ e. e)
 example-placement = record { on-an-end = λ e l p. inl refl; one-to-a-bench = λ e f l k p q same. same }
 
 pub example-blocks : 2 * 7 < 8 + 8 + 6

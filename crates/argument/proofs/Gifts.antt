@@ -24,7 +24,7 @@ use Rattle.bools.proofs.BoolLaws.{split, and-false-right}
 use Rattle.bools.proofs.OrderLaws.{lt-or-le}
 use Rattle.sums.specs.Sum.{on, sum}
 use Rattle.sums.proofs.SumLaws.{on-le, sum-add, sum-le}
-use Rattle.argument.specs.Exploration.{Exploration, NoMoveLeft, Placement, target, inside, over-children, over-fathers}
+use Rattle.argument.specs.Exploration.{Exploration, NoMoveLeft, InsidePlacement, target, inside, over-children, over-fathers}
 use Rattle.argument.proofs.OrientationLaws.{gathered-over}
 use Rattle.argument.proofs.ExplorationLaws.{inside-rock}
 
@@ -115,7 +115,7 @@ module _ (x : Exploration) (no-move : NoMoveLeft x) where
       both small (inl a) = (a, sym (no-move .rule-two-applied e l p small) ∙ a)
       both small (inr a) = (no-move .rule-two-applied e l p small ∙ a, a)
 
-  pub gifts-enough : (place : ℕ → ℕ) → Placement x place
+  pub gifts-enough : (place : ℕ → ℕ) → InsidePlacement x place
       → sum (x .jobs) (λ e. on (inside x e && x .activated (place e)) (target x - x .weight e))
       ≤ sum (x .benches) (λ v. on (x .activated v) (over-children x (gift-head x) v))
       + sum (x .benches) (λ v. on (x .activated v) (over-fathers x (gift-tail x) v))

@@ -1,25 +1,19 @@
 -- What the search for a long job finds.
 --     long-found              a long job, and all before it fit
-use Prim.Native.Nat.{ℕ, _≤_, _<_}
+use Prim.Native.Nat.{_<_}
 use mathlib.Core.Path.{_≡_}
-use mathlib.Core.Bool.{Bool, true}
-use mathlib.Core.List.{List}
-use lib.ListN.{length}
+use mathlib.Core.Bool.{true}
 use lib.Dec.{ltb}
 use borrow.Author.Tests.{ltb-true, ltb-false}
 use Rattle.sums.proofs.SearchLaws.{least-holds, least-before}
-use Rattle.fields.specs.declared.sheet.Head.{Head}
-use Rattle.fields.specs.declared.sheet.Job.{Job}
-use Rattle.day.specs.Day.{dayOf, longJob}
-use Rattle.demand.specs.Demand.{minutesOf, LongJob}
+use Rattle.day.specs.Day.{Day, tooLong, longJob}
+use Rattle.demand.specs.Demand.{SoundLong}
 
-module _ (h : Head) (js : List Job) where
-  pub long-found : ltb (longJob (dayOf h js)) (length js) ≡ true
-      → LongJob h js (longJob (dayOf h js)) × ((j : ℕ) → j < longJob (dayOf h js) → minutesOf js j ≤ h .target)
-  unfolding longJob
-  long-found found =
-      let test : ℕ → Bool = λ j. ltb (h .target) (minutesOf js j) in
-      let below : longJob (dayOf h js) < length js = ltb-true (longJob (dayOf h js)) (length js) found in (
-        record { is-job = below; longer = least-holds (length js) test below },
-        λ j l. ltb-false (h .target) (minutesOf js j) (least-before (length js) test j l),
-      )
+pub long-found : (d : Day) → ltb (longJob d) (d .jobs) ≡ true → SoundLong d (longJob d)
+unfolding longJob
+long-found d found =
+    let below : longJob d < d .jobs = ltb-true (longJob d) (d .jobs) found in
+    record {
+      is-long = record { is-job = below; longer = least-holds (d .jobs) (tooLong d) below };
+      lowest = λ j l. ltb-false (d .target) (d .minutes j) (least-before (d .jobs) (tooLong d) j l);
+    }

@@ -31,7 +31,7 @@ use Rattle.algorithm.specs.Explore.{Explored, inConflict, activated, father, ch
 use Rattle.algorithm.specs.Push.{leaf, lightFathers, canPush}
 use Rattle.algorithm.specs.Properties.{SoundBoard, Facts, rnd, lev}
 use Rattle.algorithm.proofs.BoardLaws.{touches-rock, touches-end, touches-below, other-low, other-high, other-touches, other-other, other-below}
-use Rattle.argument.specs.Exploration.{Exploration, FatherAbove, EarlierNeighbour, NoMoveLeft, Placement, bound, push-limit, inside, children, into}
+use Rattle.argument.specs.Exploration.{Exploration, FatherAbove, EarlierNeighbour, NoMoveLeft, InsidePlacement, bound, push-limit, inside, children, into}
 use Rattle.algorithm.specs.Properties.{Opened, JoinedBy}
 use Rattle.argument.proofs.ExplorationLaws.{inside-rock, inside-head, inside-tail, father-above}
 use Rattle.argument.proofs.OrientationLaws.{number-pos}
@@ -268,7 +268,7 @@ module _ (b : Board) (x : Explored) (ok : SoundBoard b) (facts : Facts b x) wher
       activated-cause = activated-cause-of;
     }
 
-    pub board-blocks : (place : ℕ → ℕ) → Placement (explorationOf b x ok facts) place → 0 < count (b .benches) (activated b x)
+    pub board-blocks : (place : ℕ → ℕ) → InsidePlacement (explorationOf b x ok facts) place → 0 < count (b .benches) (activated b x)
         → count (b .benches) (activated b x) * (b .small + ok .limits .d)
         < sum (b .benches) (λ v. on (activated b x v) (b .own v))
         + sum (b .jobs) (λ e. on (inside (explorationOf b x ok facts) e && activated b x (place e)) (b .weight e))

@@ -1,6 +1,5 @@
 -- The answer None (Lemma 4.4.4, from the run to the sheet): with no move left the activated benches are a blocking set.
 --     placement-of            a placement of the day's heavy jobs is one of the rocks inside
---     dayLiesInside, dayWeight    the weight inside a set of benches, of a day: booked minutes, heavy jobs placed inside, light jobs that lie inside
 --     target-is               t is 3q × T
 --     left-heavy              a rock that is left is heavy
 --     own-weighs              what the activated benches carry besides rocks
@@ -14,15 +13,13 @@
 --     day-blocks              the activated benches block
 --     no-push                 where no move is made, no pebble can be pushed
 --     some-activated          where a bench is overloaded, some bench is activated
---     day-placement           a placement of the sheet is one of its day
---     activated-blocking      the blocking set of a sheet
+--     activated-blocking      the blocking set of a day
 --     unplaceable-blocking    where no placement exists every non-empty set is blocking
 --     component-blocking      in particular a component with more rocks than benches
 use Prim.Native.Nat.{ℕ, _+_, _*_, _≤_, _<_}
-use mathlib.Core.Path.{_≡_, refl, ap, _∙_}
+use mathlib.Core.Path.{_≡_, ap, _∙_}
 use mathlib.Core.Logic.{_⊎_, inl, inr}
 use mathlib.Core.Bool.{Bool, true, false, not, _&&_, _||_}
-use mathlib.Core.List.{List}
 use native.Mathlib.Omega.{arith}
 use native.Mathlib.Nat.{lt-of-mul-lt-mul-left}
 use lib.ListN.{getD}
@@ -31,15 +28,13 @@ use borrow.Author.Tests.{ltb-false, leb-false, eq-eqb}
 use Rattle.bools.proofs.BoolLaws.{split, and-intro, and-left, and-false-right, or-left, or-right, not-true, not-intro-true}
 use Rattle.bools.proofs.OrderLaws.{lt-or-le}
 use Rattle.sums.specs.Sum.{on, sum, count}
-use Rattle.sums.specs.Search.{any, all}
-use Rattle.sums.proofs.SumLaws.{sum-le, sum-add, sum-zero, on-le}
+use Rattle.sums.specs.Search.{any}
+use Rattle.sums.proofs.SumLaws.{sum-le, sum-add, on-le}
 use Rattle.sums.proofs.CountLaws.{count-pos}
 use Rattle.sums.proofs.MoreSumLaws.{sum-on-add, sum-on-mul, sum-gather}
 use Rattle.sums.proofs.SearchLaws.{any-elim, any-none, all-intro, least-before}
 use Rattle.closure.proofs.ClosureLaws.{reach-refl}
-use Rattle.fields.specs.declared.sheet.Head.{Head}
-use Rattle.fields.specs.declared.sheet.Job.{Job}
-use Rattle.day.specs.Day.{Day, dayOf, choices, heavy, pebble, scale}
+use Rattle.day.specs.Day.{Day, choices, heavy, light, pebble, scale}
 use Rattle.algorithm.specs.Rocks.{lowest, highest, small}
 use Rattle.algorithm.specs.SoundDay.{SoundDay}
 use Rattle.algorithm.specs.Board.{towards}
@@ -49,22 +44,14 @@ use Rattle.algorithm.specs.Properties.{JoinedBy}
 use Rattle.algorithm.specs.Push.{canPush, pushJob}
 use Rattle.algorithm.specs.Start.{State, joined, component, crowded}
 use Rattle.algorithm.specs.Run.{ownMinutes, boardOf, explored, congested, canMove}
-use Rattle.demand.specs.Demand.{Placement as SheetPlacement, Blocking}
-use Rattle.argument.specs.Exploration.{Placement, inside}
-use Rattle.argument.specs.RunFacts.{SoundState, DayPlacement, PeeledPlaced, CrowdedUnplaceable}
+use Rattle.demand.specs.Demand.{Placement, keptInside, liesInside, weightInside, Blocking}
+use Rattle.argument.specs.Exploration.{InsidePlacement, inside}
+use Rattle.argument.specs.RunFacts.{SoundState, PeeledPlaced, CrowdedUnplaceable}
 use Rattle.argument.proofs.ExplorationLaws.{inside-rock}
 use Rattle.algorithm.proofs.RockLaws.{allowed-end}
 use Rattle.argument.proofs.DayLaws.{one-choice}
 use Rattle.argument.proofs.ExplorationOfBoard.{headOf, tailOf, explorationOf, activated-level, level-activated}
 use Rattle.argument.proofs.NoMoveOfBoard.{board-blocks}
-
-abbrev pub dayLiesInside : Day → (ℕ → Bool) → ℕ → Bool
-dayLiesInside d set j = all (d .benches) (λ v. not (d .allows j v) || set v)
-
-abbrev pub dayWeight : Day → (ℕ → ℕ) → (ℕ → Bool) → ℕ
-dayWeight d place set =
-    sum (d .benches) (λ v. on (set v) (d .booked v))
-    + (sum (d .jobs) (λ j. on (heavy d j && set (place j)) (d .minutes j)) + sum (d .jobs) (λ j. on (not (heavy d j) && dayLiesInside d set j) (d .minutes j)))
 
 module _ (d : Day) (sound : SoundDay d) (s : State) (state : SoundState d s) (ok : SoundBoard (boardOf d s)) where
   target-is : small d + ok .limits .d ≡ scale d * d .target
@@ -100,9 +87,9 @@ module _ (d : Day) (sound : SoundDay d) (s : State) (state : SoundState d s) (ok
         (omega (arith, facts .next-level j v l p may finite, facts .level-below (getD (s .place) j 0) below finite))
 
     light-inside : (j : ℕ) → j < d .jobs → heavy d j ≡ false → getD (s .left) j false ≡ false
-        → activated (boardOf d s) x (getD (s .place) j 0) ≡ true → dayLiesInside d (activated (boardOf d s) x) j ≡ true
+        → activated (boardOf d s) x (getD (s .place) j 0) ≡ true → liesInside d (activated (boardOf d s) x) j ≡ true
     light-inside j l light r a =
-        all-intro (d .benches) (λ v. not (d .allows j v) || activated (boardOf d s) x v) (λ v lv. elim (split (d .allows j v)) [
+        all-intro (d .benches) (keptInside d (activated (boardOf d s) x) j) (λ v lv. elim (split (d .allows j v)) [
           | inr no-bench ↦ or-left (activated (boardOf d s) x v) (not-intro-true no-bench)
           | inl may ↦ or-right (not (d .allows j v)) (there v may)
         ])
@@ -115,8 +102,8 @@ module _ (d : Day) (sound : SoundDay d) (s : State) (state : SoundState d s) (ok
               rw (one-choice d sound j v (getD (s .place) j 0) few may (state .place-allowed j l r)) a
         ]
 
-    module _ (peeled : PeeledPlaced d s) (place : ℕ → ℕ) (placed : DayPlacement d place) where
-      placement-of : Placement (explorationOf (boardOf d s) x ok facts) place
+    module _ (peeled : PeeledPlaced d s) (place : ℕ → ℕ) (placed : Placement d place) where
+      placement-of : InsidePlacement (explorationOf (boardOf d s) x ok facts) place
       placement-of = record {
         on-an-end = λ e le i. end e (allowed-end d e (state .left-rock e le (left-of e i)) (place e)
             (sound .allowed-below e (place e) (placed .on-allowed e le (left-heavy e le (left-of e i)))) (placed .on-allowed e le (left-heavy e le (left-of e i))));
@@ -148,7 +135,7 @@ module _ (d : Day) (sound : SoundDay d) (s : State) (state : SoundState d s) (ok
 
       weighs : ℕ → ℕ
       weighs j = on (heavy d j && activated (boardOf d s) x (place j)) (d .minutes j)
-          + on (not (heavy d j) && dayLiesInside d (activated (boardOf d s) x) j) (d .minutes j)
+          + on (not (heavy d j) && liesInside d (activated (boardOf d s) x) j) (d .minutes j)
 
       rest-weighs : (j : ℕ) → j < d .jobs → getD (s .left) j false ≡ false → activated (boardOf d s) x (getD (s .place) j 0) ≡ true → d .minutes j ≤ weighs j
       unfolding weighs
@@ -183,20 +170,20 @@ module _ (d : Day) (sound : SoundDay d) (s : State) (state : SoundState d s) (ok
       -- All jobs together.
       all-weigh : sum (d .jobs) (λ j. on (carried j) (d .minutes j)) + sum (d .jobs) (λ j. on (placedInside j) (d .minutes j))
           ≤ sum (d .jobs) (λ j. on (heavy d j && activated (boardOf d s) x (place j)) (d .minutes j))
-          + sum (d .jobs) (λ j. on (not (heavy d j) && dayLiesInside d (activated (boardOf d s) x) j) (d .minutes j))
+          + sum (d .jobs) (λ j. on (not (heavy d j) && liesInside d (activated (boardOf d s) x) j) (d .minutes j))
       unfolding weighs
       all-weigh = omega (
         arith,
         sum-le (d .jobs) (λ j. on (carried j) (d .minutes j) + on (placedInside j) (d .minutes j)) weighs job-weighs,
         sum-add (d .jobs) (λ j. on (carried j) (d .minutes j)) (λ j. on (placedInside j) (d .minutes j)),
         sum-add (d .jobs) (λ j. on (heavy d j && activated (boardOf d s) x (place j)) (d .minutes j))
-            (λ j. on (not (heavy d j) && dayLiesInside d (activated (boardOf d s) x) j) (d .minutes j)),
+            (λ j. on (not (heavy d j) && liesInside d (activated (boardOf d s) x) j) (d .minutes j)),
       )
 
       -- The theorem about the board speaks of weights times 3q; what it counts is at most what weighs inside.
       pub day-blocks : JoinedBy (boardOf d s) x → ((j v : ℕ) → j < d .jobs → v < d .benches → canPush (boardOf d s) x j v ≡ false)
           → 0 < count (d .benches) (activated (boardOf d s) x)
-          → count (d .benches) (activated (boardOf d s) x) * d .target < dayWeight d place (activated (boardOf d s) x)
+          → count (d .benches) (activated (boardOf d s) x) * d .target < weightInside d place (activated (boardOf d s) x)
       unfolding carried placedInside
       day-blocks joined-by no-push some =
           let k : ℕ = count (d .benches) (activated (boardOf d s) x) in
@@ -235,37 +222,20 @@ module _ (d : Day) (s : State) (crowd : congested d s ≡ true) where
       let (v, lv, a) = any-elim (d .benches) (activated (boardOf d s) (explored d s)) crowd in
       count-pos (d .benches) (activated (boardOf d s) (explored d s)) v lv a
 
-module _ (h : Head) (js : List Job) where
-  day-placement : (place : ℕ → ℕ) → SheetPlacement h js place → DayPlacement (dayOf h js) place
-  day-placement place placed = record { on-allowed = placed .on-allowed; one-to-a-bench = placed .one-to-a-bench }
-
-  pub activated-blocking : (s : State) → SoundDay (dayOf h js) → SoundState (dayOf h js) s
-      → SoundBoard (boardOf (dayOf h js) s) → Facts (boardOf (dayOf h js) s) (explored (dayOf h js) s)
-      → PeeledPlaced (dayOf h js) s → congested (dayOf h js) s ≡ true → canMove (dayOf h js) s ≡ false
-      → Blocking h js (activated (boardOf (dayOf h js) s) (explored (dayOf h js) s))
+module _ (d : Day) where
+  pub activated-blocking : (s : State) → SoundDay d → SoundState d s → SoundBoard (boardOf d s) → Facts (boardOf d s) (explored d s)
+      → PeeledPlaced d s → congested d s ≡ true → canMove d s ≡ false → Blocking d (activated (boardOf d s) (explored d s))
   activated-blocking s sound state ok facts peeled crowd stuck = record {
-    some-bench = some-activated (dayOf h js) s crowd;
+    some-bench = some-activated d s crowd;
     heavier = λ place placed.
-        let none-booked : sum (h .benches) (λ v. on (activated (boardOf (dayOf h js) s) (explored (dayOf h js) s) v) 0) ≡ 0 =
-        sum-zero (h .benches) _ (λ v l. nothing (activated (boardOf (dayOf h js) s) (explored (dayOf h js) s) v))
-        in
-        omega (
-          arith,
-          day-blocks (dayOf h js) sound s state ok (explored (dayOf h js) s) facts peeled place (day-placement place placed)
-              (facts .joined-by)
-              (no-push (dayOf h js) s crowd stuck) (some-activated (dayOf h js) s crowd),
-        );
+        day-blocks d sound s state ok (explored d s) facts peeled place placed (facts .joined-by) (no-push d s crowd stuck) (some-activated d s crowd);
   }
-    where
-      nothing : (k : Bool) → on k 0 ≡ 0
-      nothing true = refl
-      nothing false = refl
 
   -- "Where no placement exists every non-empty set is blocking."
-  pub unplaceable-blocking : (set : ℕ → Bool) → 0 < count (h .benches) set → ((place : ℕ → ℕ) → DayPlacement (dayOf h js) place → ⊥) → Blocking h js set
-  unplaceable-blocking set some none = record { some-bench = some; heavier = λ place placed. absurd (none place (day-placement place placed)) }
+  pub unplaceable-blocking : (set : ℕ → Bool) → 0 < count (d .benches) set → ((place : ℕ → ℕ) → Placement d place → ⊥) → Blocking d set
+  unplaceable-blocking set some none = record { some-bench = some; heavier = λ place placed. absurd (none place placed) }
 
-  pub component-blocking : CrowdedUnplaceable (dayOf h js) → (v : ℕ) → v < h .benches → crowded (dayOf h js) v ≡ true → Blocking h js (component (dayOf h js) v)
+  pub component-blocking : CrowdedUnplaceable d → (v : ℕ) → v < d .benches → crowded d v ≡ true → Blocking d (component d v)
   component-blocking unplaceable v lv full =
-      unplaceable-blocking (component (dayOf h js) v)
-      (count-pos (h .benches) (component (dayOf h js) v) v lv (reach-refl (h .benches) (joined (dayOf h js)) v)) (unplaceable v lv full)
+      unplaceable-blocking (component d v)
+      (count-pos (d .benches) (component d v) v lv (reach-refl (d .benches) (joined d) v)) (unplaceable v lv full)

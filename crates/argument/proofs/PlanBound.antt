@@ -11,13 +11,11 @@
 --     planned-allowed         each job is planned on one of its benches
 --     planDirections, planOf  the directions of the plan, and its places
 --     day-plan-bound          the loads of the plan of a day, booked minutes included, are within the bound
---     plan-load               the loads of the plan of a sheet are within the bound
---     plan-assignment, plan-keeps-bound       the plan of a sheet is an assignment, and keeps the demand's bound
+--     plan-assignment, plan-keeps-bound       the plan of a day is an assignment, and keeps the demand's bound
 use Prim.Native.Nat.{ℕ, suc, _+_, _-_, _*_, _≤_, _<_}
 use mathlib.Core.Path.{_≡_, sym, _∙_}
 use mathlib.Core.Logic.{_⊎_, inl, inr, ⊎-elim}
 use mathlib.Core.Bool.{Bool, true, false, cond, not, _&&_}
-use mathlib.Core.List.{List}
 use native.Mathlib.Omega.{arith}
 use lib.ListN.{getD}
 use lib.Dec.{eqb}
@@ -30,9 +28,7 @@ use Rattle.sums.proofs.SumLaws.{sum-le, sum-add, sum-at, sum-cong}
 use Rattle.sums.proofs.MoreSumLaws.{sum-on-mul}
 use Rattle.sums.proofs.SearchLaws.{any-elim, any-none, all-intro}
 use Rattle.sums.proofs.TableLaws.{getD-table}
-use Rattle.fields.specs.declared.sheet.Head.{Head}
-use Rattle.fields.specs.declared.sheet.Job.{Job}
-use Rattle.day.specs.Day.{Day, dayOf, scale, bound}
+use Rattle.day.specs.Day.{Day, loadOf, scale, bound, withinBound}
 use Rattle.algorithm.specs.Rocks.{lowest, highest}
 use Rattle.algorithm.specs.Board.{Board, Directions, touches, neutral, towards, rockLoad, load}
 use Rattle.algorithm.specs.Explore.{Explored, never, activated}
@@ -40,7 +36,7 @@ use Rattle.algorithm.specs.Properties.{SoundBoard, Facts, lev}
 use Rattle.algorithm.specs.Settle.{settle}
 use Rattle.algorithm.specs.Start.{State}
 use Rattle.algorithm.specs.Run.{ownMinutes, boardOf, placesOf, explored, congested}
-use Rattle.demand.specs.Demand.{Assignment, loadOf, withinBound, keepsBound}
+use Rattle.demand.specs.Demand.{Assignment, keepsBound}
 use Rattle.argument.specs.RunFacts.{SoundState, Settled}
 use Rattle.algorithm.proofs.RockLaws.{low-allowed, high-allowed}
 
@@ -175,7 +171,7 @@ module _ (d : Day) (s : State) (dir : Directions)
           rw (z, c) (omega arith)
     ]
 
-    pub planned-load : scale d * (d .booked v + sum (d .jobs) (λ j. on (eqb (placeOf d s dir j) v) (d .minutes j))) ≡ load (boardOf d s) dir v
+    pub planned-load : scale d * loadOf d (placeOf d s dir) v ≡ load (boardOf d s) dir v
     unfolding ownMinutes rockLoad comes stays
     planned-load =
         let split-load : sum (d .jobs) (λ j. on (eqb (placeOf d s dir j) v) (d .minutes j))
@@ -207,24 +203,20 @@ planDirections d s = settle (boardOf d s) (explored d s .dir)
 module _ (d : Day) (s : State) (facts : Facts (boardOf d s) (explored d s))
     (settled : Settled (boardOf d s) (explored d s .dir) (planDirections d s)) (calm : congested d s ≡ false) where
   pub day-plan-bound : (v : ℕ) → v < d .benches
-      → scale d * (d .booked v + sum (d .jobs) (λ j. on (eqb (placeOf d s (planDirections d s) j) v) (d .minutes j))) ≤ bound d
+      → scale d * loadOf d (placeOf d s (planDirections d s)) v ≤ bound d
   day-plan-bound v l =
       rw (planned-load d s (planDirections d s) (settled .directed) v)
       (settled-load (boardOf d s) (explored d s) facts (any-none (d .benches) (activated (boardOf d s) (explored d s)) calm) (planDirections d s) settled v l)
 
--- The places of the plan of a sheet.
-abbrev pub planOf : Head → List Job → State → ℕ → ℕ
-planOf h js s = placeOf (dayOf h js) s (planDirections (dayOf h js) s)
+-- The places of the plan of a day.
+abbrev pub planOf : Day → State → ℕ → ℕ
+planOf d s = placeOf d s (planDirections d s)
 
-module _ (h : Head) (js : List Job) (s : State) (settled : Settled (boardOf (dayOf h js) s) (explored (dayOf h js) s .dir) (planDirections (dayOf h js) s)) where
-  pub plan-assignment : SoundBoard (boardOf (dayOf h js) s) → SoundState (dayOf h js) s → Assignment h js (planOf h js s)
-  plan-assignment ok state = record { on-allowed = planned-allowed (dayOf h js) s (planDirections (dayOf h js) s) (settled .directed) ok state }
+module _ (d : Day) (s : State) (settled : Settled (boardOf d s) (explored d s .dir) (planDirections d s)) where
+  pub plan-assignment : SoundBoard (boardOf d s) → SoundState d s → Assignment d (planOf d s)
+  plan-assignment ok state = record { on-allowed = planned-allowed d s (planDirections d s) (settled .directed) ok state }
 
-  module _ (facts : Facts (boardOf (dayOf h js) s) (explored (dayOf h js) s)) (calm : congested (dayOf h js) s ≡ false) where
-    plan-load : (v : ℕ) → v < h .benches → 3 * h .q * loadOf js (planOf h js s) v ≤ (5 * h .q + h .p) * h .target
-    plan-load v l = omega (arith, day-plan-bound (dayOf h js) s facts settled calm v l)
-
-    pub plan-keeps-bound : keepsBound h js (planOf h js s) ≡ true
-    plan-keeps-bound =
-        all-intro (h .benches) (λ v. withinBound h (loadOf js (planOf h js s) v))
-        (λ v l. le-leb (3 * h .q * loadOf js (planOf h js s) v) ((5 * h .q + h .p) * h .target) (plan-load v l))
+  pub plan-keeps-bound : Facts (boardOf d s) (explored d s) → congested d s ≡ false → keepsBound d (planOf d s) ≡ true
+  plan-keeps-bound facts calm =
+      all-intro (d .benches) (λ v. withinBound d (loadOf d (planOf d s) v))
+      (λ v l. le-leb (scale d * loadOf d (planOf d s) v) (bound d) (day-plan-bound d s facts settled calm v l))

@@ -1,7 +1,7 @@
 -- The rival (document 01, demand 3): an assignment that keeps every bench within the target shuts out long jobs and blocking sets.
 --     assignment-tested, assignment-test      an assignment passes the test, and what passes it is one
 --     two-terms               two different terms are together at most the sum
---     assigned-below, load-kept       an assignment uses benches of the head; it keeps the load of each
+--     assigned-below, load-kept       an assignment uses benches of the day; it keeps the load of each
 --     rival-placement         such an assignment is a placement
 --     weight-carried          what weighs inside a set, under an assignment that is a placement, lies on the benches of the set
 --     rival-none-blocking     no set is blocking
@@ -13,31 +13,27 @@ use Prim.Native.Nat.{ℕ, _+_, _*_, _≤_, _<_}
 use mathlib.Core.Path.{_≡_, refl, sym}
 use mathlib.Core.Logic.{_≢_, inl, inr}
 use mathlib.Core.Bool.{Bool, true, false, not, _&&_}
-use mathlib.Core.List.{List}
 use native.Mathlib.Omega.{arith}
 use native.Mathlib.Nat.{mul-le-mul-left, mul-le-mul-right}
-use lib.ListN.{length}
-use lib.Dec.{eqb, ltb}
+use lib.Dec.{eqb}
 use borrow.Author.Tests.{ltb-true, leb-true, leb-false, eq-eqb, ne-eqb}
-use Rattle.bools.proofs.BoolLaws.{split, clash, and-left}
+use Rattle.bools.proofs.BoolLaws.{split, clash}
 use Rattle.bools.proofs.OrderLaws.{eq-or-ne}
 use Rattle.sums.specs.Sum.{on, sum}
 use Rattle.sums.proofs.SumLaws.{sum-gap, sum-at, sum-add, sum-le, on-le}
 use Rattle.sums.proofs.CountLaws.{sum-on-at-most}
-use Rattle.sums.proofs.MoreSumLaws.{sum-on-term, sum-gather}
+use Rattle.sums.proofs.MoreSumLaws.{sum-on-add, sum-on-term, sum-gather}
 use Rattle.sums.proofs.SearchLaws.{all-intro, all-elim, all-false}
-use Rattle.fields.specs.declared.sheet.Head.{Head}
-use Rattle.fields.specs.declared.sheet.Job.{Job}
-use Rattle.fields.specs.Format.{allows}
-use Rattle.fields.specs.Tests.{jobAt}
-use Rattle.frame.specs.Sound.{SoundHead}
-use Rattle.demand.specs.Demand.{minutesOf, allowed, heavyJob, lightJob, isAssignment, Assignment, loadOf, withinTarget, keepsTarget, Placement, keptInside, liesInside, weightInside, Blocking, LongJob}
+use Rattle.day.specs.Day.{Day, heavy, light, loadOf}
+use Rattle.demand.specs.Demand.{isAssignment, Assignment, withinTarget, keepsTarget, SomeOver, Placement, keptInside, liesInside, weightInside}
+use Rattle.demand.specs.Demand.{Blocking, LongJob}
+use Rattle.algorithm.specs.SoundDay.{AcceptedDay}
 
-pub assignment-tested : (h : Head) (js : List Job) (a : ℕ → ℕ) → Assignment h js a → isAssignment h js a ≡ true
-assignment-tested h js a assigned = all-intro (length js) (λ j. allowed h js j (a j)) (assigned .on-allowed)
+pub assignment-tested : (d : Day) (a : ℕ → ℕ) → Assignment d a → isAssignment d a ≡ true
+assignment-tested d a assigned = all-intro (d .jobs) (λ j. d .allows j (a j)) (assigned .on-allowed)
 
-pub assignment-test : (h : Head) (js : List Job) (a : ℕ → ℕ) → isAssignment h js a ≡ true → Assignment h js a
-assignment-test h js a test = record { on-allowed = all-elim (length js) (λ j. allowed h js j (a j)) test }
+pub assignment-test : (d : Day) (a : ℕ → ℕ) → isAssignment d a ≡ true → Assignment d a
+assignment-test d a test = record { on-allowed = all-elim (d .jobs) (λ j. d .allows j (a j)) test }
 
 pub two-terms : (n : ℕ) (g : ℕ → ℕ) (e f : ℕ) → e < n → f < n → e ≢ f → g e + g f ≤ sum n g
 two-terms n g e f he hf ne =
@@ -45,104 +41,106 @@ two-terms n g e f he hf ne =
     let here : on (eqb f e) (g f) ≡ 0 = rw (ne-eqb f e (λ q. ne (sym q))) in
     omega (arith, sum-gap n (λ i. on (eqb i e) (g i)) g f (g f) hf (λ i hi. on-le (eqb i e) (g i)) (omega arith))
 
-module _ (h : Head) (js : List Job) (a : ℕ → ℕ) (assigned : Assignment h js a) where
-  assigned-below : (j : ℕ) → j < length js → a j < h .benches
-  assigned-below j l = ltb-true (a j) (h .benches) (and-left (ltb (a j) (h .benches)) (allows (jobAt js j) (a j)) (assigned .on-allowed j l))
+module _ (d : Day) (a : ℕ → ℕ) (assigned : Assignment d a) (accepted : AcceptedDay d) where
+  assigned-below : (j : ℕ) → j < d .jobs → a j < d .benches
+  assigned-below j l = accepted .allowed-below j (a j) (assigned .on-allowed j l)
 
   -- A heavy job, and a light one whose benches all lie in the set, is put on a bench of the set; so it counts in that bench's load.
-  weight-carried : (set : ℕ → Bool) → weightInside h js a set ≤ sum (h .benches) (λ v. on (set v) (loadOf js a v))
+  weight-carried : (set : ℕ → Bool) → weightInside d a set ≤ sum (d .benches) (λ v. on (set v) (loadOf d a v))
   weight-carried set = omega (
     arith,
-    sum-add (length js) heavy-part light-part,
-    sum-le (length js) (λ j. heavy-part j + light-part j) (λ j. on (set (a j)) (minutesOf js j)) job-carried,
-    sum-gather (h .benches) (length js) (λ j. true) a (minutesOf js) (λ j l p. assigned-below j l) set,
+    sum-add (d .jobs) heavy-part light-part,
+    sum-le (d .jobs) (λ j. heavy-part j + light-part j) (λ j. on (set (a j)) (d .minutes j)) job-carried,
+    sum-gather (d .benches) (d .jobs) (λ j. true) a (d .minutes) (λ j l p. assigned-below j l) set,
+    sum-on-add (d .benches) set (d .booked) (λ v. sum (d .jobs) (λ j. on (eqb (a j) v) (d .minutes j))),
   )
     where
       heavy-part : ℕ → ℕ
-      heavy-part j = on (heavyJob h js j && set (a j)) (minutesOf js j)
+      heavy-part j = on (heavy d j && set (a j)) (d .minutes j)
 
       light-part : ℕ → ℕ
-      light-part j = on (lightJob h js j && liesInside h js set j) (minutesOf js j)
+      light-part j = on (light d j && liesInside d set j) (d .minutes j)
 
-      inside-on : (j : ℕ) → j < length js → liesInside h js set j ≡ true → set (a j) ≡ true
+      inside-on : (j : ℕ) → j < d .jobs → liesInside d set j ≡ true → set (a j) ≡ true
       inside-on j l i = elim (split (set (a j))) [
         | inl there ↦ there
         | inr out ↦
-            let leaves : keptInside h js set j (a j) ≡ false = rw (assigned .on-allowed j l, out) in
-            clash (all-elim (h .benches) (keptInside h js set j) i (a j) (assigned-below j l)) leaves
+            let leaves : keptInside d set j (a j) ≡ false = rw (assigned .on-allowed j l, out) in
+            clash (all-elim (d .benches) (keptInside d set j) i (a j) (assigned-below j l)) leaves
       ]
 
-      light-carried : (j : ℕ) → j < length js → on (liesInside h js set j) (minutesOf js j) ≤ on (set (a j)) (minutesOf js j)
-      light-carried j l = elim (split (liesInside h js set j)) [
+      light-carried : (j : ℕ) → j < d .jobs → on (liesInside d set j) (d .minutes j) ≤ on (set (a j)) (d .minutes j)
+      light-carried j l = elim (split (liesInside d set j)) [
         | inl i ↦ rw (i, inside-on j l i) (omega arith)
         | inr i ↦ rw i (omega arith)
       ]
 
-      job-carried : (j : ℕ) → j < length js → heavy-part j + light-part j ≤ on (set (a j)) (minutesOf js j)
-      job-carried j l = elim (split (heavyJob h js j)) [
-        | inl heavy ↦ rw heavy (omega arith)
-        | inr light ↦ rw light (omega (arith, light-carried j l))
+      job-carried : (j : ℕ) → j < d .jobs → heavy-part j + light-part j ≤ on (set (a j)) (d .minutes j)
+      job-carried j l = elim (split (heavy d j)) [
+        | inl is-heavy ↦ rw is-heavy (omega arith)
+        | inr is-light ↦ rw is-light (omega (arith, light-carried j l))
       ]
 
-  module _ (kept : keepsTarget h js a ≡ true) where
-    load-kept : (v : ℕ) → v < h .benches → loadOf js a v ≤ h .target
-    load-kept v l = leb-true (loadOf js a v) (h .target) (all-elim (h .benches) (λ v. withinTarget h (loadOf js a v)) kept v l)
+  module _ (kept : keepsTarget d a ≡ true) where
+    load-kept : (v : ℕ) → v < d .benches → loadOf d a v ≤ d .target
+    load-kept v l = leb-true (loadOf d a v) (d .target) (all-elim (d .benches) (λ v. withinTarget d (loadOf d a v)) kept v l)
 
     -- Two heavy jobs weigh more than 2pT / q, and 2p ≥ q, so a bench within the target has at most one.
-    pub rival-placement : SoundHead h → Placement h js a
-    rival-placement sound = record {
-      on-allowed = λ j l heavy. assigned .on-allowed j l;
+    pub rival-placement : Placement d a
+    rival-placement = record {
+      on-allowed = λ j l is-heavy. assigned .on-allowed j l;
       one-to-a-bench = apart;
     }
       where
-        apart : (e f : ℕ) → e < length js → f < length js → heavyJob h js e ≡ true → heavyJob h js f ≡ true → a e ≡ a f → e ≡ f
+        apart : (e f : ℕ) → e < d .jobs → f < d .jobs → heavy d e ≡ true → heavy d f ≡ true → a e ≡ a f → e ≡ f
         apart e f le lf he hf same = elim (eq-or-ne e f) [
           | inl q ↦ q
           | inr ne ↦
-              let both : on (eqb (a e) (a e)) (minutesOf js e) + on (eqb (a f) (a e)) (minutesOf js f) ≤ loadOf js a (a e) =
-              two-terms (length js) (λ j. on (eqb (a j) (a e)) (minutesOf js j)) e f le lf ne
+              let both : on (eqb (a e) (a e)) (d .minutes e) + on (eqb (a f) (a e)) (d .minutes f)
+              ≤ sum (d .jobs) (λ j. on (eqb (a j) (a e)) (d .minutes j)) =
+              two-terms (d .jobs) (λ j. on (eqb (a j) (a e)) (d .minutes j)) e f le lf ne
               in
-              let two : minutesOf js e + minutesOf js f ≤ loadOf js a (a e) = rw (eq-eqb (a e) (a e) refl, eq-eqb (a f) (a e) (sym same)) at both in
-              let small : minutesOf js e + minutesOf js f ≤ h .target = omega (arith, load-kept (a e) (assigned-below e le)) in
-              let share : h .q ≤ 2 * h .p = omega (arith, sound .share-large-enough) in
+              let two : d .minutes e + d .minutes f ≤ sum (d .jobs) (λ j. on (eqb (a j) (a e)) (d .minutes j)) = rw (eq-eqb (a e) (a e) refl, eq-eqb (a f) (a e) (sym same)) at both in
+              let small : d .minutes e + d .minutes f ≤ d .target = omega (arith, load-kept (a e) (assigned-below e le)) in
+              let share : d .q ≤ 2 * d .p = omega (arith, accepted .share) in
               absurd (omega (
                 arith,
-                ltb-true (h .p * h .target) (h .q * minutesOf js e) he,
-                ltb-true (h .p * h .target) (h .q * minutesOf js f) hf,
-                mul-le-mul-left (h .q) small,
-                mul-le-mul-right (h .target) share,
+                ltb-true (d .p * d .target) (d .q * d .minutes e) he,
+                ltb-true (d .p * d .target) (d .q * d .minutes f) hf,
+                mul-le-mul-left (d .q) small,
+                mul-le-mul-right (d .target) share,
               ))
         ]
 
     -- What lies inside a set of k benches, each within the target, weighs at most k × T.
-    pub rival-none-blocking : SoundHead h → (set : ℕ → Bool) → Blocking h js set → ⊥
-    rival-none-blocking sound set blocking = omega (
+    pub rival-none-blocking : (set : ℕ → Bool) → Blocking d set → ⊥
+    rival-none-blocking set blocking = omega (
       arith,
-      blocking .heavier a (rival-placement sound),
+      blocking .heavier a rival-placement,
       weight-carried set,
-      sum-on-at-most (h .benches) set (loadOf js a) (h .target) (λ v l p. load-kept v l),
+      sum-on-at-most (d .benches) set (loadOf d a) (d .target) (λ v l p. load-kept v l),
     )
 
-    pub rival-none-long : (j : ℕ) → j < length js → minutesOf js j ≤ h .target
+    pub rival-none-long : (j : ℕ) → j < d .jobs → d .minutes j ≤ d .target
     rival-none-long j l = omega (
       arith,
       load-kept (a j) (assigned-below j l),
-      sum-on-term (length js) (λ i. eqb (a i) (a j)) (minutesOf js) j l (eq-eqb (a j) (a j) refl),
+      sum-on-term (d .jobs) (λ i. eqb (a i) (a j)) (d .minutes) j l (eq-eqb (a j) (a j) refl),
     )
 
   -- ── the rival has no answer ──
 
   -- Whether an assignment keeps the target is decided bench by bench.
-  some-above : (keepsTarget h js a ≡ true → ⊥) → (v : ℕ) × (v < h .benches) × (h .target < loadOf js a v)
-  some-above never-kept = elim (split (keepsTarget h js a)) [
+  some-above : (keepsTarget d a ≡ true → ⊥) → SomeOver d a
+  some-above never-kept = elim (split (keepsTarget d a)) [
     | inl kept ↦ absurd (never-kept kept)
     | inr above ↦
-        let (v, l, p) = all-false (h .benches) (λ v. withinTarget h (loadOf js a v)) above in
-        (v, l, leb-false (loadOf js a v) (h .target) p)
+        let (v, l, p) = all-false (d .benches) (λ v. withinTarget d (loadOf d a v)) above in
+        (v, l, leb-false (loadOf d a v) (d .target) p)
   ]
 
-  pub blocking-overloads : SoundHead h → (set : ℕ → Bool) → Blocking h js set → (v : ℕ) × (v < h .benches) × (h .target < loadOf js a v)
-  blocking-overloads sound set blocking = some-above (λ kept. rival-none-blocking kept sound set blocking)
+  pub blocking-overloads : (set : ℕ → Bool) → Blocking d set → SomeOver d a
+  blocking-overloads set blocking = some-above (λ kept. rival-none-blocking kept set blocking)
 
-  pub long-overloads : (j : ℕ) → LongJob h js j → (v : ℕ) × (v < h .benches) × (h .target < loadOf js a v)
-  long-overloads j long = some-above (λ kept. omega (arith, rival-none-long kept j (long .is-job), ltb-true (h .target) (minutesOf js j) (long .longer)))
+  pub long-overloads : (j : ℕ) → LongJob d j → SomeOver d a
+  long-overloads j long = some-above (λ kept. omega (arith, rival-none-long kept j (long .is-job), ltb-true (d .target) (d .minutes j) (long .longer)))

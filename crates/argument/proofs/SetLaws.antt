@@ -17,7 +17,7 @@ use Rattle.bools.proofs.OrderLaws.{lt-or-le, eq-or-ne}
 use Rattle.sums.specs.Search.{any}
 use Rattle.bits.specs.Bits.{isSet}
 use Rattle.bits.proofs.SetBits.{isSet-digit, isSet-zero}
-use Rattle.planning.specs.Planner.{setOf}
+use Rattle.answers.specs.Answers.{setOf}
 use Rattle.argument.specs.Answers.{oneOf}
 
 -- ── one binary digit ──

@@ -16,17 +16,18 @@ use Rattle.day.specs.Day.{Day, pebble, choices}
 use Rattle.algorithm.specs.Rocks.{rock}
 use Rattle.algorithm.specs.Start.{State, start}
 use Rattle.algorithm.specs.Run.{boardOf, explored}
-use Rattle.algorithm.specs.SoundDay.{SoundDay, Uncrowded, Placement}
+use Rattle.algorithm.specs.SoundDay.{SoundDay, Uncrowded, RockPlacement}
+use Rattle.demand.specs.Demand.{Placement}
 use Rattle.algorithm.proofs.RockLaws.{rock-heavy}
 use Rattle.algorithm.proofs.Peeling.{start-allowed, start-left-rock, start-forced, crowded-no-placement}
 use Rattle.algorithm.proofs.SpreadLaws.{settle-left}
 use Rattle.algorithm.proofs.Moves.{Good}
 use Rattle.algorithm.proofs.DayFacts.{good-facts}
-use Rattle.argument.specs.RunFacts.{SoundState, DayPlacement, PeeledPlaced, CrowdedUnplaceable, Settled}
+use Rattle.argument.specs.RunFacts.{SoundState, PeeledPlaced, CrowdedUnplaceable, Settled}
 use Rattle.argument.proofs.PlanBound.{planDirections}
 
 module _ (d : Day) (sound : SoundDay d) where
-  rocks-placed : (place : ℕ → ℕ) → DayPlacement d place → Placement d place
+  rocks-placed : (place : ℕ → ℕ) → Placement d place → RockPlacement d place
   rocks-placed place p =
       record {
         allowed = λ j h r. p .on-allowed j h (rock-heavy d j r);

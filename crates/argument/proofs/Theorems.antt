@@ -1,4 +1,4 @@
--- The theorems about the answer for every accepted sheet. Their only hypothesis is `readSheet s ≡ accepted h js`; those about a state of the
+-- The theorems about the answer for every accepted sheet. Their only hypothesis is `readSheet s ≡ accepted day`; those about a state of the
 -- run speak of the states that the run reaches.
 --     accepted-answer     the answer for the fields of the sheet is the answer of the run
 --     run-ended           the run ends within its budget, in one of the ways of RunEnd
@@ -15,37 +15,29 @@ use Prim.Native.Nat.{ℕ, _*_, _≤_, _<_}
 use mathlib.Core.Path.{_≡_, refl, _∙_}
 use mathlib.Core.Logic.{⊎-elim}
 use mathlib.Core.Bool.{Bool, true, false}
-use mathlib.Core.List.{List}
 use native.Mathlib.Omega.{arith}
-use lib.ListN.{length}
 use lib.Dec.{ltb}
 use borrow.Author.Tests.{ltb-true, leb-true}
 use Rattle.bools.proofs.BoolLaws.{split, clash}
-use Rattle.sums.specs.Sum.{count}
 use Rattle.sums.proofs.TableLaws.{length-table}
 use Rattle.sums.proofs.SearchLaws.{least-before, all-elim}
-use Rattle.fields.specs.declared.sheet.Head.{Head}
-use Rattle.fields.specs.declared.sheet.Job.{Job}
-use Rattle.frame.specs.Reading.{accepted, readSheet}
-use Rattle.frame.specs.Sound.{SoundSheet}
-use Rattle.frame.proofs.AcceptedLaws.{accepted-sound}
-use Rattle.frame.proofs.WriterLaws.{sound-writerVerdict}
-use Rattle.day.specs.Day.{Day, dayOf, pebble, longJob}
+use Rattle.day.specs.Day.{Day, loadOf, longJob, moveBound}
 use Rattle.algorithm.specs.Start.{State, component, crowded, crowdedBench}
 use Rattle.algorithm.specs.Run.{long, blocked, boardOf, placesOf, explored, congested, canMove, nextState, answerAt, run}
 use Rattle.algorithm.specs.States.{Reached, at-start, by-move, levelOf, RunFrom}
 use Rattle.algorithm.specs.Push.{pushJob, pushBench}
-use Rattle.algorithm.specs.Answer.{Answer, shown, answerTo, planSheet}
-use Rattle.algorithm.specs.SoundDay.{SoundDay, Uncrowded}
+use Rattle.answers.specs.Answers.{Reply}
+use Rattle.algorithm.specs.Answer.{shown, answerTo}
+use Rattle.algorithm.specs.SoundDay.{AcceptedDay, SoundDay, Uncrowded}
 use Rattle.algorithm.proofs.RockGraph.{uncrowded-test, crowded-bench}
 use Rattle.algorithm.proofs.Moves.{push-found, board-moved}
 use Rattle.algorithm.proofs.Levels.{levels-kept}
 use Rattle.algorithm.proofs.SpreadLaws.{spreadOf}
 use Rattle.algorithm.proofs.Budget.{TurnsEnd, run-turns, movesOf, moves-bound, next-good}
 use Rattle.algorithm.proofs.DayFacts.{good-sound, good-facts, good-spread, reached-good, reached-run, run-ends}
-use Rattle.demand.specs.Demand.{Assignment, keepsTarget, withinTarget, loadOf, minutesOf, SomeOver, LongJob, EachFits}
+use Rattle.demand.specs.Demand.{Assignment, keepsTarget, withinTarget, SomeOver, LongJob, EachFits}
 use Rattle.argument.specs.Answers.{SoundAnswer, plan-sound, long-sound, none-sound, isPlan, isLong, WholeClaim, RunEnd, long-job, crowded-component, no-move-left}
-use Rattle.planning.proofs.SheetDay.{sound-day, none-long}
+use Rattle.algorithm.proofs.SheetDay.{sound-day, none-long}
 use Rattle.argument.proofs.LongFound.{long-found}
 use Rattle.argument.proofs.Rival.{blocking-overloads, long-overloads}
 use Rattle.argument.proofs.PlanBound.{planDirections, plan-assignment, plan-keeps-bound}
@@ -67,18 +59,13 @@ none-crowded-before : (d : Day) (u : ℕ) → u < crowdedBench d → crowded d u
 unfolding crowdedBench
 none-crowded-before d u l = least-before (d .benches) (crowded d) u l
 
-module _ (s : List ℕ) (h : Head) (js : List Job) (taken : readSheet s ≡ accepted h js) where
-  abbrev day : Day
-  day = dayOf h js
+module _ (day : Day) (accepted : AcceptedDay day) where
 
-  sheet-sound : SoundSheet h js
-  sheet-sound = accepted-sound s h js taken
-
-  module _ (short : ltb (longJob day) (length js) ≡ false) where
+  module _ (short : ltb (longJob day) (day .jobs) ≡ false) where
     day-sound : SoundDay day
-    day-sound = sound-day h js sheet-sound (none-long h js short)
+    day-sound = sound-day day accepted (none-long day short)
 
-    module _ (fits : ltb (crowdedBench day) (h .benches) ≡ false) where
+    module _ (fits : ltb (crowdedBench day) (day .benches) ≡ false) where
       uncrowded : Uncrowded day
       uncrowded = uncrowded-test day fits
 
@@ -89,7 +76,7 @@ module _ (s : List ℕ) (h : Head) (js : List Job) (taken : readSheet s ≡ acce
       ended = run-turns day short fits ∙ end-of-run .answer
 
       -- The answer at the last state of the run.
-      last-sound : (b : Bool) → congested day (end-of-run .last) ≡ b → SoundAnswer h js (shown day (answerAt day (end-of-run .last) (end-of-run .moves)))
+      last-sound : (b : Bool) → congested day (end-of-run .last) ≡ b → SoundAnswer day (shown day (answerAt day (end-of-run .last) (end-of-run .moves)))
       unfolding answerAt
       last-sound false calm =
           let st = end-of-run .last in
@@ -97,17 +84,17 @@ module _ (s : List ℕ) (h : Head) (js : List Job) (taken : readSheet s ≡ acce
           let settled = good-settled day day-sound st good uncrowded in
           rw (calm, answerAt)
           (plan-sound
-          (plan-shown h js (placesOf day st (planDirections day st)) (end-of-run .moves) (sheet-sound .head .some-bench) (length-table (length js) _)
-          (plan-assignment h js st settled (good-sound day day-sound uncrowded st good) (good-state day day-sound st good))
-          (plan-keeps-bound h js st settled (good-facts day day-sound uncrowded st good) calm)
+          (plan-shown day (placesOf day st (planDirections day st)) (end-of-run .moves) (accepted .benches-there) (length-table (day .jobs) _)
+          (plan-assignment day st settled (good-sound day day-sound uncrowded st good) (good-state day day-sound st good))
+          (plan-keeps-bound day st settled (good-facts day day-sound uncrowded st good) calm)
           (end-of-run .moves-bound)))
       last-sound true crowd =
           let st = end-of-run .last in
           let good = end-of-run .good in
           rw (crowd, answerAt)
           (none-sound
-          (none-shown h js _ (end-of-run .moves)
-          (activated-blocking h js st day-sound (good-state day day-sound st good) (good-sound day day-sound uncrowded st good)
+          (none-shown day (accepted .allowed-below) _ (end-of-run .moves)
+          (activated-blocking day st day-sound (good-state day day-sound st good) (good-sound day day-sound uncrowded st good)
           (good-facts day day-sound uncrowded st good) (good-peeled day day-sound st good) crowd (end-of-run .no-move))
           (end-of-run .moves-bound)))
 
@@ -116,69 +103,66 @@ module _ (s : List ℕ) (h : Head) (js : List Job) (taken : readSheet s ≡ acce
       ⊎-elim
       (λ e. rw (run-long day e) (long-job e))
       (λ short. ⊎-elim
-      (λ c. rw (run-crowded day short c) (crowded-component (crowdedBench day) (ltb-true (crowdedBench day) (h .benches) c) (crowded-bench day (ltb-true (crowdedBench day) (h .benches) c)) (none-crowded-before day)))
+      (λ c. rw (run-crowded day short c) (crowded-component (crowdedBench day) (ltb-true (crowdedBench day) (day .benches) c) (crowded-bench day (ltb-true (crowdedBench day) (day .benches) c)) (none-crowded-before day)))
       (λ fits. rw (ended short fits) (no-move-left (end-of-run short fits .last) (end-of-run short fits .moves) (end-of-run short fits .reached) (end-of-run short fits .moves-bound) (end-of-run short fits .no-move)))
-      (split (ltb (crowdedBench day) (h .benches))))
-      (split (ltb (longJob day) (length js)))
+      (split (ltb (crowdedBench day) (day .benches))))
+      (split (ltb (longJob day) (day .jobs)))
 
-  pub run-moves : movesOf (run day) ≤ h .benches * count (length js) (pebble day)
+  pub run-moves : movesOf (run day) ≤ moveBound day
   run-moves = moves-bound day
 
-  pub accepted-answer : planSheet h js ≡ answerTo day
-  accepted-answer = rw (sound-writerVerdict h js sheet-sound, planSheet)
-
-  pub answer-sound : SoundAnswer h js (answerTo day)
+  pub answer-sound : SoundAnswer day (answerTo day)
   answer-sound =
       ⊎-elim
-      (λ e. let found = long-found h js e in rw (run-long day e) (long-sound (record { is-long = found .0; lowest = found .1 })))
+      (λ e. rw (run-long day e) (long-sound (long-found day e)))
       (λ short. ⊎-elim
       (λ c.
-      let below = ltb-true (crowdedBench day) (h .benches) c in
+      let below = ltb-true (crowdedBench day) (day .benches) c in
       rw (run-crowded day short c)
       (none-sound
-      (none-shown h js _ 0 (component-blocking h js (unplaceable day (day-sound short)) (crowdedBench day) below (crowded-bench day below)) (omega arith))))
+      (none-shown day (accepted .allowed-below) _ 0 (component-blocking day (unplaceable day (day-sound short)) (crowdedBench day) below (crowded-bench day below)) (omega arith))))
       (λ fits. rw (ended short fits) (last-sound short fits (congested day (end-of-run short fits .last)) refl))
-      (split (ltb (crowdedBench day) (h .benches))))
-      (split (ltb (longJob day) (length js)))
+      (split (ltb (crowdedBench day) (day .benches))))
+      (split (ltb (longJob day) (day .jobs)))
 
   -- ── the rival ──
 
-  no-plan-over : {a : Answer} → SoundAnswer h js a → isPlan a ≡ false → (r : ℕ → ℕ) → Assignment h js r → SomeOver h js r
+  no-plan-over : {a : Reply} → SoundAnswer day a → isPlan (a .answer) ≡ false → (r : ℕ → ℕ) → Assignment day r → SomeOver day r
   no-plan-over (plan-sound p) other r x = clash {b = true} refl other
-  no-plan-over (long-sound {j = j} l) other r x = long-overloads h js r x j (l .is-long)
-  no-plan-over (none-sound n) other r x = blocking-overloads h js r x (sheet-sound .head) _ (n .blocking)
+  no-plan-over (long-sound {j = j} l) other r x = long-overloads day r x accepted j (l .is-long)
+  no-plan-over (none-sound n) other r x = blocking-overloads day r x accepted _ (n .blocking)
 
   -- "After long or none every assignment leaves some bench above T."
-  pub else-over : isPlan (answerTo day) ≡ false → (r : ℕ → ℕ) → Assignment h js r → SomeOver h js r
+  pub else-over : isPlan (answerTo day .answer) ≡ false → (r : ℕ → ℕ) → Assignment day r → SomeOver day r
   else-over = no-plan-over answer-sound
 
   -- "If any assignment at all keeps every bench within T, a plan is given."
-  pub rival-planned : (r : ℕ → ℕ) → Assignment h js r → keepsTarget h js r ≡ true → isPlan (answerTo day) ≡ true
+  pub rival-planned : (r : ℕ → ℕ) → Assignment day r → keepsTarget day r ≡ true → isPlan (answerTo day .answer) ≡ true
   rival-planned r x keeps =
       ⊎-elim (λ p. p)
       (λ other.
       let over = else-over other r x in
-      let within : withinTarget h (loadOf js r (over .0)) ≡ true = all-elim (h .benches) (λ v. withinTarget h (loadOf js r v)) keeps (over .0) (over .1) in
-      absurd (omega (arith, over .2, leb-true (loadOf js r (over .0)) (h .target) within)))
-      (split (isPlan (answerTo day)))
+      let within : withinTarget day (loadOf day r (over .0)) ≡ true = all-elim (day .benches) (λ v. withinTarget day (loadOf day r v)) keeps (over .0) (over .1) in
+      absurd (omega (arith, over .2, leb-true (loadOf day r (over .0)) (day .target) within)))
+      (split (isPlan (answerTo day .answer)))
 
   -- ── long ──
 
-  answer-long : ltb (longJob day) (length js) ≡ true → isLong (answerTo day) ≡ true
+  answer-long : ltb (longJob day) (day .jobs) ≡ true → isLong (answerTo day .answer) ≡ true
   answer-long e = rw (run-long day e)
 
   -- "Long: the lowest job with more than T minutes. Tried before the run."
-  pub long-given : (j : ℕ) → LongJob h js j → isLong (answerTo day) ≡ true
+  pub long-given : (j : ℕ) → LongJob day j → isLong (answerTo day .answer) ≡ true
   long-given j l =
       ⊎-elim answer-long
-      (λ short. absurd (omega (arith, ltb-true (h .target) (minutesOf js j) (l .longer), none-long h js short j (l .is-job))))
-      (split (ltb (longJob day) (length js)))
+      (λ short. absurd (omega (arith, ltb-true (day .target) (day .minutes j) (l .longer), none-long day short j (l .is-job))))
+      (split (ltb (longJob day) (day .jobs)))
 
-  pub else-fits : isLong (answerTo day) ≡ false → EachFits h js
+  pub else-fits : isLong (answerTo day .answer) ≡ false → EachFits day
   else-fits other =
-      ⊎-elim (λ e. clash (answer-long e) other) (none-long h js) (split (ltb (longJob day) (length js)))
+      ⊎-elim (λ e. clash (answer-long e) other) (none-long day) (split (ltb (longJob day) (day .jobs)))
 
-  pub whole-claim : WholeClaim h js (answerTo day)
+  pub whole-claim : WholeClaim day (answerTo day)
   whole-claim = record {
     sound = answer-sound;
     long-given = long-given;
@@ -189,11 +173,11 @@ module _ (s : List ℕ) (h : Head) (js : List Job) (taken : readSheet s ≡ acce
 
   -- ── the states of the run ──
 
-  reached-short : {m : ℕ} {st : State} → Reached day m st → ltb (longJob day) (length js) ≡ false
+  reached-short : {m : ℕ} {st : State} → Reached day m st → ltb (longJob day) (day .jobs) ≡ false
   reached-short (at-start short fits) = short
   reached-short (by-move came can) = reached-short came
 
-  reached-fits : {m : ℕ} {st : State} → Reached day m st → ltb (crowdedBench day) (h .benches) ≡ false
+  reached-fits : {m : ℕ} {st : State} → Reached day m st → ltb (crowdedBench day) (day .benches) ≡ false
   reached-fits (at-start short fits) = fits
   reached-fits (by-move came can) = reached-fits came
 
@@ -208,7 +192,7 @@ module _ (s : List ℕ) (h : Head) (js : List Job) (taken : readSheet s ≡ acce
     reached-visited = reached-run day reached-sound reached-uncrowded came
 
     -- "Let LEVEL(v) and LEVEL′(v) denote the levels before and after a PUSH operation. Then LEVEL′(v) ≥ LEVEL(v)."
-    pub levels-never-fall : canMove day st ≡ true → (v : ℕ) → v < h .benches → levelOf day st v ≤ levelOf day (nextState day st) v
+    pub levels-never-fall : canMove day st ≡ true → (v : ℕ) → v < day .benches → levelOf day st v ≤ levelOf day (nextState day st) v
     levels-never-fall can v below =
         let d = day in
         let sound = reached-sound in

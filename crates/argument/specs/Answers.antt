@@ -1,10 +1,9 @@
--- What the answer for a sheet must be (document 01, demand 3 and "The three answers").
---     placeIn places          the bench that a table of places has for each job
+-- What the reply to a day must be (document 01, demand 3 and "The three answers").
 --     oneOf benches           the set of the benches that a list names
---     SoundPlan, SoundLong, SoundNone     what holds of a plan, of a long job and of a none
---     SoundAnswer h js a      a is one of the three answers, and right for the sheet with the head h and the jobs js
---     isPlan a, isLong a      the answer is a plan; it is long
---     WholeClaim h js a       demand 3
+--     SoundPlan, SoundNone    what holds of a plan, and of a none (of long: demand's SoundLong)
+--     SoundAnswer d r         r is one of the three answers, and right for the day d
+--     isPlan r, isLong r      the answer is a plan; it is long
+--     WholeClaim d r          demand 3
 --     RunEnd d o              how a run comes to its outcome
 use Prim.Native.Nat.{ℕ, _≤_, _<_}
 use mathlib.Core.Path.{_≡_}
@@ -13,19 +12,15 @@ use mathlib.Core.List.{List}
 use lib.ListN.{length, getD}
 use lib.Dec.{eqb, ltb}
 use Rattle.sums.specs.Search.{any}
-use Rattle.fields.specs.declared.sheet.Head.{Head}
-use Rattle.fields.specs.declared.sheet.Job.{Job}
-use Rattle.day.specs.Day.{Day, longJob}
+use Rattle.day.specs.Day.{Day, placeIn, loadOf, withinBound, longJob, moveBound}
+use Rattle.demand.specs.Demand.{Assignment, keepsTarget, SomeOver, Blocking, LongJob, EachFits, SoundLong}
+use Rattle.answers.specs.declared.answer.Answer.{Answer}
+use Rattle.answers.specs.declared.answer.Answer.the-variants.{Plan, Long, None, Fault}
+use Rattle.answers.specs.declared.answer.PlanAnswer.{PlanAnswer}
+use Rattle.answers.specs.Answers.{Reply, planReply, longReply, noneReply}
 use Rattle.algorithm.specs.Start.{State, component, crowded}
 use Rattle.algorithm.specs.Run.{Outcome, long, blocked, canMove, answerAt, budget}
 use Rattle.algorithm.specs.States.{Reached}
-use Rattle.algorithm.specs.Answer.{Answer, plan, tooLong, none, fault}
-use Rattle.demand.specs.Demand.{minutesOf, Assignment, loadOf, withinBound, keepsTarget, SomeOver, Blocking}
-use Rattle.demand.specs.Demand.{LongJob, EachFits, moveBound}
-
--- "Entry j of the first table is job j's bench"
-abbrev pub placeIn : List ℕ → ℕ → ℕ
-placeIn places j = getD places j 0
 
 abbrev pub oneOf : List ℕ → ℕ → Bool
 oneOf benches v = any (length benches) (λ i. eqb (getD benches i 0) v)
@@ -34,60 +29,55 @@ oneOf benches v = any (length benches) (λ i. eqb (getD benches i 0) v)
 
 -- "A plan is the assignment in the first table, the second table has its loads, and the largest load is the greatest
 -- of them."
-pub record SoundPlan (h : Head) (js : List Job) (largest moves : ℕ) (places loads : List ℕ) : Type 0 where
-  pub one-to-a-job : length places ≡ length js
-  pub assignment : Assignment h js (placeIn places)
-  pub one-to-a-bench : length loads ≡ h .benches
-  pub its-loads : (v : ℕ) → v < h .benches → getD loads v 0 ≡ loadOf js (placeIn places) v
-  pub greatest : (v : ℕ) → v < h .benches → getD loads v 0 ≤ largest
-  pub one-of-them : (v : ℕ) × (v < h .benches) × (getD loads v 0 ≡ largest)
-  pub within-bound : (v : ℕ) → v < h .benches → withinBound h (getD loads v 0) ≡ true
-  pub few-moves : moves ≤ moveBound h js
-
--- "Long: the lowest job with more than T minutes."
-pub record SoundLong (h : Head) (js : List Job) (j : ℕ) : Type 0 where
-  pub is-long : LongJob h js j
-  pub lowest : (i : ℕ) → i < j → minutesOf js i ≤ h .target
+pub record SoundPlan (d : Day) (p : PlanAnswer) (places loads : List ℕ) : Type 0 where
+  pub one-to-a-job : length places ≡ d .jobs
+  pub assignment : Assignment d (placeIn places)
+  pub one-to-a-bench : length loads ≡ d .benches
+  pub its-loads : (v : ℕ) → v < d .benches → getD loads v 0 ≡ loadOf d (placeIn places) v
+  pub greatest : (v : ℕ) → v < d .benches → getD loads v 0 ≤ p .largest
+  pub one-of-them : (v : ℕ) × (v < d .benches) × (getD loads v 0 ≡ p .largest)
+  pub within-bound : (v : ℕ) → v < d .benches → withinBound d (getD loads v 0) ≡ true
+  pub few-moves : p .moves ≤ moveBound d
 
 -- "None: a blocking set and the moves made", the benches rising.
-pub record SoundNone (h : Head) (js : List Job) (benches : List ℕ) (moves : ℕ) : Type 0 where
+pub record SoundNone (d : Day) (benches : List ℕ) (moves : ℕ) : Type 0 where
   pub some-bench : 0 < length benches
   pub rising : (i k : ℕ) → i < k → k < length benches → getD benches i 0 < getD benches k 0
-  pub of-the-head : (i : ℕ) → i < length benches → getD benches i 0 < h .benches
-  pub blocking : Blocking h js (oneOf benches)
-  pub few-moves : moves ≤ moveBound h js
+  pub of-the-day : (i : ℕ) → i < length benches → getD benches i 0 < d .benches
+  pub blocking : Blocking d (oneOf benches)
+  pub few-moves : moves ≤ moveBound d
 
 -- "The answer is then one of the three."
-pub data SoundAnswer (h : Head) (js : List Job) : Answer → Type 0 where
-  plan-sound : {largest moves : ℕ} {places loads : List ℕ} → SoundPlan h js largest moves places loads
-      → SoundAnswer h js (plan largest moves places loads)
-  long-sound : {j : ℕ} → SoundLong h js j → SoundAnswer h js (tooLong j)
-  none-sound : {benches : List ℕ} {moves : ℕ} → SoundNone h js benches moves → SoundAnswer h js (none benches moves)
+pub data SoundAnswer (d : Day) : Reply → Type 0 where
+  plan-sound : {p : PlanAnswer} {places loads : List ℕ} → SoundPlan d p places loads
+      → SoundAnswer d (planReply p places loads)
+  long-sound : {j : ℕ} → SoundLong d j → SoundAnswer d (longReply j)
+  none-sound : {benches : List ℕ} {moves : ℕ} → SoundNone d benches moves → SoundAnswer d (noneReply benches moves)
 
 -- ── demand 3 ──
 
 abbrev pub isPlan : Answer → Bool
-isPlan (plan largest moves places loads) = true
-isPlan (tooLong j) = false
-isPlan (none benches moves) = false
-isPlan (fault f) = false
+isPlan (Plan p) = true
+isPlan (Long l) = false
+isPlan (None n) = false
+isPlan (Fault f) = false
 
 abbrev pub isLong : Answer → Bool
-isLong (plan largest moves places loads) = false
-isLong (tooLong j) = true
-isLong (none benches moves) = false
-isLong (fault f) = false
+isLong (Plan p) = false
+isLong (Long l) = true
+isLong (None n) = false
+isLong (Fault f) = false
 
 -- "The rival may try every assignment; it is not held to placements or to the run."
-pub record WholeClaim (h : Head) (js : List Job) (a : Answer) : Type 0 where
-  pub sound : SoundAnswer h js a
+pub record WholeClaim (d : Day) (r : Reply) : Type 0 where
+  pub sound : SoundAnswer d r
   -- A job above T gives long; after any other answer every job is at most T.
-  pub long-given : (j : ℕ) → LongJob h js j → isLong a ≡ true
-  pub else-fits : isLong a ≡ false → EachFits h js
+  pub long-given : (j : ℕ) → LongJob d j → isLong (r .answer) ≡ true
+  pub else-fits : isLong (r .answer) ≡ false → EachFits d
   -- If any assignment at all keeps every bench within T, a plan is given.
-  pub rival-planned : (r : ℕ → ℕ) → Assignment h js r → keepsTarget h js r ≡ true → isPlan a ≡ true
+  pub rival-planned : (a : ℕ → ℕ) → Assignment d a → keepsTarget d a ≡ true → isPlan (r .answer) ≡ true
   -- After long or none every assignment leaves some bench above T.
-  pub else-over : isPlan a ≡ false → (r : ℕ → ℕ) → Assignment h js r → SomeOver h js r
+  pub else-over : isPlan (r .answer) ≡ false → (a : ℕ → ℕ) → Assignment d a → SomeOver d a
 
 -- ── the run ──
 

@@ -8,7 +8,7 @@
 --     FatherAbove b z v   v has a father rock e inside with b < z + e
 --     EarlierNeighbour v  v has a rock inside below R whose other end has a smaller rank
 --     NoMoveLeft          what holds of an exploration after which no move is left: the hypotheses H1 to H6 of Lemma 4.4.4
---     Placement           each rock inside on one of its ends, no two on one bench
+--     InsidePlacement           each rock inside on one of its ends, no two on one bench
 use Prim.Native.Nat.{ℕ, _+_, _*_, _≤_, _<_}
 use mathlib.Core.Bool.{Bool, true, _&&_}
 use mathlib.Core.Path.{_≡_}
@@ -107,6 +107,6 @@ pub record NoMoveLeft (x : Exploration) : Type 0 where
   pub activated-cause : (v : ℕ) → v < x .benches → x .activated v ≡ true
       → (x .typeA v ≡ true) ⊎ (FatherAbove x (bound x) (x .own v) v ⊎ EarlierNeighbour x v)
 
-pub record Placement (x : Exploration) (place : ℕ → ℕ) : Type 0 where
+pub record InsidePlacement (x : Exploration) (place : ℕ → ℕ) : Type 0 where
   pub on-an-end : (e : ℕ) → e < x .jobs → inside x e ≡ true → (place e ≡ x .head e) ⊎ (place e ≡ x .tail e)
   pub one-to-a-bench : (e f : ℕ) → e < x .jobs → f < x .jobs → inside x e ≡ true → inside x f ≡ true → place e ≡ place f → e ≡ f

@@ -1,5 +1,1 @@
-pub mod Orientation
-pub mod Exploration
-pub mod RunFacts
-pub mod Answers
 pub mod Claim

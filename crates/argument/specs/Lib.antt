@@ -1,0 +1,4 @@
+pub mod Orientation
+pub mod Exploration
+pub mod RunFacts
+pub mod Answers
