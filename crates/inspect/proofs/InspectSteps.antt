@@ -154,7 +154,9 @@ stored-accepted s {x} e a =
       allowed-length =
           ap (λ (y : Sheet). length (y .allowed)) same
           ∙ length-padded (map (λ j. j .allowed) (c .jobs)) (rw length-map few);
-      held = ap contentsHeld same ∙ ap (λ (js : List Job). record { head = c .head; jobs = js }) (table-padded (c .jobs));
+      held =
+          ap contentsHeld same
+          ∙ ap (λ (js : List Job). record { head = c .head; jobs = js }) (table-padded (c .jobs));
     }
 
 -- ── what is returned ──

@@ -5,8 +5,8 @@
 --     sizeRead c            the bytes that they take
 --     inspectWord r room    the number of jobs, or the fault; 13 where the numbers do not fit
 --     inspectTable r t      the table afterwards
-use Prim.Native.Nat.{ℕ, _+_, _*_, _≤_}
-use mathlib.Core.Bool.{Bool, true, false, cond}
+use Prim.Native.Nat.{ℕ, _+_, _*_}
+use mathlib.Core.Bool.{cond}
 use mathlib.Core.List.{List, [], _∷_, _++_}
 use lib.ListN.{length, drop}
 use lib.Dec.{ltb}
