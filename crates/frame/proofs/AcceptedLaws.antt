@@ -57,7 +57,8 @@ module _ (g : Progress) (at : ℕ) (f : List ℕ) (e : firstFault (faultsAt g at
   in-place = cond-accepted (misplaced (g .stage) (kindOf f)) _ _ (cond-accepted (not (knownKind (kindOf f))) _ _ e .1) .0
 
   pub content-accepted :
-      firstFault (contentFaults (g .contents .head .benches) (length (g .contents .jobs)) at (kindOf f) (bodyOf f)) ≡ Accepted
+      firstFault (contentFaults (g .contents .head .benches) (length (g .contents .jobs)) at (kindOf f) (bodyOf f))
+      ≡ Accepted
   unfolding frameFaults
   content-accepted =
       let kind-known = cond-accepted (not (knownKind (kindOf f))) _ _ e in

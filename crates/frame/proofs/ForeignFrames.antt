@@ -94,7 +94,8 @@ pub faultsAt-moved : (by : ℕ → ℕ) (g : Progress) (at : ℕ) (frame : List 
     → firstFault (faultsAt g (at + by at) frame) ≡ movedVerdict by (firstFault (faultsAt g at frame))
 faultsAt-moved by g at frame =
     ap firstFault
-    (frameFaults-moved by (g .stage) (g .contents .head .benches) (length (g .contents .jobs)) at (kindOf frame) (bodyOf frame))
+    (frameFaults-moved by (g .stage) (g .contents .head .benches) (length (g .contents .jobs)) at
+    (kindOf frame) (bodyOf frame))
     ∙ firstFault-moved by (faultsAt g at frame)
 
 -- 12 has a job number for its place.

@@ -129,15 +129,15 @@ module _ (g : Progress) (at : ℕ) (rest : List ℕ) where
       × SoundJob (g .contents .head .benches) (length (g .contents .jobs)) j
   unfolding frameOf after
   frameOf-job j e =
+      let m = g .contents .head .benches in
+      let n = length (g .contents .jobs) in
       let s = sound-job (firstFault (faultsAt g at rest)) (contentOf (kindOf rest) (bodyOf rest)) j e in
       let k = content-job (eqb (kindOf rest) headKind) (eqb (kindOf rest) jobKind) (headOf (bodyOf rest)) (jobOf (bodyOf rest)) j (s .1) in (
         s .0,
         sym (k .2),
         rw (k .0, k .1) (ap (λ (x : Job). record { stage = g .stage; contents = withJob (g .contents) x }) (k .2)),
-        job-sound (g .contents .head .benches) (length (g .contents .jobs)) j at
-            (subst
-            (λ (x : Job). firstFault (jobFaults (g .contents .head .benches) (length (g .contents .jobs)) x at) ≡ Accepted)
-            (k .2)
+        job-sound m n j at
+            (subst (λ (x : Job). firstFault (jobFaults m n x at) ≡ Accepted) (k .2)
             (rw (k .0, k .1) at (content-accepted g at rest (s .0)))),
       )
 

@@ -6,6 +6,7 @@
 --     jobs-none, jobs-more    no job makes no numbers; a job's two numbers behind those of the first i
 --     all-put                 the numbers of the head and then those of the jobs
 -- What was read:
+--     contentsHeld x              the contents that a sheet's arrays hold
 --     Stored, stored-accepted     a reading that accepts: what its sheet holds
 -- What is returned:
 --     fault-shown, no-room, all-shown     a fault, a table that is too short, and the numbers
@@ -22,6 +23,7 @@ use Rattle.bits.specs.Little.{littleOf, littleAll}
 use Rattle.bits.proofs.LittleLaws.{length-littleAll, littleAll-append, littleAll-one}
 use Rattle.fields.specs.declared.sheet.Head.{Head}
 use Rattle.fields.specs.declared.sheet.Job.{Job}
+use Rattle.fields.specs.Contents.{Contents}
 use Rattle.fields.specs.declared.sheet.Sheet.{Sheet}
 use Rattle.fields.specs.declared.sheet.Reading.{Reading}
 use Rattle.fields.specs.declared.fault.Fault.{Fault}
@@ -34,7 +36,7 @@ use Rattle.frame.proofs.SheetArrays.{length-padded, table-padded}
 use Rattle.frame.proofs.Places.{read-jobs}
 use Rattle.frame.proofs.Stored.{verdict-refused, verdict-accepted}
 use Rattle.tables.specs.Words.{faultWord}
-use Rattle.inspect.specs.Inspect.{jobNumbers, numbersRead, sizeRead, inspectWord, inspectTable}
+use Rattle.inspect.specs.Inspect.{headNumbers, jobNumbers, numbersRead, sizeRead, inspectWord, inspectTable}
 
 -- ── numbers in the table ──
 
@@ -53,8 +55,7 @@ start-put t at = rw (append-nil (take at t)) (sym (take-append-drop at t))
 pub head-put : (t : List ℕ) (h : Head) {one two three four : List ℕ}
     → one ≡ written t 0 (littleOf 8 (h .benches)) 8 → two ≡ written one 8 (littleOf 8 (h .p)) 16
     → three ≡ written two 16 (littleOf 8 (h .q)) 24 → four ≡ written three 24 (littleOf 8 (h .target)) 32
-    → four ≡ littleAll 8 (numbersRead h []) ++ drop 32 t
-unfolding jobNumbers
+    → four ≡ littleAll 8 (headNumbers h) ++ drop 32 t
 head-put t h p q r s =
     let a = h .benches in
     let b = h .p in
@@ -109,41 +110,53 @@ jobs-more t ms bs i {one} {two} {three} l first second third =
     number-put t 32 (ns ++ m ∷ []) b (5 + 2 * i) l (omega (arith, length-append ns (m ∷ []))) (begun ∙ rw between) third in
     whole ∙ rw (end, jobNumbers-more i job)
 
-pub all-put : (t : List ℕ) (h : Head) (js : List Job) (n : ℕ) {one two : List ℕ}
-    → one ≡ littleAll 8 (numbersRead h []) ++ drop 32 t → two ≡ written one 32 (littleAll 8 (jobNumbers js)) (32 + 16 * n)
-    → two ≡ littleAll 8 (numbersRead h js) ++ drop (32 + 16 * n) t
-unfolding jobNumbers
-all-put t h js n first second =
-    let head : List ℕ = numbersRead h [] in
+pub all-put : (t : List ℕ) (c : Contents) (n : ℕ) {one two : List ℕ}
+    → one ≡ littleAll 8 (headNumbers (c .head)) ++ drop 32 t
+    → two ≡ written one 32 (littleAll 8 (jobNumbers (c .jobs))) (32 + 16 * n)
+    → two ≡ littleAll 8 (numbersRead c) ++ drop (32 + 16 * n) t
+all-put t c n first second =
+    let head : List ℕ = headNumbers (c .head) in
+    let jobs : List ℕ = jobNumbers (c .jobs) in
     second
-    ∙ rw first (written-after t 0 (littleAll 8 head) (littleAll 8 (jobNumbers js)) 32 (32 + 16 * n) (omega arith) (omega (arith, length-littleAll 8 head)) (omega arith))
-    ∙ ap (λ (s : List ℕ). s ++ drop (32 + 16 * n) t) (sym (littleAll-append 8 head (jobNumbers js)))
+    ∙ rw first
+    (written-after t 0 (littleAll 8 head) (littleAll 8 jobs) 32 (32 + 16 * n) (omega arith)
+    (omega (arith, length-littleAll 8 head)) (omega arith))
+    ∙ ap (λ (s : List ℕ). s ++ drop (32 + 16 * n) t) (sym (littleAll-append 8 head jobs))
 
 -- ── what was read ──
 
+abbrev pub contentsHeld : Sheet → Contents
+contentsHeld x = record { head = x .head; jobs = jobTable (x .count) (x .minutes) (x .allowed) }
+
 pub record Stored (s : List ℕ) (x : Sheet) : Type 0 where
-  pub jobs : List Job
-  pub sheet-read : readSheet s ≡ accepted (x .head) jobs
-  pub job-count : length jobs ≡ x .count
+  pub contents : Contents
+  pub sheet-read : readSheet s ≡ accepted contents
+  pub job-count : length (contents .jobs) ≡ x .count
   pub few-jobs : x .count ≤ 512
   pub minutes-length : length (x .minutes) ≡ 512
   pub allowed-length : length (x .allowed) ≡ 512
-  pub job-table : jobTable (x .count) (x .minutes) (x .allowed) ≡ jobs
+  pub held : contentsHeld x ≡ contents
 
 pub stored-accepted : (s : List ℕ) {x : Reading} → x ≡ stored (readSheet s) → x .verdict ≡ Accepted → Stored s (x .sheet)
 stored-accepted s {x} e a =
     let q = verdict-accepted (readSheet s) x e a in
-    let js : List Job = q .1 in
-    let few = read-jobs s (q .0) js (q .2) in
-    let same : x .sheet ≡ sheetOf (q .0) js = q .3 in
+    let c : Contents = q .0 in
+    let few = read-jobs s c (q .1) in
+    let same : x .sheet ≡ sheetOf c = q .2 in
     record {
-      jobs = js;
-      sheet-read = q .2 ∙ ap (λ (h : Head). accepted h js) (sym (ap (λ (y : Sheet). y .head) same));
+      contents = c;
+      sheet-read = q .1;
       job-count = sym (ap (λ (y : Sheet). y .count) same);
       few-jobs = omega (arith, ap (λ (y : Sheet). y .count) same);
-      minutes-length = ap (λ (y : Sheet). length (y .minutes)) same ∙ length-padded (map (λ j. j .minutes) js) (rw length-map few);
-      allowed-length = ap (λ (y : Sheet). length (y .allowed)) same ∙ length-padded (map (λ j. j .allowed) js) (rw length-map few);
-      job-table = ap (λ (y : Sheet). jobTable (y .count) (y .minutes) (y .allowed)) same ∙ table-padded js;
+      minutes-length =
+          ap (λ (y : Sheet). length (y .minutes)) same
+          ∙ length-padded (map (λ j. j .minutes) (c .jobs)) (rw length-map few);
+      allowed-length =
+          ap (λ (y : Sheet). length (y .allowed)) same
+          ∙ length-padded (map (λ j. j .allowed) (c .jobs)) (rw length-map few);
+      held =
+          ap contentsHeld same
+          ∙ ap (λ (js : List Job). record { head = c .head; jobs = js }) (table-padded (c .jobs));
     }
 
 -- ── what is returned ──
@@ -157,21 +170,23 @@ module _ (s t : List ℕ) where
   fault-shown e a w = let q = verdict-refused (readSheet s) e a in (rw q w, rw q)
 
   module _ (x : Sheet) (k : Stored s x) where
-    size : sizeRead (k .jobs) ≡ 32 + 16 * x .count
+    size : sizeRead (k .contents) ≡ 32 + 16 * x .count
     size = omega (arith, k .job-count)
 
     pub no-room : {r : ℕ} → length t < 32 + 16 * x .count → r ≡ faultWord (Table 0) → Shown s t r t
     unfolding inspectWord inspectTable
     no-room l w =
-        let short = lt-ltb (length t) (sizeRead (k .jobs)) (omega (arith, size)) in
+        let short = lt-ltb (length t) (sizeRead (k .contents)) (omega (arith, size)) in
         (rw (k .sheet-read, short) w, rw (k .sheet-read, short))
 
     pub all-shown : {one two : List ℕ} → 32 + 16 * x .count ≤ length t
-        → one ≡ littleAll 8 (numbersRead (x .head) []) ++ drop 32 t
+        → one ≡ littleAll 8 (headNumbers (x .head)) ++ drop 32 t
         → two ≡ written one 32 (littleAll 8 (jobNumbers (jobTable (x .count) (x .minutes) (x .allowed)))) (32 + 16 * x .count)
         → Shown s t (x .count) two
     unfolding inspectWord inspectTable
     all-shown l first second =
-        let room = le-ltb (length t) (sizeRead (k .jobs)) (omega (arith, size)) in
-        let shown = all-put t (x .head) (k .jobs) (x .count) first (second ∙ rw (k .job-table)) in
+        let room = le-ltb (length t) (sizeRead (k .contents)) (omega (arith, size)) in
+        let shown =
+        all-put t (contentsHeld x) (x .count) first second
+        ∙ ap (λ (c : Contents). littleAll 8 (numbersRead c) ++ drop (32 + 16 * x .count) t) (k .held) in
         (rw (k .sheet-read, room) (sym (k .job-count)), rw (k .sheet-read, room, size) shown)

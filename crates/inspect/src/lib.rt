@@ -4,12 +4,12 @@ use frame::Head;
 use frame::Verdict;
 ghost use mathlib.Core.Path.{_≡_};
 ghost use Prim.Native.Nat.{_+_, _*_, _≤_};
-ghost use mathlib.Core.List.{[], _++_};
+ghost use mathlib.Core.List.{_++_};
 ghost use lib.ListN.{length, take, drop};
 ghost use Rattle.bits.specs.Little.{littleAll};
 ghost use Rattle.fields.specs.Tests.{jobTable};
 ghost use Rattle.frame.specs.Reading.{readSheet};
-ghost use Rattle.inspect.specs.Inspect.{inspectWord, inspectTable, jobNumbers, numbersRead};
+ghost use Rattle.inspect.specs.Inspect.{inspectWord, inspectTable, headNumbers, jobNumbers};
 
 // Reads a sheet and puts what was read into the table.
 #[no_mangle]
@@ -37,7 +37,7 @@ pub extern "C" fn yinqocha_inspect(sheet: &[u8], table: &mut [u8]) -> u64
 
 fn put_head(h: Head, table: &mut [u8])
     requires { ⌜ 32 ≤ length (now table) ⌝ }
-    ensures { λ _. ⌜ now (table .exit) ≡ littleAll 8 (numbersRead h []) ++ drop 32 (now (table .entry)) ⌝ }
+    ensures { λ _. ⌜ now (table .exit) ≡ littleAll 8 (headNumbers h) ++ drop 32 (now (table .entry)) ⌝ }
 {
     tables::put(table, 0, h.benches);
     tables::put(table, 1, h.p);
