@@ -1,0 +1,32 @@
+//! Links the archives that `rt staticlib yinqocha` and `rt staticlib inspect` write into the
+//! programs that call them. YINQOCHA_ARCHIVES names another folder to take them from.
+
+use std::{env, path::PathBuf};
+
+/// Each program and the archives that it calls.
+const SHEETS: [(&str, &[&str]); 2] = [
+    ("sheets", &["libyinqocha.a", "libinspect.a"]),
+    ("sheet_times", &["libyinqocha.a", "libinspect.a"]),
+];
+/// The same for those that call them with the feature `library` only.
+const PLANS: [(&str, &[&str]); 2] =
+    [("plans", &["libyinqocha.a"]), ("plan_times", &["libyinqocha.a"])];
+
+fn main() {
+    println!("cargo:rerun-if-changed=build.rs");
+    println!("cargo:rerun-if-env-changed=YINQOCHA_ARCHIVES");
+    let package = PathBuf::from(env::var("CARGO_MANIFEST_DIR").expect("cargo sets it"));
+    let folder = match env::var("YINQOCHA_ARCHIVES") {
+        Ok(folder) => PathBuf::from(folder),
+        Err(_) => package.join("../../target/staticlib"),
+    };
+    let linked = env::var_os("CARGO_FEATURE_LIBRARY").is_some();
+    let plans = PLANS.into_iter().filter(|_| linked);
+    for (program, archives) in SHEETS.into_iter().chain(plans) {
+        for archive in archives {
+            let path = folder.join(archive);
+            println!("cargo:rerun-if-changed={}", path.display());
+            println!("cargo:rustc-link-arg-bin={program}={}", path.display());
+        }
+    }
+}

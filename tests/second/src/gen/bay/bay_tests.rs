@@ -1,0 +1,69 @@
+//! Each generator does what it is for, in the second planner's eyes.
+
+use super::days;
+use super::heavy::{pairs, Shape, SHAPES};
+use super::{tight, turning};
+use crate::planner::algorithm::{Answer, Planner, Rooms};
+use crate::rng::Rng;
+
+#[test]
+fn days_are_accepted() {
+    let mut rng = Rng::new(1);
+    let mut planner = Planner::new();
+    for turn in 0..3000 {
+        let size = match turn % 100 {
+            0 => days::full(&mut rng),
+            turn if turn % 2 == 0 => days::middle(&mut rng),
+            _ => days::tiny(&mut rng),
+        };
+        let day = days::any(&mut rng, size);
+        planner.plan(&day.draft().bytes(), Rooms::FULL).expect("an accepted day");
+    }
+}
+
+#[test]
+fn tight_days_are_accepted() {
+    let mut rng = Rng::new(5);
+    let mut planner = Planner::new();
+    for turn in 0..2000 {
+        let day = tight::tight(&mut rng, 2 + turn % 6);
+        planner.plan(&day.draft().bytes(), Rooms::FULL).expect("an accepted day");
+    }
+}
+
+#[test]
+fn planted_days_have_a_plan() {
+    let mut rng = Rng::new(2);
+    let mut planner = Planner::new();
+    for turn in 0..2000 {
+        let size = if turn % 50 == 0 { days::full(&mut rng) } else { days::middle(&mut rng) };
+        let bytes = days::planted(&mut rng, size).draft().bytes();
+        let answer = planner.plan(&bytes, Rooms::FULL);
+        assert!(matches!(answer, Ok(Answer::Plan { .. })), "{answer:?}");
+    }
+}
+
+#[test]
+fn shapes_join_two_different_benches() {
+    let mut rng = Rng::new(3);
+    for shape in SHAPES {
+        for benches in 2..65 {
+            let pairs = pairs(&mut rng, shape, benches);
+            assert!(pairs.iter().all(|[one, two]| one != two && one.max(two) < &benches));
+            assert!(pairs.len() <= benches as usize || shape == Shape::Crowded);
+        }
+    }
+}
+
+#[test]
+fn the_turning_target_has_a_plan() {
+    let mut rng = Rng::new(4);
+    let mut planner = Planner::new();
+    for _ in 0..300 {
+        let size = days::middle(&mut rng);
+        let mut day = days::any(&mut rng, size);
+        day.head.target = turning::turning_target(&mut planner, &day);
+        let answer = planner.plan(&day.draft().bytes(), Rooms::FULL);
+        assert!(matches!(answer, Ok(Answer::Plan { .. })), "{answer:?}");
+    }
+}

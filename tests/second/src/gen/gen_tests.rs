@@ -1,0 +1,89 @@
+//! Each generator does what it is for, in the second codec's eyes.
+
+use super::damage::damage;
+use super::day::Day;
+use super::draft;
+use super::tables::spoil;
+use crate::codec::door::{fault_number, Codec};
+use crate::codec::sheet::Head;
+use crate::rng::Rng;
+
+const TIMES: usize = 2000;
+
+#[test]
+fn fields_are_packed_as_example_12_says() {
+    let head = draft::head_frame(Head { benches: 2, p: 4, q: 7, target: 9 });
+    assert_eq!(head, crate::hex::parse("11 00 07 04 10 38 00 00 01 20"));
+    assert_eq!(draft::get(&head, draft::BENCHES), 2);
+    assert_eq!(draft::get(&head, draft::TARGET), 9);
+}
+
+#[test]
+fn random_days_are_taken() {
+    let mut rng = Rng::new(1);
+    let mut codec = Codec::default();
+    for _ in 0..TIMES {
+        let count = rng.below(20);
+        let day = Day::random(&mut rng, count);
+        let sheet = codec.read(&day.draft().bytes()).expect("a random day is taken");
+        assert_eq!((sheet.head(), sheet.jobs()), (day.head, &day.jobs[..]));
+    }
+}
+
+#[test]
+fn days_near_fault_12_fall_on_both_sides() {
+    let mut rng = Rng::new(2);
+    let mut codec = Codec::default();
+    let mut met = [0; 14];
+    for _ in 0..TIMES {
+        let bytes = Day::near_fault_12(&mut rng).draft().bytes();
+        let number = codec.read(&bytes).err().map_or(0, |fault| fault.number);
+        met[number as usize] += 1;
+    }
+    assert!(met[0] > TIMES / 10 && met[12] > TIMES / 10, "{met:?}");
+    assert_eq!(met[0] + met[12], TIMES);
+}
+
+#[test]
+fn damage_meets_its_fault() {
+    let mut rng = Rng::new(3);
+    let mut codec = Codec::default();
+    for number in 2..=12 {
+        for _ in 0..TIMES / 10 {
+            let mut draft = Day::random(&mut rng, 5).draft();
+            damage(&mut rng, &mut draft, number);
+            let met = codec.read(&draft.bytes()).err().map_or(0, |fault| fault.number);
+            assert_eq!(met, number);
+        }
+    }
+}
+
+#[test]
+fn spoilt_fields_meet_their_fault() {
+    let mut rng = Rng::new(4);
+    let mut codec = Codec::default();
+    let mut out = [0; 8192];
+    for number in 7..=12 {
+        for _ in 0..TIMES / 10 {
+            let mut day = Day::random(&mut rng, 5);
+            spoil(&mut rng, &mut day, number);
+            let tables = day.tables();
+            let word = codec.write(tables.head, &tables.minutes, &tables.allowed, &mut out);
+            assert_eq!(fault_number(word), number, "{day:?}");
+        }
+    }
+}
+
+#[test]
+fn padding_brings_a_sheet_to_its_length() {
+    let mut rng = Rng::new(5);
+    let mut codec = Codec::default();
+    for length in [16, 17, 18, 19, 20, 1000, 65_536, 65_537, 200_000] {
+        let day = Day::random(&mut rng, 0);
+        let mut draft = day.draft();
+        draft.pad_to(&mut rng, length);
+        assert_eq!(draft.len(), length);
+        let number = codec.read(&draft.bytes()).err().map_or(0, |fault| fault.number);
+        assert_eq!(number, u32::from(length > 65_536));
+    }
+}

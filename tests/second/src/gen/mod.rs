@@ -1,0 +1,18 @@
+//! Generators of sheets and of the writer's tables, good and damaged.
+//!
+//! - `draft`: a sheet as a list of frames that can be changed bit by bit.
+//! - `day`: random heads and jobs that are taken, and ones at the edges of the rules.
+//! - `damage`: changes to a draft, each aimed at one fault number.
+//! - `bay`: days for the run.
+//! - `tables`: the writer's fields and tables, and changes to them.
+//!
+//! Nothing here uses the second codec's packing of fields, so that an error there cannot hide.
+
+pub mod bay;
+pub mod damage;
+pub mod day;
+pub mod draft;
+pub mod tables;
+
+#[cfg(test)]
+mod gen_tests;

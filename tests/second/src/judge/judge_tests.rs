@@ -1,0 +1,82 @@
+//! The judge on hand-made answers, and the second planner before the judge.
+
+use super::{has_rival, is_blocking, judge};
+use crate::codec::door::Codec;
+use crate::codec::sheet::{Head, Job};
+use crate::gen::bay::days;
+use crate::gen::draft::Draft;
+use crate::planner::algorithm::{Answer, Planner, Rooms};
+use crate::planner::example_tests::{head, job};
+use crate::planner::set::Set;
+use crate::rng::Rng;
+
+fn blocks(head: Head, jobs: &[Job], benches: &[usize]) -> bool {
+    let set = benches.iter().fold(Set::EMPTY, |all, &bench| all | Set::one(bench));
+    let mut codec = Codec::default();
+    is_blocking(codec.read(&Draft::new(head, jobs).bytes()).expect("accepted"), set)
+}
+
+#[test]
+fn blocking_sets() {
+    // Five light jobs of 4 on both benches weigh 20 > 2 × 8; with one more bench they do not lie
+    // inside the two.
+    assert!(blocks(head(3, 8), &[job(4, &[0, 1]); 5], &[0, 1]));
+    assert!(!blocks(head(3, 8), &[job(4, &[0, 1]); 4], &[0, 1]));
+    assert!(!blocks(head(3, 8), &[job(4, &[0, 1]); 5], &[0, 1, 2]));
+    assert!(!blocks(head(3, 8), &[job(4, &[0, 1]); 5], &[0]));
+    // A heavy job that may lie outside does not count.
+    assert!(!blocks(head(2, 8), &[job(8, &[0, 1]), job(4, &[0])], &[0]));
+    // Two heavy jobs on one bench: no placement, so every set blocks but the empty one.
+    assert!(blocks(head(2, 8), &[job(8, &[0]); 2], &[1]));
+    assert!(!blocks(head(2, 8), &[job(8, &[0]); 2], &[]));
+    // A heavy job with one bench drives the other away: 8 + 1 > 8 on bench 1.
+    let jobs = [job(8, &[0]), job(8, &[0, 1]), job(1, &[1])];
+    assert!(blocks(head(2, 8), &jobs, &[1]));
+}
+
+#[test]
+fn rivals() {
+    let mut codec = Codec::default();
+    let mut rival = |target, jobs: &[Job]| {
+        let bytes = Draft::new(head(2, target), jobs).bytes();
+        has_rival(codec.read(&bytes).expect("accepted"), 1000)
+    };
+    assert_eq!(rival(10, &[job(5, &[0, 1]); 4]), Some(true));
+    assert_eq!(rival(9, &[job(5, &[0, 1]); 4]), Some(false));
+    assert_eq!(rival(1000, &[job(1, &[0, 1]); 500]), Some(true));
+    assert_eq!(rival(1, &[job(1, &[0, 1]); 300]), Some(false));
+    assert_eq!(rival(200, &[job(1, &[0, 1]); 500]), None);
+}
+
+#[test]
+fn wrong_answers_are_refused() {
+    let mut codec = Codec::default();
+    let bytes = Draft::new(head(2, 5), &[job(5, &[0, 1]); 2]).bytes();
+    let sheet = codec.read(&bytes).expect("accepted");
+    let plan =
+        |largest, places, loads| judge(sheet, &Answer::Plan { largest, moves: 0, places, loads });
+    assert_eq!(plan(5, &[1, 0], &[5, 5]), Ok(()));
+    assert!(plan(6, &[1, 0], &[5, 5]).is_err());
+    assert!(plan(10, &[0, 0], &[10, 0]).is_err());
+    assert!(plan(5, &[1, 2], &[5, 5]).is_err());
+    assert!(plan(5, &[1, 0], &[5, 4]).is_err());
+    assert!(judge(sheet, &Answer::Long { job: 0 }).is_err());
+    assert!(judge(sheet, &Answer::None { benches: Set::first(2), moves: 0 }).is_err());
+}
+
+#[test]
+fn tiny_days_before_the_judge() {
+    let mut rng = Rng::new(7);
+    let (mut planner, mut codec) = (Planner::new(), Codec::default());
+    for _ in 0..20_000 {
+        let size = days::tiny(&mut rng);
+        let day = days::any(&mut rng, size);
+        let bytes = day.draft().bytes();
+        let sheet = codec.read(&bytes).expect("accepted");
+        let answer = planner.plan(&bytes, Rooms::FULL).expect("accepted");
+        assert_eq!(judge(sheet, &answer), Ok(()), "{day:?}");
+        if has_rival(sheet, 100_000) == Some(true) {
+            assert!(matches!(answer, Answer::Plan { .. }), "{day:?}");
+        }
+    }
+}

@@ -1,0 +1,7 @@
+//! Buffers as they are lent to the static library.
+//!
+//! - `empty`: the pointer of a buffer of length 0.
+//! - `guarded`: buffers with guard bytes on both sides.
+
+pub mod empty;
+pub mod guarded;

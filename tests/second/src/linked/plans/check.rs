@@ -1,0 +1,194 @@
+//! One sheet through the second planner, through the library where it is linked, and before the
+//! judge. Tables are compared byte by byte. The first difference ends the run.
+
+use crate::library;
+use crate::planned::{words, Planned};
+use crate::tally::Tally;
+use second::codec::door::{Codec, ENTRY_BYTES};
+use second::corpus::{print_answer, print_case, Case};
+use second::gen::day::Day;
+use second::hex;
+use second::judge;
+use second::lent::empty::Empty;
+use second::lent::guarded::Guarded;
+use second::planner::algorithm::{Answer, Planner, Rooms};
+use second::planner::door::{self, ANSWER_ENTRIES};
+use second::rng::Rng;
+use std::process;
+
+/// The most steps of a search for an assignment within T.
+const STEPS: u64 = 200_000;
+
+/// Whether some assignment keeps every bench within T.
+#[derive(Clone, Copy, Debug, PartialEq, Eq)]
+pub enum Rival {
+    Unknown,
+    /// To be found by search.
+    Searched,
+    /// The sheet was made from one.
+    Planted,
+}
+
+pub struct Check {
+    pub rng: Rng,
+    pub tally: Tally,
+    pub planner: Planner,
+    codec: Codec,
+    seed: u64,
+    class: &'static str,
+}
+
+/// The bytes of the tables of places, of loads and of the answer.
+pub type TableBytes = [usize; 3];
+
+impl Check {
+    pub fn new(seed: u64) -> Check {
+        Check {
+            rng: Rng::new(seed),
+            tally: Tally::default(),
+            planner: Planner::new(),
+            codec: Codec::default(),
+            seed,
+            class: "",
+        }
+    }
+
+    /// The class that the next sheets belong to.
+    pub fn class(&mut self, class: &'static str) {
+        self.class = class;
+    }
+
+    pub fn plan_day(&mut self, day: &Day, rival: Rival) -> Planned {
+        self.plan(&day.draft().bytes(), rival)
+    }
+
+    /// Plans a sheet, with tables that have room for it, exactly or more.
+    pub fn plan(&mut self, sheet: &[u8], rival: Rival) -> Planned {
+        let (jobs, benches) = match self.codec.read(sheet) {
+            Ok(sheet) => (sheet.jobs().len(), sheet.head().benches as usize),
+            Err(_) => (self.rng.below(4), self.rng.below(4)),
+        };
+        let rooms = [jobs, benches, ANSWER_ENTRIES].map(|entries| {
+            let more = if self.rng.one_in(2) { 0 } else { self.rng.below(30) };
+            ENTRY_BYTES * entries + more
+        });
+        self.plan_into(sheet, rooms, rival)
+    }
+
+    /// Plans a sheet, with tables of so many bytes.
+    pub fn plan_into(&mut self, sheet: &[u8], rooms: TableBytes, rival: Rival) -> Planned {
+        let mut expected = rooms.map(|room| Guarded::random(&mut self.rng, room));
+        let before = expected.clone();
+        let [places, loads, answer] = expected.each_mut().map(Guarded::inside_mut);
+        let word = door::plan(&mut self.planner, sheet, places, loads, answer);
+        self.set_library_against(sheet, word, before, &expected);
+        let planned = Planned::new(self.codec.read(sheet).ok(), word, &expected);
+        if let Ok(answer) = planned.answer() {
+            self.judge(sheet, &answer, rival);
+        }
+        let moves = planned.moves();
+        self.tally.count_plan(self.class, word, moves, self.planner.counts());
+        planned
+    }
+
+    fn set_library_against(
+        &mut self,
+        sheet: &[u8],
+        word: u64,
+        mut found: [Guarded; 3],
+        expected: &[Guarded; 3],
+    ) {
+        let input = Guarded::holding(&mut self.rng, sheet);
+        let lent = input.clone();
+        let empty = self.rng.pick(&[Empty::Null, Empty::Pointer]);
+        let tables = found.each_mut().map(Guarded::inside_mut);
+        let Some(library) = library::plan(lent.inside(), tables, empty) else { return };
+        self.same_word(library, word, sheet);
+        let names = ["the table of places", "the table of loads", "the answer table"];
+        for (name, (found, expected)) in names.into_iter().zip(found.iter().zip(expected)) {
+            self.same_bytes(name, found, expected, sheet);
+        }
+        self.same_bytes("the sheet lent to the library", &lent, &input, sheet);
+    }
+
+    fn judge(&mut self, sheet: &[u8], answer: &Answer, known: Rival) {
+        let read = self.codec.read(sheet).expect("an answer is for an accepted sheet");
+        let judged = judge::judge(read, answer);
+        let full = read.jobs().len() == 512 && read.head().benches == 64;
+        let rival = match known {
+            Rival::Unknown => None,
+            Rival::Planted => Some(true),
+            Rival::Searched => judge::has_rival(read, STEPS),
+        };
+        if let Err(what) = judged {
+            self.fail(&format!("the judge refuses {answer:?}: {what}"), sheet);
+        }
+        if rival == Some(true) && !matches!(answer, Answer::Plan { .. }) {
+            self.fail("an assignment within T, and no plan", sheet);
+        }
+        match (known, rival) {
+            (Rival::Planted, _) => self.tally.meet("an assignment within T, planted"),
+            (_, Some(true)) => self.tally.meet("an assignment within T, by search"),
+            (_, Some(false)) => self.tally.meet("no assignment within T, by search"),
+            _ => {}
+        }
+        if full {
+            self.tally.meet("full sheet");
+        }
+    }
+
+    /// Compares two lists of places.
+    pub fn compare(&mut self, sheet: &[u8], lists: [&[u8]; 2]) -> u64 {
+        let word = door::compare(&mut self.planner, sheet, lists[0], lists[1]);
+        let inputs = [sheet, lists[0], lists[1]].map(|of| Guarded::holding(&mut self.rng, of));
+        let lent = inputs.clone();
+        let empty = self.rng.pick(&[Empty::Null, Empty::Pointer]);
+        let [first, second] = [lent[1].inside(), lent[2].inside()];
+        if let Some(library) = library::compare(lent[0].inside(), [first, second], empty) {
+            self.same_word(library, word, sheet);
+            for (lent, input) in lent.iter().zip(&inputs) {
+                self.same_bytes("a buffer lent to the library", lent, input, sheet);
+            }
+        }
+        self.tally.count_comparison(self.class, word);
+        word
+    }
+
+    fn same_word(&self, library: u64, second: u64, sheet: &[u8]) {
+        if library != second {
+            let (library, second) = (words(library), words(second));
+            self.fail(&format!("library: {library}\nsecond planner: {second}"), sheet);
+        }
+    }
+
+    fn same_bytes(&self, what: &str, found: &Guarded, expected: &Guarded, sheet: &[u8]) {
+        if let Some(at) = found.first_difference(expected) {
+            self.fail(&format!("{what} differs first at byte {at}"), sheet);
+        }
+    }
+
+    pub fn expect(&self, what: &str, holds: bool, sheet: &[u8]) {
+        if !holds {
+            self.fail(&format!("{what}: not so"), sheet);
+        }
+    }
+
+    fn fail(&self, report: &str, sheet: &[u8]) -> ! {
+        self.tally.print();
+        println!("plans: FAILED, class \"{}\", seed {}\n{report}", self.class, self.seed);
+        if let Some(case) = case_of(sheet) {
+            println!("by the second planner:\n{}", print_case(&case));
+        }
+        println!("sheet {}", hex::print(sheet));
+        process::exit(1)
+    }
+}
+
+/// An accepted sheet in the form of the corpus.
+fn case_of(sheet: &[u8]) -> Option<Case> {
+    let mut codec = Codec::default();
+    let read = codec.read(sheet).ok()?;
+    let day = Day { head: read.head(), jobs: read.jobs().to_vec() };
+    let answer = print_answer(Planner::new().plan(sheet, Rooms::FULL));
+    Some(Case { name: "failed".to_string(), day, answer })
+}

@@ -1,0 +1,149 @@
+//! How many sheets of each class were met, and what their runs did.
+
+use second::codec::door::fault_number;
+use second::planner::algorithm::Counts;
+use second::planner::door::{LONG, PLAN, SAME};
+
+/// A run that meets one of these less often has not tested it.
+const LEAST: u64 = 100;
+
+const WANTED: [&str; 38] = [
+    "plan at once",
+    "plan after moves",
+    "none of a crowded component",
+    "none at once",
+    "none after moves",
+    "long",
+    "fault 1",
+    "fault 2",
+    "fault 3",
+    "fault 4",
+    "fault 5",
+    "fault 6",
+    "fault 7",
+    "fault 8",
+    "fault 9",
+    "fault 10",
+    "fault 11",
+    "fault 12",
+    "fault 13",
+    "run with a level above 1",
+    "run with a level above 4",
+    "run with a fake orientation",
+    "run with Rule 1",
+    "run with Rule 2",
+    "run with peeled rocks",
+    "plan with a neutral tree",
+    "plan with a neutral cycle",
+    "run with 100 moves or more",
+    "full sheet",
+    "an assignment within T, by search",
+    "no assignment within T, by search",
+    "an assignment within T, planted",
+    "comparison: same",
+    "comparison: different",
+    "comparison: fault of the sheet",
+    "comparison: fault 13, place 0",
+    "comparison: fault 13, place 1",
+    "comparison: of two plans",
+];
+
+#[derive(Default)]
+pub struct Tally {
+    classes: Vec<(&'static str, u64)>,
+    met: Vec<(String, u64)>,
+    pub sheets: u64,
+    pub comparisons: u64,
+    moves: u64,
+    most_moves: u64,
+    explorations: u64,
+    rounds: u64,
+    highest_level: usize,
+}
+
+fn add<N: PartialEq>(rows: &mut Vec<(N, u64)>, name: N) {
+    match rows.iter_mut().find(|(other, _)| *other == name) {
+        Some((_, count)) => *count += 1,
+        None => rows.push((name, 1)),
+    }
+}
+
+impl Tally {
+    pub fn meet(&mut self, what: &str) {
+        add(&mut self.met, what.to_string());
+    }
+
+    /// Counts one call of planning: its result word, the moves made, and what the run did.
+    pub fn count_plan(&mut self, class: &'static str, word: u64, moves: u64, counts: &Counts) {
+        self.sheets += 1;
+        add(&mut self.classes, class);
+        match (fault_number(word), word) {
+            (0, LONG) => self.meet("long"),
+            (0, PLAN) => self.meet(if moves == 0 { "plan at once" } else { "plan after moves" }),
+            (0, _) if counts.explored.explorations == 0 => self.meet("none of a crowded component"),
+            (0, _) => self.meet(if moves == 0 { "none at once" } else { "none after moves" }),
+            (number, _) => self.meet(&format!("fault {number}")),
+        }
+        self.count_run(moves, counts);
+    }
+
+    fn count_run(&mut self, moves: u64, counts: &Counts) {
+        let explored = &counts.explored;
+        let did = [
+            ("run with a level above 1", explored.highest_level > 1),
+            ("run with a level above 4", explored.highest_level > 4),
+            ("run with a fake orientation", explored.fakes > 0),
+            ("run with Rule 1", explored.rule_1 > 0),
+            ("run with Rule 2", explored.rule_2 > 0),
+            ("run with peeled rocks", counts.peeled > 0),
+            ("plan with a neutral tree", counts.settled.trees > 0),
+            ("plan with a neutral cycle", counts.settled.cycles > 0),
+            ("run with 100 moves or more", moves >= 100),
+        ];
+        for (what, _) in did.into_iter().filter(|&(_, holds)| holds) {
+            self.meet(what);
+        }
+        self.moves += moves;
+        self.most_moves = self.most_moves.max(moves);
+        self.explorations += explored.explorations;
+        self.rounds += explored.rounds;
+        self.highest_level = self.highest_level.max(explored.highest_level);
+    }
+
+    pub fn count_comparison(&mut self, class: &'static str, word: u64) {
+        self.comparisons += 1;
+        add(&mut self.classes, class);
+        self.meet(match (fault_number(word), word as u32) {
+            (0, outcome) if u64::from(outcome) == SAME => "comparison: same",
+            (0, _) => "comparison: different",
+            (13, 0) => "comparison: fault 13, place 0",
+            (13, _) => "comparison: fault 13, place 1",
+            _ => "comparison: fault of the sheet",
+        });
+    }
+
+    fn times(&self, what: &str) -> u64 {
+        self.met.iter().find(|(name, _)| name == what).map_or(0, |&(_, count)| count)
+    }
+
+    /// What was met too seldom.
+    pub fn too_seldom(&self) -> Vec<String> {
+        let rows = WANTED.iter().map(|what| (what, self.times(what)));
+        rows.filter(|&(_, met)| met < LEAST).map(|(what, met)| format!("{what}: {met}")).collect()
+    }
+
+    pub fn print(&self) {
+        println!("\n{:<52} {:>9}", "class", "calls");
+        for (name, count) in &self.classes {
+            println!("{name:<52} {count:>9}");
+        }
+        println!("\n{:<52} {:>9}", "met", "times");
+        for what in WANTED {
+            println!("{what:<52} {:>9}", self.times(what));
+        }
+        println!(
+            "\n{} moves, most in one run {}; {} explorations of {} rounds; highest level {}\n",
+            self.moves, self.most_moves, self.explorations, self.rounds, self.highest_level
+        );
+    }
+}

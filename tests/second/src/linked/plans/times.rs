@@ -1,0 +1,150 @@
+//! Times of planning full sheets: the second planner, and, with the feature `library`, the static
+//! library beside it. Both are built for release and plan the same bytes in the same run, in turns.
+//!
+//! With the argument `library` only the static library is timed, in processor time, and each sheet
+//! has one line for tests/side-by-side: best time in nanoseconds, name, answer, tabs between them.
+
+// Only planning is timed.
+#[allow(dead_code)]
+mod library;
+mod thread_time;
+mod timed_sheets;
+
+use second::codec::door::entry;
+use second::codec::sheet::MAX_JOBS;
+use second::lent::empty::Empty;
+use second::planner::algorithm::Planner;
+use second::planner::door::{self, ANSWER_ENTRIES, PLAN};
+use std::hint::black_box;
+use std::process::ExitCode;
+use std::time::{Duration, Instant};
+use std::{array, env};
+
+const WARM_UP: usize = 3;
+const SAMPLES: usize = 50;
+/// For the library alone: times stray more between two runs of the program than within one.
+const SAMPLES_ALONE: usize = 10;
+
+/// The tables of places, of loads and of the answer.
+struct Tables {
+    places: [u8; 8 * MAX_JOBS],
+    loads: [u8; 8 * 64],
+    answer: [u8; 8 * ANSWER_ENTRIES],
+}
+
+impl Tables {
+    fn new() -> Tables {
+        Tables { places: [0; 8 * MAX_JOBS], loads: [0; 8 * 64], answer: [0; 8 * ANSWER_ENTRIES] }
+    }
+
+    fn all(&mut self) -> [&mut [u8]; 3] {
+        [&mut self.places, &mut self.loads, &mut self.answer]
+    }
+}
+
+/// The library and the second planner, on tables of their own.
+struct Pair {
+    planner: Planner,
+    found: Tables,
+    expected: Tables,
+}
+
+/// The best of N times, each of them taken `samples` times, in turns.
+fn best<const N: usize>(samples: usize, mut time: impl FnMut(usize) -> Duration) -> [Duration; N] {
+    let mut best = [Duration::MAX; N];
+    for sample in 0..WARM_UP + samples {
+        let times: [Duration; N] = array::from_fn(&mut time);
+        if sample >= WARM_UP {
+            best = array::from_fn(|index| best[index].min(times[index]));
+        }
+    }
+    best
+}
+
+fn time<T>(call: impl FnOnce() -> T) -> Duration {
+    let start = Instant::now();
+    black_box(call());
+    start.elapsed()
+}
+
+/// As `time`, while this thread has the processor.
+fn thread_time<T>(call: impl FnOnce() -> T) -> Duration {
+    let start = thread_time::now();
+    black_box(call());
+    thread_time::now() - start
+}
+
+impl Pair {
+    /// The library's result word, if it is linked.
+    fn library(&mut self, sheet: &[u8]) -> Option<u64> {
+        library::plan(black_box(sheet), black_box(self.found.all()), Empty::Pointer)
+    }
+
+    fn second(&mut self, sheet: &[u8]) -> u64 {
+        let [places, loads, answer] = black_box(self.expected.all());
+        door::plan(&mut self.planner, black_box(sheet), places, loads, answer)
+    }
+
+    /// The answer's name, once the two have been held against each other.
+    fn answer(&mut self, name: &str, sheet: &[u8]) -> &'static str {
+        let word = self.second(sheet);
+        if let Some(found) = self.library(sheet) {
+            assert_eq!(found, word, "{name}: the result words differ");
+            assert_eq!(self.found.answer, self.expected.answer, "{name}: the answers differ");
+        }
+        if word == PLAN {
+            "plan"
+        } else {
+            "none"
+        }
+    }
+
+    fn print(&mut self, name: &str, sheet: &[u8]) {
+        let [library, second] = best(SAMPLES, |index| match index {
+            0 => time(|| self.library(sheet)),
+            _ => time(|| self.second(sheet)),
+        });
+        let answer = self.answer(name, sheet);
+        let explored = self.planner.counts().explored;
+        let (moves, rounds) = (entry(&self.expected.answer, 1), explored.rounds);
+        print!("{name:<24} {answer} {moves:>7} {rounds:>8} {:>6}", explored.highest_level);
+        print!(" {:>11.1}", second.as_nanos() as f64 / 1000.0);
+        if library::LINKED {
+            let ratio = library.as_nanos() as f64 / second.as_nanos() as f64;
+            print!(" {:>11.1} {ratio:>7.2}", library.as_nanos() as f64 / 1000.0);
+        }
+        println!();
+    }
+
+    fn print_library(&mut self, name: &str, sheet: &[u8]) {
+        let [library] = best(SAMPLES_ALONE, |_| thread_time(|| self.library(sheet)));
+        println!("{}\t{name}\t{}", library.as_nanos(), self.answer(name, sheet));
+    }
+}
+
+fn print_heading() {
+    println!("full sheets; best of {SAMPLES} after {WARM_UP}, microseconds");
+    print!("{:<29} {:>7} {:>8} {:>6} {:>11}", "", "moves", "rounds", "level", "second");
+    println!("{}", if library::LINKED { "     library   ratio" } else { " (library not linked)" });
+}
+
+fn main() -> ExitCode {
+    let arguments: Vec<String> = env::args().skip(1).collect();
+    let arguments: Vec<&str> = arguments.iter().map(String::as_str).collect();
+    let print = match arguments[..] {
+        [] => Pair::print,
+        ["library"] if library::LINKED => Pair::print_library,
+        _ => {
+            eprintln!("plan_times: no argument, or `library` where the library is linked");
+            return ExitCode::from(2);
+        }
+    };
+    if arguments.is_empty() {
+        print_heading();
+    }
+    let mut pair = Pair { planner: Planner::new(), found: Tables::new(), expected: Tables::new() };
+    for (name, sheet) in timed_sheets::all() {
+        print(&mut pair, name, &sheet);
+    }
+    ExitCode::SUCCESS
+}

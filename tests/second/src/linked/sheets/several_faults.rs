@@ -1,0 +1,68 @@
+//! Reading: several faults of one frame, the same in every run.
+
+use crate::check::Check;
+use crate::fixed_reading::{HEAD, JOB};
+use second::codec::sheet::{Head, Job};
+use second::gen::day::bench_bit;
+use second::gen::draft::{self, head_frame, job_frame, set, Draft};
+
+pub fn all(check: &mut Check) {
+    faults_of_one_head(check);
+    faults_of_one_job(check);
+}
+
+/// Every set of faults that one head can have together.
+fn faults_of_one_head(check: &mut Check) {
+    check.class("reading: several faults of one head");
+    for faults in 0..128 {
+        let has = |fault: u32| faults >> fault & 1 == 1;
+        let benches = if has(0) { 65 } else { 2 };
+        let p = if has(1) { 7 } else { 4 };
+        let mut head = head_frame(Head { benches, p, ..HEAD });
+        set(&mut head, draft::HEAD_SPARE, u64::from(has(2)));
+        if has(3) {
+            head.push(0);
+            set(&mut head, draft::LENGTH, 8);
+        }
+        set(&mut head, draft::KIND, if has(4) { 9 } else { 1 });
+        let mut sheet = Draft::new(HEAD, &[JOB]);
+        // A second head, or the only one.
+        if has(5) {
+            sheet.frames.insert(1, head);
+        } else {
+            sheet.frames[0] = head;
+        }
+        if has(6) {
+            sheet.frames.truncate(if has(5) { 2 } else { 1 });
+            sheet.frames.last_mut().map(Vec::pop);
+        }
+        check.read(&sheet.bytes());
+    }
+}
+
+/// Every set of faults that one job can have together.
+fn faults_of_one_job(check: &mut Check) {
+    check.class("reading: several faults of one job");
+    for faults in 0..512 {
+        let has = |fault: u32| faults >> fault & 1 == 1;
+        let minutes = if has(0) { 0 } else { 5 };
+        let allowed = if has(1) { bench_bit(2) } else { bench_bit(0) };
+        let mut job = job_frame(Job { minutes, allowed });
+        set(&mut job, draft::JOB_SPARE, u64::from(has(2)));
+        if has(3) {
+            job.pop();
+            set(&mut job, draft::LENGTH, 10);
+        }
+        set(&mut job, draft::KIND, if has(4) { 0 } else { 2 });
+        let before = if has(5) { 512 } else { 1 };
+        let mut sheet = Draft::new(HEAD, &vec![JOB; before]);
+        // In its place, before the head, or after the end.
+        let at = if has(6) { 0 } else { before + 1 + usize::from(has(7)) };
+        sheet.frames.insert(at, job);
+        if has(8) {
+            sheet.frames.truncate(at + 1);
+            sheet.frames[at].pop();
+        }
+        check.read(&sheet.bytes());
+    }
+}

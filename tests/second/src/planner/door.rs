@@ -1,0 +1,72 @@
+//! Planning and comparing as the static library offers them: tables of 8-byte numbers, least
+//! significant byte first, and a result word. The layout of the answer table stands here alone.
+
+use super::algorithm::{Answer, Comparison, Planner, Rooms};
+use crate::codec::door::{entries, entry, word, ENTRY_BYTES};
+
+/// The value of the result word for each answer.
+pub const PLAN: u64 = 1;
+pub const LONG: u64 = 2;
+pub const NONE: u64 = 3;
+
+/// The value of the result word for each outcome of a comparison.
+pub const DIFFERENT: u64 = 0;
+pub const SAME: u64 = 1;
+
+/// The entries of the answer table: largest load and moves of a plan; job and 0 of a long one;
+/// set of benches and moves of a none.
+pub const ANSWER_ENTRIES: usize = 2;
+
+/// The entries that a table has room for: a begun one is no room.
+fn room(table: &[u8]) -> usize {
+    table.len() / ENTRY_BYTES
+}
+
+fn put(table: &mut [u8], values: &[u64]) {
+    for (entry, value) in table.chunks_exact_mut(ENTRY_BYTES).zip(values) {
+        entry.copy_from_slice(&value.to_le_bytes());
+    }
+}
+
+/// Plans a sheet. Later bytes of each table keep their contents; after a fault all do, and after
+/// long or none those of places and loads.
+pub fn plan(
+    planner: &mut Planner,
+    sheet: &[u8],
+    places: &mut [u8],
+    loads: &mut [u8],
+    answer: &mut [u8],
+) -> u64 {
+    // A short answer table is tried with the others. Every sheet has a bench, so that a table of
+    // loads without room is fault 13.
+    let has_answer = room(answer) >= ANSWER_ENTRIES;
+    let rooms = Rooms { places: room(places), loads: if has_answer { room(loads) } else { 0 } };
+    match planner.plan(sheet, rooms) {
+        Err(fault) => word(Err(fault)),
+        Ok(Answer::Long { job }) => {
+            put(answer, &[job as u64, 0]);
+            LONG
+        }
+        Ok(Answer::None { benches, moves }) => {
+            put(answer, &[benches.0, moves]);
+            NONE
+        }
+        Ok(Answer::Plan { largest, moves, places: benches, loads: minutes }) => {
+            put(answer, &[largest, moves]);
+            put(places, benches);
+            put(loads, minutes);
+            PLAN
+        }
+    }
+}
+
+/// Compares two lists of places. In a list a begun entry counts and missing bytes are 0.
+pub fn compare(planner: &mut Planner, sheet: &[u8], first: &[u8], second: &[u8]) -> u64 {
+    let list = |table: &[u8]| (0..entries(table)).map(|job| entry(table, job)).collect();
+    let [first, second]: [Vec<u64>; 2] = [list(first), list(second)];
+    match planner.compare(sheet, &first, &second) {
+        Err(fault) => word(Err(fault)),
+        Ok(Comparison::Same) => SAME,
+        Ok(Comparison::Different) => DIFFERENT,
+    }
+}

@@ -1,0 +1,56 @@
+//! Planning through tables: layouts, room, and bytes that keep their contents.
+
+use super::algorithm::Planner;
+use super::door::{self, LONG, NONE, PLAN};
+use super::example_tests::{head, job};
+use crate::codec::door::word;
+use crate::codec::fault::Fault;
+use crate::codec::sheet::{Head, Job};
+use crate::gen::draft::Draft;
+
+const FILL: u8 = 0xA5;
+
+/// The result word and the tables of places, loads and answer, of so many bytes each.
+fn plan(head: Head, jobs: &[Job], rooms: [usize; 3]) -> (u64, [Vec<u8>; 3]) {
+    let mut tables = rooms.map(|room| vec![FILL; room]);
+    let [places, loads, answer] = &mut tables;
+    let sheet = Draft::new(head, jobs).bytes();
+    (door::plan(&mut Planner::new(), &sheet, places, loads, answer), tables)
+}
+
+/// These entries, and so many bytes behind them that keep their contents.
+fn table(entries: &[u64], more: usize) -> Vec<u8> {
+    let mut bytes: Vec<u8> = entries.iter().flat_map(|entry| entry.to_le_bytes()).collect();
+    bytes.extend(vec![FILL; more]);
+    bytes
+}
+
+#[test]
+fn a_plan_fills_three_tables() {
+    let expected = [table(&[1, 0, 0, 0], 9), table(&[6, 2], 8), table(&[6, 1], 1)];
+    assert_eq!(plan(head(2, 4), &[job(2, &[0, 1]); 4], [41, 24, 17]), (PLAN, expected));
+}
+
+#[test]
+fn long_and_none_leave_places_and_loads() {
+    let (jobs, rooms) = ([job(5, &[0, 1]); 3], [24, 16, 16]);
+    let untouched = || (table(&[], 24), table(&[], 16));
+    let (places, loads) = untouched();
+    let none = [places, loads, table(&[0b11 << 62, 0], 0)];
+    assert_eq!(plan(head(2, 8), &jobs, rooms), (NONE, none));
+    let (places, loads) = untouched();
+    let long = [places, loads, table(&[0, 0], 0)];
+    assert_eq!(plan(head(2, 4), &jobs, rooms), (LONG, long));
+}
+
+#[test]
+fn a_begun_entry_is_no_room() {
+    let no_room = word(Err(Fault::new(13, 0)));
+    for target in [4, 8, 9] {
+        for rooms in [[23, 16, 16], [24, 15, 16], [24, 16, 15], [24, 16, 0]] {
+            let untouched = rooms.map(|room| table(&[], room));
+            let answer = plan(head(2, target), &[job(5, &[0, 1]); 3], rooms);
+            assert_eq!(answer, (no_room, untouched));
+        }
+    }
+}

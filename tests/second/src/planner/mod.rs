@@ -1,0 +1,36 @@
+//! The second planner: document 01's run, written from that document and from chapter 4 of
+//! source document 000. Sentences in quotation marks are theirs. Every weight is multiplied by 3q
+//! when it enters the run, so that each comparison is exact.
+//!
+//! - `set`: sets of benches and of rocks.
+//! - `rocks`: heavy jobs as edges between benches; crowded components; peeling.
+//! - `bay`: what a sheet and its target are for the run: limits, own loads, rocks, pebbles.
+//! - `orientation`: directed and neutral rocks, FORCED ORIENTATIONS, the neutral rocks of a plan.
+//! - `explore`: EXPLORE2 with conflict set, activated set and levels.
+//! - `push`: the PUSH operation.
+//! - `algorithm`: Algorithm 2, from bytes to the answer; the comparison of two plans.
+//! - `door`: the same through tables and result words, as the static library has them.
+//!
+//! Words of chapter 4: a *rock* is a heavy job with two benches, a *pebble* a light job with two or
+//! more, *dedicated load* what can lie on one bench only. A bench's own load is its dedicated load
+//! and the pebbles that lie there now; rocks directed to it come on top.
+
+pub mod algorithm;
+pub mod bay;
+pub mod door;
+pub mod explore;
+pub mod orientation;
+pub mod push;
+pub mod rocks;
+pub mod set;
+
+#[cfg(test)]
+mod compare_tests;
+#[cfg(test)]
+mod door_tests;
+#[cfg(test)]
+pub(crate) mod example_tests;
+#[cfg(test)]
+mod literal;
+#[cfg(test)]
+mod run_tests;

@@ -1,0 +1,87 @@
+//! What the programs behind `./bay` and `./show` print for a sheet.
+
+use crate::codec::door::Codec;
+use crate::codec::fault::Fault;
+use crate::codec::sheet::{Head, Sheet};
+use crate::planner::algorithm::{Answer, Planner, Rooms};
+use crate::planner::set::Set;
+
+/// The text of the bay program: "`plan 5 0` (largest load, moves) and `0 0` (job, bench; one line a
+/// job). Else one line: `long` and the job; `none`, the moves and the benches rising; `fault`,
+/// number and place."
+pub fn bay(planner: &mut Planner, sheet: &[u8]) -> String {
+    match planner.plan(sheet, Rooms::FULL) {
+        Err(fault) => fault_line(fault),
+        Ok(Answer::Long { job }) => format!("long {job}\n"),
+        Ok(Answer::None { benches, moves }) => format!("none {moves}{}\n", spaced(benches)),
+        Ok(Answer::Plan { largest, moves, places, .. }) => {
+            let line = |(job, bench)| format!("{job} {bench}\n");
+            let lines: String = places.iter().enumerate().map(line).collect();
+            format!("plan {largest} {moves}\n{lines}")
+        }
+    }
+}
+
+/// The text of the show program: a line for the head and one for each job, or the fault's.
+pub fn show(codec: &mut Codec, sheet: &[u8]) -> String {
+    match codec.read(sheet) {
+        Err(fault) => fault_line(fault),
+        Ok(sheet) => head_line(sheet) + &job_lines(sheet),
+    }
+}
+
+fn head_line(sheet: &Sheet) -> String {
+    let Head { benches, p, q, target } = sheet.head();
+    let jobs = sheet.jobs().len();
+    format!("{benches} benches, share {p}/{q}, target {target} minutes, {jobs} jobs\n")
+}
+
+fn job_lines(sheet: &Sheet) -> String {
+    let jobs = sheet.jobs().iter().enumerate();
+    jobs.map(|(number, job)| {
+        let benches = spaced(Set(job.allowed));
+        format!("job {number}: {} minutes, benches{benches}\n", job.minutes)
+    })
+    .collect()
+}
+
+fn fault_line(Fault { number, place }: Fault) -> String {
+    format!("fault {number} {place}\n")
+}
+
+/// The benches rising, each behind a space.
+fn spaced(benches: Set) -> String {
+    benches.map(|bench| format!(" {bench}")).collect()
+}
+
+#[cfg(test)]
+mod tests {
+    use super::*;
+    use crate::corpus;
+    use crate::samples;
+
+    fn example(name: &str) -> Vec<u8> {
+        let cases = corpus::cases(corpus::TEXT);
+        let case = cases.iter().find(|case| case.name == name).expect("the corpus has it");
+        case.day.draft().bytes()
+    }
+
+    #[test]
+    fn the_bay_program_prints_the_lines_of_document_01() {
+        let mut planner = Planner::new();
+        assert_eq!(bay(&mut planner, &example("example 2")), "plan 5 0\n0 0\n");
+        assert_eq!(bay(&mut planner, &example("example 3")), "long 0\n");
+        assert_eq!(bay(&mut planner, &example("example 4")), "none 0 0 1\n");
+        assert_eq!(bay(&mut planner, &[]), "fault 2 0\n");
+    }
+
+    #[test]
+    fn the_show_program_prints_head_and_jobs() {
+        let mut codec = Codec::default();
+        let job = "5 minutes, benches 0 1";
+        let head = "2 benches, share 4/7, target 9 minutes, 3 jobs";
+        let lines = format!("{head}\njob 0: {job}\njob 1: {job}\njob 2: {job}\n");
+        assert_eq!(show(&mut codec, &samples::example_12()), lines);
+        assert_eq!(show(&mut codec, &samples::faulty()), "fault 6 24\n");
+    }
+}

@@ -1,0 +1,120 @@
+//! Fixed sheets: the corpus with the examples of document 01, lengths about the most that a sheet
+//! may have, the longest texts, and input that comes in pieces.
+
+use crate::check::Check;
+use crate::process::Feed;
+use second::codec::sheet::{Head, Job};
+use second::corpus;
+use second::gen::bay::days;
+use second::gen::day::{bench_bit, Day, MOST_MINUTES, MOST_TARGET};
+use second::hex;
+use second::samples;
+
+pub fn all(check: &mut Check) {
+    examples(check);
+    corpus(check);
+    lengths(check);
+    full(check);
+    blocked(check);
+    pieces(check);
+    scripts(check);
+}
+
+/// Examples 11 and 12; the corpus has the others.
+fn examples(check: &mut Check) {
+    check.class("examples 11 and 12");
+    let [bay, show] = check.sheet(&[], Feed::AtOnce);
+    check.expect("example 11", bay == "fault 2 0\n" && bay == show, &[]);
+    let plain = samples::example_12();
+    let mut longer = plain.clone();
+    longer.splice(10..10, hex::parse("21 00 01 FF"));
+    for sheet in [plain, longer] {
+        let [bay, _] = check.sheet(&sheet, Feed::AtOnce);
+        check.expect("example 12", bay == "plan 15 0\n0 0\n1 0\n2 0\n", &sheet);
+    }
+}
+
+fn corpus(check: &mut Check) {
+    check.class("the corpus");
+    for case in corpus::cases(corpus::TEXT) {
+        check.sheet(&case.day.draft().bytes(), Feed::AtOnce);
+    }
+    check.class("the folder samples/");
+    for (_, sheet) in samples::all() {
+        check.sheet(&sheet, Feed::AtOnce);
+    }
+    check.class("slow full sheets");
+    for (_, sheet) in corpus::SLOW {
+        check.sheet(sheet, Feed::AtOnce);
+    }
+}
+
+/// A day of this length; fault 1 from 65,537 on.
+fn length(check: &mut Check, length: usize, feed: Feed) {
+    let size = days::tiny(&mut check.rng);
+    let mut draft = days::any(&mut check.rng, size).draft();
+    draft.pad_to(&mut check.rng, length);
+    let sheet = draft.bytes();
+    check.expect("the length", sheet.len() == length, &sheet);
+    for text in check.sheet(&sheet, feed) {
+        let too_long = text == "fault 1 0\n";
+        check.expect("fault 1 from 65,537 on", too_long == (length > 65_536), &sheet);
+    }
+}
+
+fn lengths(check: &mut Check) {
+    check.class("about 65,536 bytes");
+    for bytes in [65_535, 65_536, 65_537, 65_538, 131_072] {
+        for _ in 0..3 {
+            length(check, bytes, Feed::AtOnce);
+        }
+    }
+}
+
+/// 512 jobs on 64 benches: the longest lines of each program, and random ones.
+fn full(check: &mut Check) {
+    check.class("512 jobs on 64 benches");
+    let head = Head { benches: 64, p: 126, q: 127, target: MOST_TARGET };
+    let longest = Job { minutes: MOST_MINUTES, allowed: bench_bit(63) };
+    let last_bench = Day { head, jobs: vec![longest; 512] };
+    let choice = Job { minutes: MOST_MINUTES * 126 / 127, allowed: u64::MAX };
+    let mut all_benches = Day { head, jobs: vec![choice; 512] };
+    all_benches.jobs[511] = longest;
+    let mut days = vec![last_bench, all_benches];
+    for _ in 0..4 {
+        let size = days::full(&mut check.rng);
+        days.push(days::any(&mut check.rng, size));
+    }
+    for day in days {
+        check.sheet(&day.draft().bytes(), Feed::AtOnce);
+    }
+}
+
+/// 65 heavy jobs on the 64 benches of one component: all of them are blocking.
+fn blocked(check: &mut Check) {
+    check.class("all 64 benches are blocking");
+    let head = Head { benches: 64, p: 4, q: 7, target: 480 };
+    let pair = |one, two| Job { minutes: 480, allowed: bench_bit(one) | bench_bit(two) };
+    let mut jobs: Vec<Job> = (0..64).map(|bench| pair(bench, (bench + 1) % 64)).collect();
+    jobs.push(pair(0, 32));
+    let sheet = Day { head, jobs }.draft().bytes();
+    let benches: String = (0..64).map(|bench| format!(" {bench}")).collect();
+    let [bay, _] = check.sheet(&sheet, Feed::AtOnce);
+    check.expect("the set", bay == format!("none 0{benches}\n"), &sheet);
+}
+
+/// Input that comes slowly is read whole.
+fn pieces(check: &mut Check) {
+    check.class("input in pieces");
+    check.sheet(&samples::example_12(), Feed::Pieces(1));
+    check.sheet(&samples::day(), Feed::Pieces(7));
+    check.sheet(&samples::none(), Feed::Pieces(100));
+    for bytes in [65_535, 65_536, 65_537, 65_538] {
+        length(check, bytes, Feed::Pieces(500));
+    }
+}
+
+fn scripts(check: &mut Check) {
+    check.class("./bay and ./show from another folder");
+    check.scripts("bay.sheet", &samples::bay());
+}
