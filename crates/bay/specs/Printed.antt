@@ -5,11 +5,11 @@ use Prim.Native.Nat.{ℕ}
 use mathlib.Core.Path.{_≡_}
 use mathlib.Core.List.{List}
 use lib.ListN.{length, take}
-use Rattle.planning.specs.Planner.{given, answerFor, placesIn}
+use Rattle.algorithm.specs.Answer.{answerFor}
 use Rattle.lines.specs.Lines.{linesOf}
 
 unfoldable pub printedLines : List ℕ → List ℕ
-printedLines s = linesOf (given (answerFor s 512 64)) (placesIn (answerFor s 512 64))
+printedLines s = linesOf (answerFor s 512 64 .answer) (answerFor s 512 64 .places)
 
 pub record Prints (s out : List ℕ) (r : ℕ) : Type 0 where
   pub end : r ≡ length (printedLines s)

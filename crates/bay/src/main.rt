@@ -1,9 +1,8 @@
 // Plans the day of a sheet that is read from standard input, and prints the answer.
 ghost use mathlib.Core.Path.{_≡_};
 ghost use mathlib.Core.List.{List};
-ghost use Prim.Native.Nat.{ℕ, min};
+ghost use Prim.Native.Nat.{ℕ};
 ghost use lib.ListN.{length, take};
-ghost use Rattle.frame.specs.Reading.{readSheet, stored};
 ghost use Rattle.bay.specs.Printed.{Prints};
 
 // One byte more than a sheet may have, so that fault 1 can be seen.
@@ -39,16 +38,8 @@ fn text_of(s: &[u8], out: &mut [u8; TEXT_ROOM]) -> usize
 {
     let mut places = [0u64; 512];
     let mut loads = [0u64; 64];
-    let answer = blocking::plan(s, &mut places, &mut loads);
-    let jobs = job_count(s);
+    let filled = blocking::plan(s, &mut places, &mut loads);
+    let jobs = filled.places;
+    let answer = filled.answer;
     lines::text(answer, &places[..jobs], out)
-}
-
-// How many jobs were read of a sheet; there are never more than 512.
-fn job_count(s: &[u8]) -> usize
-    ensures { λ r. ⌜ r ≡ min 512 (stored (readSheet (now (s .entry))) .sheet .count) ⌝ }
-{
-    let reading = frame::read(s);
-    let sheet = reading.sheet;
-    if sheet.count < 512 { sheet.count } else { 512 }
 }

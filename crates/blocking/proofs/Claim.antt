@@ -3,7 +3,7 @@
 --     planner-claim       the claim holds of the reply to any bytes and any two tables, and of the tables after it
 --     answered-claim      so it holds of whatever call is answered so: `Answered` is what the planner's contract ensures
 --     answered-room       who gets one of the three answers had an accepted sheet and tables with room
-use Prim.Native.Nat.{ℕ, _≤_, _<_}
+use Prim.Native.Nat.{ℕ, _+_, _≤_, _<_}
 use mathlib.Core.Path.{_≡_, refl, sym, ap, subst, _∙_}
 use mathlib.Core.Logic.{_⊎_, inl, inr}
 use mathlib.Core.Bool.{true, false}
@@ -133,13 +133,13 @@ module _ (d : Day) where
       same-load : (v : ℕ) → loadOf d (placeIn (front ps places)) v ≡ loadOf d (placeIn ps) v
       same-load v = ap (λ (k : ℕ). d .booked v + k) (sum-cong (d .jobs) _ _ (λ j l. rw (place j l)))
 
-  module _ (accepted : AcceptedDay d) (few : d .benches ≤ 64) where
+  module _ (day-ok : AcceptedDay d) (few : d .benches ≤ 64) where
     pub named-set : (benches : List ℕ) (moves : ℕ) → SoundNone d benches moves → NamedSet d (record { set = setOf benches; moves = moves })
     named-set benches moves n =
         record {
           of-64-bits = setOf-lt 0 benches (n .rising) (λ i l. omega arith) below;
           of-the-head = head-bench;
-          blocking = blocking-cong d (accepted .allowed-below) (oneOf benches) (inSet (setOf benches)) (λ v l. sym (bit v (omega arith))) (n .blocking);
+          blocking = blocking-cong d (day-ok .allowed-below) (oneOf benches) (inSet (setOf benches)) (λ v l. sym (bit v (omega arith))) (n .blocking);
           few-moves = n .few-moves;
         }
       where
@@ -181,11 +181,11 @@ module _ (d : Day) where
 
     none-after : AcceptedDay d → d .benches ≤ 64 → {a : Reply} → SoundAnswer d a → (n : NoneAnswer) → a .answer ≡ None n
         → NamedSet d n × Untouched places loads (front (a .places) places) (front (a .loads) loads)
-    none-after accepted few (plan-sound sound) n e = clash {b = true} refl cc
-    none-after accepted few (long-sound sound) n e = clash {b = true} refl cc
-    none-after accepted few (none-sound {benches = benches} {moves = moves} sound) n e =
+    none-after day-ok few (plan-sound sound) n e = clash {b = true} refl cc
+    none-after day-ok few (long-sound sound) n e = clash {b = true} refl cc
+    none-after day-ok few (none-sound {benches = benches} {moves = moves} sound) n e =
         let same : record { set = setOf benches; moves = moves } ≡ n = cc in
-        (subst (NamedSet d) same (named-set accepted few benches moves sound), record { same-places = refl; same-loads = refl })
+        (subst (NamedSet d) same (named-set day-ok few benches moves sound), record { same-places = refl; same-loads = refl })
 
 plan-given : (a : Answer) → isPlan a ≡ true → (p : PlanAnswer) × (a ≡ Plan p)
 plan-given (Plan p) e = (p, refl)

@@ -1,14 +1,14 @@
 -- What writing takes from C callers and gives back (the header yinqocha.h says the same in words).
 --     headOf            the head fields, handed over as plain numbers
---     jobsIn            the jobs of two tables
+--     contentsIn        what the writer is given: a head, and the jobs of two tables
 --     writtenWord w     what writing returns: the length, or the fault
 use Prim.Native.Nat.{ℕ}
 use mathlib.Core.List.{List}
 use Rattle.fields.specs.declared.sheet.Head.{Head}
-use Rattle.fields.specs.declared.sheet.Job.{Job}
+use Rattle.fields.specs.Contents.{Contents}
 use Rattle.frame.specs.declared.writer.Written.{Written}
 use Rattle.frame.specs.declared.writer.Written.the-variants.{Length, Refusal}
-use Rattle.frame.specs.Writing.{jobsOf}
+use Rattle.frame.specs.Writing.{contentsOf}
 use Rattle.tables.specs.Tables.{numbersOf}
 use Rattle.tables.specs.Words.{faultWord}
 
@@ -16,8 +16,8 @@ abbrev pub headOf : ℕ → ℕ → ℕ → ℕ → Head
 headOf benches p q target = record { benches = benches; p = p; q = q; target = target }
 
 -- The jobs of two tables: minutes, and benches allowed.
-abbrev pub jobsIn : List ℕ → List ℕ → List Job
-jobsIn minutes allowed = jobsOf (numbersOf minutes) (numbersOf allowed)
+abbrev pub contentsIn : Head → List ℕ → List ℕ → Contents
+contentsIn h minutes allowed = contentsOf h (numbersOf minutes) (numbersOf allowed)
 
 abbrev pub writtenWord : Written → ℕ
 writtenWord (Length n) = n

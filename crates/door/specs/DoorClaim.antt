@@ -18,11 +18,10 @@ use mathlib.Core.List.{List}
 use lib.ListN.{length, drop}
 use Rattle.fields.specs.declared.fault.Fault.{Fault}
 use Rattle.fields.specs.declared.fault.Fault.the-variants.{Table}
-use Rattle.fields.specs.declared.sheet.Head.{Head}
-use Rattle.fields.specs.declared.sheet.Job.{Job}
+use Rattle.fields.specs.Contents.{Contents}
 use Rattle.frame.specs.Reading.{accepted, refused, readSheet}
-use Rattle.demand.specs.Demand.{Assignment, loadOf, withinBound, keepsTarget, SomeOver, LongJob, EachFits, moveBound}
-use Rattle.blocking.specs.Answers.{SoundLong}
+use Rattle.day.specs.Day.{Day, dayOf, loadOf, withinBound, moveBound}
+use Rattle.demand.specs.Demand.{Assignment, keepsTarget, SomeOver, LongJob, EachFits, SoundLong}
 use Rattle.blocking.specs.Claim.{SheetRefused, OneCase, Untouched, NamedSet}
 use Rattle.tables.specs.Tables.{entryOf}
 use Rattle.tables.specs.Words.{faultWord}
@@ -30,24 +29,24 @@ use Rattle.tables.specs.Words.{faultWord}
 -- ── the three kinds of calls ──
 
 -- Fault 13: "there are fewer places than jobs, fewer loads than benches, or fewer than two numbers for the answer."
-abbrev pub NoRoomFor : Head → List Job → List ℕ → List ℕ → List ℕ → Type 0
-NoRoomFor h js places loads numbers =
-    (length places < 8 * length js) ⊎ ((length loads < 8 * h .benches) ⊎ (length numbers < 16))
+abbrev pub NoRoomFor : Contents → List ℕ → List ℕ → List ℕ → Type 0
+NoRoomFor c places loads numbers =
+    (length places < 8 * length (c .jobs)) ⊎ ((length loads < 8 * c .head .benches) ⊎ (length numbers < 16))
 
 abbrev pub TablesShort : List ℕ → List ℕ → List ℕ → List ℕ → Type 0
 TablesShort s places loads numbers =
-    (h : Head) × (js : List Job) × (readSheet s ≡ accepted h js) × NoRoomFor h js places loads numbers
+    (c : Contents) × (readSheet s ≡ accepted c) × NoRoomFor c places loads numbers
 
 -- "Every table must have its room whatever the answer will be: places one entry for each job, loads one for each bench,
 -- answer two."
-pub record RoomFor (s places loads numbers : List ℕ) (h : Head) (js : List Job) : Type 0 where
-  pub sheet-accepted : readSheet s ≡ accepted h js
-  pub place-to-a-job : 8 * length js ≤ length places
-  pub load-to-a-bench : 8 * h .benches ≤ length loads
+pub record RoomFor (s places loads numbers : List ℕ) (c : Contents) : Type 0 where
+  pub sheet-accepted : readSheet s ≡ accepted c
+  pub place-to-a-job : 8 * length (c .jobs) ≤ length places
+  pub load-to-a-bench : 8 * c .head .benches ≤ length loads
   pub two-numbers : 16 ≤ length numbers
 
 abbrev pub CanAnswer : List ℕ → List ℕ → List ℕ → List ℕ → Type 0
-CanAnswer s places loads numbers = (h : Head) × (js : List Job) × RoomFor s places loads numbers h js
+CanAnswer s places loads numbers = (c : Contents) × RoomFor s places loads numbers c
 
 -- ── the answers and the tables ──
 
@@ -59,15 +58,15 @@ pub record AllKept (places loads numbers places′ loads′ numbers′ : List �
 -- "Entry j is the bench of job j. Entry b is the load of bench b in minutes. Later bytes of a table keep their
 -- contents."
 -- The answer's two entries are the largest load and the moves made.
-pub record PlanInBytes (h : Head) (js : List Job) (places loads places′ loads′ numbers′ : List ℕ) : Type 0 where
-  pub assignment : Assignment h js (entryOf places′)
-  pub its-loads : (v : ℕ) → v < h .benches → entryOf loads′ v ≡ loadOf js (entryOf places′) v
-  pub within-bound : (v : ℕ) → v < h .benches → withinBound h (entryOf loads′ v) ≡ true
-  pub greatest : (v : ℕ) → v < h .benches → entryOf loads′ v ≤ entryOf numbers′ 0
-  pub one-of-them : (v : ℕ) × (v < h .benches) × (entryOf loads′ v ≡ entryOf numbers′ 0)
-  pub few-moves : entryOf numbers′ 1 ≤ moveBound h js
-  pub later-places-kept : drop (8 * length js) places′ ≡ drop (8 * length js) places
-  pub later-loads-kept : drop (8 * h .benches) loads′ ≡ drop (8 * h .benches) loads
+pub record PlanInBytes (d : Day) (places loads places′ loads′ numbers′ : List ℕ) : Type 0 where
+  pub assignment : Assignment d (entryOf places′)
+  pub its-loads : (v : ℕ) → v < d .benches → entryOf loads′ v ≡ loadOf d (entryOf places′) v
+  pub within-bound : (v : ℕ) → v < d .benches → withinBound d (entryOf loads′ v) ≡ true
+  pub greatest : (v : ℕ) → v < d .benches → entryOf loads′ v ≤ entryOf numbers′ 0
+  pub one-of-them : (v : ℕ) × (v < d .benches) × (entryOf loads′ v ≡ entryOf numbers′ 0)
+  pub few-moves : entryOf numbers′ 1 ≤ moveBound d
+  pub later-places-kept : drop (8 * lengtd) places′ ≡ drop (8 * lengtd) places
+  pub later-loads-kept : drop (8 * d .benches) loads′ ≡ drop (8 * d .benches) loads
   pub as-many-places : length places′ ≡ length places
   pub as-many-loads : length loads′ ≡ length loads
 
@@ -78,32 +77,32 @@ pub record DoorClaim (s places loads numbers : List ℕ) (r : ℕ) (places′ lo
   -- A fault returns its word and writes to no table. First the faults of the sheet, then fault 13.
   pub sheet-refused : (f : Fault) → readSheet s ≡ refused f
       → (r ≡ faultWord f) × AllKept places loads numbers places′ loads′ numbers′
-  pub tables-short : (h : Head) (js : List Job) → readSheet s ≡ accepted h js → NoRoomFor h js places loads numbers
+  pub tables-short : (c : Contents) → readSheet s ≡ accepted c → NoRoomFor c places loads numbers
       → (r ≡ faultWord (Table 0)) × AllKept places loads numbers places′ loads′ numbers′
   -- Else the answer is one of the three.
-  pub one-of-three : (h : Head) (js : List Job) → RoomFor s places loads numbers h js → (r ≡ 1) ⊎ ((r ≡ 2) ⊎ (r ≡ 3))
+  pub one-of-three : (c : Contents) → RoomFor s places loads numbers c → (r ≡ 1) ⊎ ((r ≡ 2) ⊎ (r ≡ 3))
   -- A plan is an assignment, in the tables with its loads, and every load is within the bound.
-  pub plan-right : (h : Head) (js : List Job) → RoomFor s places loads numbers h js
-      → r ≡ 1 → PlanInBytes h js places loads places′ loads′ numbers′
+  pub plan-right : (c : Contents) → RoomFor s places loads numbers c
+      → r ≡ 1 → PlanInBytes (dayOf c) places loads places′ loads′ numbers′
   -- Long names the lowest job with more than T minutes.
-  pub long-right : (h : Head) (js : List Job) → RoomFor s places loads numbers h js
-      → r ≡ 2 → SoundLong h js (entryOf numbers′ 0) × (entryOf numbers′ 1 ≡ 0) × Untouched places loads places′ loads′
+  pub long-right : (c : Contents) → RoomFor s places loads numbers c
+      → r ≡ 2 → SoundLong (dayOf c) (entryOf numbers′ 0) × (entryOf numbers′ 1 ≡ 0) × Untouched places loads places′ loads′
   -- A job above T gives long; after a plan or a none every job is at most T.
-  pub long-given : (h : Head) (js : List Job) → RoomFor s places loads numbers h js
-      → (j : ℕ) → LongJob h js j → r ≡ 2
-  pub plan-fits : (h : Head) (js : List Job) → RoomFor s places loads numbers h js → r ≡ 1 → EachFits h js
-  pub none-fits : (h : Head) (js : List Job) → RoomFor s places loads numbers h js → r ≡ 3 → EachFits h js
+  pub long-given : (c : Contents) → RoomFor s places loads numbers c
+      → (j : ℕ) → LongJob (dayOf c) j → r ≡ 2
+  pub plan-fits : (c : Contents) → RoomFor s places loads numbers c → r ≡ 1 → EachFits (dayOf c)
+  pub none-fits : (c : Contents) → RoomFor s places loads numbers c → r ≡ 3 → EachFits (dayOf c)
   -- None names a blocking set.
-  pub none-right : (h : Head) (js : List Job) → RoomFor s places loads numbers h js
-      → r ≡ 3 → NamedSet h js (entryOf numbers′ 0) (entryOf numbers′ 1) × Untouched places loads places′ loads′
+  pub none-right : (c : Contents) → RoomFor s places loads numbers c
+      → r ≡ 3 → NamedSet (dayOf c) (record { set = entryOf numbers′ 0; moves = entryOf numbers′ 1 }) × Untouched places loads places′ loads′
   -- The answer's table keeps what is after its two entries.
-  pub later-numbers-kept : (h : Head) (js : List Job) → RoomFor s places loads numbers h js
+  pub later-numbers-kept : (c : Contents) → RoomFor s places loads numbers c
       → (drop 16 numbers′ ≡ drop 16 numbers) × (length numbers′ ≡ length numbers)
   -- If any assignment at all keeps every bench within T, a plan is given.
-  pub rival-planned : (h : Head) (js : List Job) → RoomFor s places loads numbers h js
-      → (a : ℕ → ℕ) → Assignment h js a → keepsTarget h js a ≡ true → r ≡ 1
+  pub rival-planned : (c : Contents) → RoomFor s places loads numbers c
+      → (a : ℕ → ℕ) → Assignment (dayOf c) a → keepsTarget (dayOf c) a ≡ true → r ≡ 1
   -- After long or none every assignment leaves some bench above T.
-  pub over-after-long : (h : Head) (js : List Job) → RoomFor s places loads numbers h js
-      → r ≡ 2 → (a : ℕ → ℕ) → Assignment h js a → SomeOver h js a
-  pub over-after-none : (h : Head) (js : List Job) → RoomFor s places loads numbers h js
-      → r ≡ 3 → (a : ℕ → ℕ) → Assignment h js a → SomeOver h js a
+  pub over-after-long : (c : Contents) → RoomFor s places loads numbers c
+      → r ≡ 2 → (a : ℕ → ℕ) → Assignment (dayOf c) a → SomeOver (dayOf c) a
+  pub over-after-none : (c : Contents) → RoomFor s places loads numbers c
+      → r ≡ 3 → (a : ℕ → ℕ) → Assignment (dayOf c) a → SomeOver (dayOf c) a

@@ -11,8 +11,8 @@ use lib.Dec.{ltb}
 use Rattle.sums.specs.Members.{members}
 use Rattle.bits.specs.Bits.{isSet}
 use Rattle.fields.specs.Numbers.{numberOf, placeOf}
-use Rattle.planning.specs.declared.answer.Answer.{Answer}
-use Rattle.planning.specs.declared.answer.Answer.the-variants.{Plan, Long, None, Fault}
+use Rattle.answers.specs.declared.answer.Answer.{Answer}
+use Rattle.answers.specs.declared.answer.Answer.the-variants.{Plan, Long, None, Fault}
 
 -- The last k digits of n, or all where there are fewer.
 unfoldable pub digitsWithin : ℕ → ℕ → List ℕ
@@ -61,8 +61,9 @@ faultLetters = 102 ∷ 97 ∷ 117 ∷ 108 ∷ 116 ∷ []
 -- "`plan 5 0` (largest load, moves) .. Else one line: `long` and the job; `none`, the moves and the benches rising;
 -- `fault`, number and place."
 unfoldable pub linesOf : Answer → List ℕ → List ℕ
-linesOf (Plan largest moves) places =
-    line (planLetters ∷ digits largest ∷ digits moves ∷ []) ++ jobLines (length places) places
-linesOf (Long job) places = line (longLetters ∷ digits job ∷ [])
-linesOf (None set moves) places = line (noneLetters ∷ digits moves ∷ map digits (members 64 (isSet 64 set)))
+linesOf (Plan a) places =
+    line (planLetters ∷ digits (a .largest) ∷ digits (a .moves) ∷ []) ++ jobLines (length places) places
+linesOf (Long a) places = line (longLetters ∷ digits (a .job) ∷ [])
+linesOf (None a) places =
+    line (noneLetters ∷ digits (a .moves) ∷ map digits (members 64 (isSet 64 (a .set))))
 linesOf (Fault f) places = line (faultLetters ∷ digits (numberOf f) ∷ digits (placeOf f) ∷ [])

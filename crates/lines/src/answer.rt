@@ -1,7 +1,7 @@
 // The lines of an answer.
 use crate::buffer;
 use crate::decimal;
-use planning::Answer;
+use answers::Answer;
 ghost use mathlib.Core.List.{[], _∷_, map};
 ghost use lib.ListN.{length};
 ghost use Rattle.sums.specs.Members.{members};
@@ -15,20 +15,20 @@ pub fn text(answer: Answer, places: &[u64], out: &mut [u8]) -> usize
     ensures { λ r. ⌜ Front (now (out .entry)) (linesOf answer (now (places .entry))) (now (out .exit)) r ⌝ }
 {
     match answer {
-        Answer::Plan(largest, moves) => {
+        Answer::Plan(a) => {
             let mut end = buffer::bytes(out, 0, b"plan ");
-            end = pair(out, end, largest, moves);
+            end = pair(out, end, a.largest, a.moves);
             jobs(out, end, places)
         }
-        Answer::Long(job) => {
+        Answer::Long(a) => {
             let mut end = buffer::bytes(out, 0, b"long");
-            end = word(out, end, job as u64);
+            end = word(out, end, a.job);
             end_line(out, end)
         }
-        Answer::None(set, moves) => {
+        Answer::None(a) => {
             let mut end = buffer::bytes(out, 0, b"none");
-            end = word(out, end, moves);
-            end = benches(out, end, set);
+            end = word(out, end, a.moves);
+            end = benches(out, end, a.set);
             end_line(out, end)
         }
         Answer::Fault(f) => {

@@ -4,10 +4,6 @@ ghost use mathlib.Core.Path.{_≡_};
 ghost use Prim.Native.Nat.{_/_, min};
 ghost use mathlib.Core.List.{[], _∷_};
 ghost use Rattle.tables.specs.Tables.{putFitting};
-ghost use Rattle.tables.specs.Unused.{usedOf};
-
-// What an entry of an array is before the planner: no bench and no load.
-pub const UNUSED: u64 = 18446744073709551615;
 
 // The whole entries of a table of so many bytes, at most k.
 pub fn room(bytes: usize, k: usize) -> usize
@@ -17,17 +13,13 @@ pub fn room(bytes: usize, k: usize) -> usize
     if n < k { n } else { k }
 }
 
-// The entries before the first unused one, to the front of a table, as many as it has room for.
+// The numbers, to the front of a table, as many as it has room for.
 pub fn put_front(from: &[u64], t: &mut [u8])
-    ensures { λ _. ⌜ now (t .exit) ≡ putFitting (usedOf (now (from .entry))) (now (t .entry)) ⌝ }
+    ensures { λ _. ⌜ now (t .exit) ≡ putFitting (now (from .entry)) (now (t .entry)) ⌝ }
 {
     let mut i = 0;
     while i < from.len() {
-        let x = from[i];
-        if x == UNUSED {
-            return;
-        }
-        table::put(t, i, x);
+        table::put(t, i, from[i]);
         i += 1;
     }
 }

@@ -3,7 +3,6 @@ mod front;
 mod table;
 mod words;
 
-pub use front::UNUSED;
 pub use front::put_front;
 pub use front::put_pair;
 pub use front::room;

@@ -1,5 +1,5 @@
 // Planning a sheet, for C.
-use planning::Answer;
+use answers::Answer;
 ghost use Rattle.tables.specs.Tables.{roomOf};
 ghost use Rattle.door.specs.DoorClaim.{DoorClaim};
 ghost use Rattle.door.specs.PlanDoor.{doorAnswer, Called};
@@ -28,8 +28,8 @@ pub extern "C" fn yinqocha_plan(
         (now (places .entry)) (now (loads .entry)) (now (answer .entry)) r
         (now (places .exit)) (now (loads .exit)) (now (answer .exit)) ⌝ }
 {
-    let mut p = [tables::UNUSED; 512];
-    let mut l = [tables::UNUSED; 64];
+    let mut p = [0u64; 512];
+    let mut l = [0u64; 64];
     let np = tables::room(places.len(), 512);
     // Without room for the loads every sheet that is read is fault 13.
     let nl = if answer.len() < 16 {
@@ -37,19 +37,23 @@ pub extern "C" fn yinqocha_plan(
     } else {
         tables::room(loads.len(), 64)
     };
-    match blocking::plan(sheet, &mut p[..np], &mut l[..nl]) {
-        Answer::Plan(largest, moves) => {
-            tables::put_front(&p, places);
-            tables::put_front(&l, loads);
-            tables::put_pair(answer, largest, moves);
+    let filled = blocking::plan(sheet, &mut p[..np], &mut l[..nl]);
+    let jobs = filled.places;
+    let benches = filled.loads;
+    tables::put_front(&p[..jobs], places);
+    tables::put_front(&l[..benches], loads);
+    let given = filled.answer;
+    match given {
+        Answer::Plan(a) => {
+            tables::put_pair(answer, a.largest, a.moves);
             PLAN
         }
-        Answer::Long(job) => {
-            tables::put_pair(answer, job as u64, 0);
+        Answer::Long(a) => {
+            tables::put_pair(answer, a.job, 0);
             LONG
         }
-        Answer::None(set, moves) => {
-            tables::put_pair(answer, set, moves);
+        Answer::None(a) => {
+            tables::put_pair(answer, a.set, a.moves);
             NONE
         }
         Answer::Fault(f) => tables::fault_word(f),

@@ -4,7 +4,7 @@ use frame::Written;
 ghost use mathlib.Core.Path.{_≡_};
 ghost use lib.ListN.{length};
 ghost use Rattle.frame.specs.Writing.{writeSheet, output};
-ghost use Rattle.door.specs.Door.{headOf, jobsIn, writtenWord};
+ghost use Rattle.door.specs.Door.{headOf, contentsIn, writtenWord};
 
 // Writes the sheet of a head and of the jobs of two tables to the front of `out`.
 #[no_mangle]
@@ -17,11 +17,14 @@ pub extern "C" fn yinqocha_write(
     allowed: &[u8],
     out: &mut [u8],
 ) -> u64
-    ensures { λ r. ⌜ (r ≡ writtenWord (writeSheet (headOf benches p q target)
-        (jobsIn (now (minutes .entry)) (now (allowed .entry))) (length (now (out .entry)))))
-        × (now (out .exit) ≡ output (writeSheet (headOf benches p q target)
-        (jobsIn (now (minutes .entry)) (now (allowed .entry))) (length (now (out .entry))))
-        (headOf benches p q target) (jobsIn (now (minutes .entry)) (now (allowed .entry))) (now (out .entry))) ⌝ }
+    ensures written { λ r. ⌜ r ≡ writtenWord (writeSheet
+        (contentsIn (headOf benches p q target) (now (minutes .entry)) (now (allowed .entry)))
+        (length (now (out .entry)))) ⌝ }
+    ensures output { λ _. ⌜ now (out .exit) ≡ output
+        (writeSheet (contentsIn (headOf benches p q target) (now (minutes .entry)) (now (allowed .entry)))
+        (length (now (out .entry))))
+        (contentsIn (headOf benches p q target) (now (minutes .entry)) (now (allowed .entry)))
+        (now (out .entry)) ⌝ }
 {
     // 513 jobs are enough to meet fault 9.
     let mut first = [0u64; 513];
