@@ -20,6 +20,7 @@
 -- Two benches, three jobs of 5 on both, T = 8 (example 4):
 --     set-of-no-bench, set-past-the-head, set-too-wide    none with the empty set, with bench 2, with a bit too many
 --     none-with-a-move        none after a move, where no light job has a choice
+--     set-that-fits           none with a set that does not weigh more than k × T (another sheet)
 --     none-changes-places, none-changes-loads     none, and a table changed
 -- Other calls:
 --     empty-sheet-planned     the empty sheet, planned
@@ -37,30 +38,42 @@ use Rattle.bools.proofs.BoolLaws.{clash}
 use Rattle.bits.specs.Bits.{isSet}
 use Rattle.fields.specs.declared.fault.Fault.{Fault}
 use Rattle.fields.specs.declared.fault.Fault.the-variants.{Truncated}
-use Rattle.fields.specs.declared.sheet.Head.{Head}
-use Rattle.fields.specs.declared.sheet.Job.{Job}
+use Rattle.fields.specs.Contents.{Contents}
 use Rattle.fields.specs.Format.{sheetBytes}
 use Rattle.fields.specs.Tests.{hyperEdgeVerdict}
 use Rattle.frame.specs.Reading.{accepted, readFrom, readSheet}
 use Rattle.frame.specs.Writing.{jobsVerdict, writerVerdict}
 use Rattle.frame.proofs.RoundTrip.{write-read-computed}
-use Rattle.demand.specs.SmallSheets.{bay, first, both}
-use Rattle.demand.specs.Demand.{Assignment, allowed, loadOf, keepsTarget, SomeOver}
-use Rattle.algorithm.specs.Answer.{Answer}
-use Rattle.planning.specs.declared.answer.Answer.{Answer as Given}
-use Rattle.planning.specs.declared.answer.Answer.the-variants.{Plan, Long, None, Fault as Faulty}
-use Rattle.planning.specs.Planner.{given, placesAfter, loadsAfter}
+use Rattle.day.specs.Day.{dayOf, heavy, loadOf}
+use Rattle.day.specs.SmallSheets.{sheet, bay, first, second, both}
+use Rattle.demand.specs.Demand.{Assignment, keepsTarget, SomeOver, Placement}
+use Rattle.answers.specs.declared.answer.Answer.{Answer}
+use Rattle.answers.specs.declared.answer.Answer.the-variants.{Plan, Long, None, Fault as Faulty}
+use Rattle.answers.specs.declared.answer.PlanAnswer.{PlanAnswer}
+use Rattle.answers.specs.declared.answer.LongAnswer.{LongAnswer}
+use Rattle.answers.specs.declared.answer.NoneAnswer.{NoneAnswer}
 use Rattle.blocking.specs.Claim.{Answerable, PlannerClaim}
-use Rattle.blocking.proofs.Claim.{equations-claim, no-fault}
-use Rattle.blocking.proofs.ClaimExamples.{head8, jobs8, sheet8, read-8, answer-8, exactPlaces, exactLoads, answerable-exact, places, loads, answerable-8}
+use Rattle.blocking.proofs.Claim.{planner-claim, no-fault}
+use Rattle.blocking.proofs.ClaimExamples.{contents8, sheet8, plan8, read-8, planned-8, answer-8, exactPlaces, exactLoads, answerable-exact}
+use Rattle.blocking.proofs.ClaimExamples.{places, loads, answerable-8}
+
+-- The three answers, by their values.
+abbrev planOf : ℕ → ℕ → PlanAnswer
+planOf largest moves = record { largest = largest; moves = moves }
+
+abbrev longOf : ℕ → LongAnswer
+longOf j = record { job = j }
+
+abbrev noneOf : ℕ → ℕ → NoneAnswer
+noneOf set moves = record { set = set; moves = moves }
 
 -- The first entry of a table that was to be kept.
-pub front : {xs ys : List ℕ} → xs ≡ ys → getD xs 0 0 ≡ getD ys 0 0
-front e = ap (λ (zs : List ℕ). getD zs 0 0) e
+pub first-entry : {xs ys : List ℕ} → xs ≡ ys → getD xs 0 0 ≡ getD ys 0 0
+first-entry e = ap (λ (zs : List ℕ). getD zs 0 0) e
 
 -- ── example 8 ──
 
-abbrev Claimed : Given → List ℕ → List ℕ → Type 0
+abbrev Claimed : Answer → List ℕ → List ℕ → Type 0
 Claimed r places′ loads′ = PlannerClaim sheet8 exactPlaces exactLoads r places′ loads′
 
 abbrev rightPlaces : List ℕ
@@ -69,201 +82,223 @@ rightPlaces = 1 ∷ 0 ∷ 0 ∷ 0 ∷ []
 abbrev rightLoads : List ℕ
 rightLoads = 6 ∷ 2 ∷ []
 
-pub right-claimed : Claimed (Plan 6 1) rightPlaces rightLoads
-right-claimed =
-    let answered = answer-8 4 2 refl in
-    equations-claim sheet8 exactPlaces exactLoads (Plan 6 1) rightPlaces rightLoads
-    (sym (ap given answered)) (sym (ap (λ (a : Answer). placesAfter a exactPlaces) answered)) (sym (ap (λ (a : Answer). loadsAfter a exactLoads) answered))
+pub right-claimed : Claimed (Plan plan8) rightPlaces rightLoads
+right-claimed = rw (answer-8 4 2 refl) at (planner-claim sheet8 exactPlaces exactLoads)
 
-pub load-not-its-own : Claimed (Plan 6 1) rightPlaces (6 ∷ 3 ∷ []) → ⊥
-load-not-its-own c = omega (arith, c .plan-right head8 jobs8 answerable-exact 6 1 refl .its-loads 1 (omega arith))
+pub load-not-its-own : Claimed (Plan (planOf 6 1)) rightPlaces (6 ∷ 3 ∷ []) → ⊥
+load-not-its-own c = omega (arith, c .plan-right contents8 answerable-exact (planOf 6 1) refl .its-loads 1 (omega arith))
 
-pub largest-too-small : Claimed (Plan 5 1) rightPlaces rightLoads → ⊥
-largest-too-small c = omega (arith, c .plan-right head8 jobs8 answerable-exact 5 1 refl .greatest 0 (omega arith))
+pub largest-too-small : Claimed (Plan (planOf 5 1)) rightPlaces rightLoads → ⊥
+largest-too-small c = omega (arith, c .plan-right contents8 answerable-exact (planOf 5 1) refl .greatest 0 (omega arith))
 
-pub largest-too-large : Claimed (Plan 7 1) rightPlaces rightLoads → ⊥
-largest-too-large c = let (v, l, e) = c .plan-right head8 jobs8 answerable-exact 7 1 refl .one-of-them in omega (arith, e, at-most v l)
+pub largest-too-large : Claimed (Plan (planOf 7 1)) rightPlaces rightLoads → ⊥
+largest-too-large c = let (v, l, e) = c .plan-right contents8 answerable-exact (planOf 7 1) refl .one-of-them in omega (arith, e, at-most v l)
   where
     at-most : (v : ℕ) → v < 2 → getD rightLoads v 0 ≤ 6
     at-most zero l = omega arith
     at-most (suc zero) l = omega arith
     at-most (suc (suc v)) l = absurd (omega arith)
 
-pub load-above-bound : Claimed (Plan 8 0) (0 ∷ 0 ∷ 0 ∷ 0 ∷ []) (8 ∷ 0 ∷ []) → ⊥
-load-above-bound c = clash (c .plan-right head8 jobs8 answerable-exact 8 0 refl .within-bound 0 (omega arith)) refl
+pub load-above-bound : Claimed (Plan (planOf 8 0)) (0 ∷ 0 ∷ 0 ∷ 0 ∷ []) (8 ∷ 0 ∷ []) → ⊥
+load-above-bound c = clash (c .plan-right contents8 answerable-exact (planOf 8 0) refl .within-bound 0 (omega arith)) refl
 
-pub bench-lacking : Claimed (Plan 4 0) (0 ∷ 0 ∷ 2 ∷ 2 ∷ []) (4 ∷ 0 ∷ []) → ⊥
+pub bench-lacking : Claimed (Plan (planOf 4 0)) (0 ∷ 0 ∷ 2 ∷ 2 ∷ []) (4 ∷ 0 ∷ []) → ⊥
 unfolding isSet
-bench-lacking c = clash (c .plan-right head8 jobs8 answerable-exact 4 0 refl .assignment .on-allowed 2 (omega arith)) refl
+bench-lacking c = clash (c .plan-right contents8 answerable-exact (planOf 4 0) refl .assignment .on-allowed 2 (omega arith)) refl
 
-pub too-many-moves : Claimed (Plan 6 9) rightPlaces rightLoads → ⊥
+pub too-many-moves : Claimed (Plan (planOf 6 9)) rightPlaces rightLoads → ⊥
 unfolding isSet
-too-many-moves c = omega (arith, c .plan-right head8 jobs8 answerable-exact 6 9 refl .few-moves)
+too-many-moves c = omega (arith, c .plan-right contents8 answerable-exact (planOf 6 9) refl .few-moves)
 
-pub tables-untouched : Claimed (Plan 6 1) exactPlaces exactLoads → ⊥
+pub tables-untouched : Claimed (Plan (planOf 6 1)) exactPlaces exactLoads → ⊥
 unfolding isSet
-tables-untouched c = clash (c .plan-right head8 jobs8 answerable-exact 6 1 refl .assignment .on-allowed 0 (omega arith)) refl
+tables-untouched c = clash (c .plan-right contents8 answerable-exact (planOf 6 1) refl .assignment .on-allowed 0 (omega arith)) refl
 
-pub places-grown : Claimed (Plan 6 1) (1 ∷ 0 ∷ 0 ∷ 0 ∷ 9 ∷ []) rightLoads → ⊥
-places-grown c = omega (arith, c .plan-right head8 jobs8 answerable-exact 6 1 refl .as-many-places)
+pub places-grown : Claimed (Plan (planOf 6 1)) (1 ∷ 0 ∷ 0 ∷ 0 ∷ 9 ∷ []) rightLoads → ⊥
+places-grown c = omega (arith, c .plan-right contents8 answerable-exact (planOf 6 1) refl .as-many-places)
 
-pub loads-grown : Claimed (Plan 6 1) rightPlaces (6 ∷ 2 ∷ 9 ∷ []) → ⊥
-loads-grown c = omega (arith, c .plan-right head8 jobs8 answerable-exact 6 1 refl .as-many-loads)
+pub loads-grown : Claimed (Plan (planOf 6 1)) rightPlaces (6 ∷ 2 ∷ 9 ∷ []) → ⊥
+loads-grown c = omega (arith, c .plan-right contents8 answerable-exact (planOf 6 1) refl .as-many-loads)
 
-pub long-for-none-long : Claimed (Long 0) exactPlaces exactLoads → ⊥
-long-for-none-long c = clash (c .long-right head8 jobs8 answerable-exact 0 refl .0 .is-long .longer) refl
+pub long-for-none-long : Claimed (Long (longOf 0)) exactPlaces exactLoads → ⊥
+long-for-none-long c = clash (c .long-right contents8 answerable-exact (longOf 0) refl .0 .is-long .longer) refl
 
 -- Two jobs on each bench keep every bench within 4.
-pub two-each : Assignment head8 jobs8 (λ j. j / 2) × (keepsTarget head8 jobs8 (λ j. j / 2) ≡ true)
+pub two-each : Assignment (dayOf contents8) (λ j. j / 2) × (keepsTarget (dayOf contents8) (λ j. j / 2) ≡ true)
 unfolding isSet
 two-each = (record { on-allowed = on-both }, refl)
   where
-    on-both : (j : ℕ) → j < 4 → allowed head8 jobs8 j (j / 2) ≡ true
+    on-both : (j : ℕ) → j < 4 → dayOf contents8 .allows j (j / 2) ≡ true
     on-both zero l = refl
     on-both (suc zero) l = refl
     on-both (suc (suc zero)) l = refl
     on-both (suc (suc (suc zero))) l = refl
     on-both (suc (suc (suc (suc j)))) l = absurd (omega arith)
 
-pub none-for-a-rival : (set moves : ℕ) → Claimed (None set moves) exactPlaces exactLoads → ⊥
-none-for-a-rival set moves c =
-    let (largest, m, e) = c .rival-planned head8 jobs8 answerable-exact (λ j. j / 2) (two-each .0) (two-each .1) in
+pub none-for-a-rival : (n : NoneAnswer) → Claimed (None n) exactPlaces exactLoads → ⊥
+none-for-a-rival n c =
+    let (p, e) = c .rival-planned contents8 answerable-exact (λ j. j / 2) (two-each .0) (two-each .1) in
     clash {b = true} refl cc
 
-pub two-each-within : SomeOver head8 jobs8 (λ j. j / 2) → ⊥
+pub two-each-within : SomeOver (dayOf contents8) (λ j. j / 2) → ⊥
 two-each-within (v, l, over) = omega (arith, at-most v l, over)
   where
-    at-most : (v : ℕ) → v < 2 → loadOf jobs8 (λ j. j / 2) v ≤ 4
+    at-most : (v : ℕ) → v < 2 → loadOf (dayOf contents8) (λ j. j / 2) v ≤ 4
     at-most zero l = omega arith
     at-most (suc zero) l = omega arith
     at-most (suc (suc v)) l = absurd (omega arith)
 
-pub long-not-over : (j : ℕ) (places′ loads′ : List ℕ) → Claimed (Long j) places′ loads′ → ⊥
-long-not-over j places′ loads′ c =
-    two-each-within (c .over-after-long head8 jobs8 answerable-exact j refl (λ j. j / 2) (two-each .0))
+pub long-not-over : (l : LongAnswer) (places′ loads′ : List ℕ) → Claimed (Long l) places′ loads′ → ⊥
+long-not-over l places′ loads′ c =
+    two-each-within (c .over-after-long contents8 answerable-exact l refl (λ j. j / 2) (two-each .0))
 
-pub none-not-over : (set moves : ℕ) (places′ loads′ : List ℕ) → Claimed (None set moves) places′ loads′ → ⊥
-none-not-over set moves places′ loads′ c =
-    two-each-within (c .over-after-none head8 jobs8 answerable-exact set moves refl (λ j. j / 2) (two-each .0))
+pub none-not-over : (n : NoneAnswer) (places′ loads′ : List ℕ) → Claimed (None n) places′ loads′ → ⊥
+none-not-over n places′ loads′ c =
+    two-each-within (c .over-after-none contents8 answerable-exact n refl (λ j. j / 2) (two-each .0))
 
 pub fault-for-an-answer : (f : Fault) → Claimed (Faulty f) exactPlaces exactLoads → ⊥
-fault-for-an-answer f c = no-fault (c .one-of-three head8 jobs8 answerable-exact) refl
+fault-for-an-answer f c = no-fault (c .one-of-three contents8 answerable-exact) refl
 
 -- ── longer tables ──
 
 abbrev ClaimedLonger : List ℕ → List ℕ → Type 0
-ClaimedLonger places′ loads′ = PlannerClaim sheet8 places loads (Plan 6 1) places′ loads′
+ClaimedLonger places′ loads′ = PlannerClaim sheet8 places loads (Plan (planOf 6 1)) places′ loads′
 
 pub later-place-changed : ClaimedLonger (1 ∷ 0 ∷ 0 ∷ 0 ∷ 8 ∷ []) (6 ∷ 2 ∷ 9 ∷ []) → ⊥
-later-place-changed c = omega (arith, front (c .plan-right head8 jobs8 answerable-8 6 1 refl .later-places-kept))
+later-place-changed c = omega (arith, first-entry (c .plan-right contents8 answerable-8 (planOf 6 1) refl .later-places-kept))
 
 pub later-load-changed : ClaimedLonger (1 ∷ 0 ∷ 0 ∷ 0 ∷ 9 ∷ []) (6 ∷ 2 ∷ 8 ∷ []) → ⊥
-later-load-changed c = omega (arith, front (c .plan-right head8 jobs8 answerable-8 6 1 refl .later-loads-kept))
+later-load-changed c = omega (arith, first-entry (c .plan-right contents8 answerable-8 (planOf 6 1) refl .later-loads-kept))
 
 -- ── two long jobs ──
 
-abbrev longHead : Head
-longHead = bay 1 4 7 4
-
-abbrev longJobs : List Job
-longJobs = first 5 ∷ first 6 ∷ []
+abbrev longContents : Contents
+longContents = sheet (bay 1 4 7 4) (first 5 ∷ first 6 ∷ [])
 
 abbrev longSheet : List ℕ
-longSheet = sheetBytes longHead longJobs
+longSheet = sheetBytes longContents
 
-long-read : readSheet longSheet ≡ accepted longHead longJobs
+long-read : readSheet longSheet ≡ accepted longContents
 unfolding isSet hyperEdgeVerdict jobsVerdict writerVerdict
-long-read = write-read-computed longHead longJobs refl refl
+long-read = write-read-computed longContents refl refl
 
-abbrev ClaimedLong : Given → List ℕ → List ℕ → Type 0
+abbrev ClaimedLong : Answer → List ℕ → List ℕ → Type 0
 ClaimedLong r places′ loads′ = PlannerClaim longSheet exactLoads (9 ∷ []) r places′ loads′
 
-long-answerable : Answerable longSheet exactLoads (9 ∷ []) longHead longJobs
+long-answerable : Answerable longSheet exactLoads (9 ∷ []) longContents
 long-answerable = record { sheet-accepted = long-read; place-to-a-job = omega arith; load-to-a-bench = omega arith }
 
-pub second-long-named : ClaimedLong (Long 1) exactLoads (9 ∷ []) → ⊥
-second-long-named c = omega (arith, c .long-right longHead longJobs long-answerable 1 refl .0 .lowest 0 (omega arith))
+pub second-long-named : ClaimedLong (Long (longOf 1)) exactLoads (9 ∷ []) → ⊥
+second-long-named c = omega (arith, c .long-right longContents long-answerable (longOf 1) refl .0 .lowest 0 (omega arith))
 
-pub plan-with-a-long-job : (largest moves : ℕ) (places′ loads′ : List ℕ) → ClaimedLong (Plan largest moves) places′ loads′ → ⊥
-plan-with-a-long-job largest moves places′ loads′ c = omega (arith, c .plan-fits longHead longJobs long-answerable largest moves refl 0 (omega arith))
+pub plan-with-a-long-job : (p : PlanAnswer) (places′ loads′ : List ℕ) → ClaimedLong (Plan p) places′ loads′ → ⊥
+plan-with-a-long-job p places′ loads′ c = omega (arith, c .plan-fits longContents long-answerable p refl 0 (omega arith))
 
-pub none-with-a-long-job : (set moves : ℕ) (places′ loads′ : List ℕ) → ClaimedLong (None set moves) places′ loads′ → ⊥
-none-with-a-long-job set moves places′ loads′ c = omega (arith, c .none-fits longHead longJobs long-answerable set moves refl 0 (omega arith))
+pub none-with-a-long-job : (n : NoneAnswer) (places′ loads′ : List ℕ) → ClaimedLong (None n) places′ loads′ → ⊥
+none-with-a-long-job n places′ loads′ c = omega (arith, c .none-fits longContents long-answerable n refl 0 (omega arith))
 
-pub only-long : (r : Given) (places′ loads′ : List ℕ) → ClaimedLong r places′ loads′ → (i : ℕ) × (r ≡ Long i)
-only-long r places′ loads′ c = c .long-given longHead longJobs long-answerable 1 (record { is-job = omega arith; longer = refl })
+pub only-long : (r : Answer) (places′ loads′ : List ℕ) → ClaimedLong r places′ loads′ → (l : LongAnswer) × (r ≡ Long l)
+only-long r places′ loads′ c = c .long-given longContents long-answerable 1 (record { is-job = omega arith; longer = refl })
 
-pub long-changes-places : ClaimedLong (Long 0) (8 ∷ 9 ∷ []) (9 ∷ []) → ⊥
-long-changes-places c = omega (arith, front (c .long-right longHead longJobs long-answerable 0 refl .1 .same-places))
+pub long-changes-places : ClaimedLong (Long (longOf 0)) (8 ∷ 9 ∷ []) (9 ∷ []) → ⊥
+long-changes-places c = omega (arith, first-entry (c .long-right longContents long-answerable (longOf 0) refl .1 .same-places))
 
-pub long-changes-loads : ClaimedLong (Long 0) exactLoads (8 ∷ []) → ⊥
-long-changes-loads c = omega (arith, front (c .long-right longHead longJobs long-answerable 0 refl .1 .same-loads))
+pub long-changes-loads : ClaimedLong (Long (longOf 0)) exactLoads (8 ∷ []) → ⊥
+long-changes-loads c = omega (arith, first-entry (c .long-right longContents long-answerable (longOf 0) refl .1 .same-loads))
 
 -- ── sets that a none may not name ──
 
-abbrev fullHead : Head
-fullHead = bay 2 4 7 8
-
-abbrev fullJobs : List Job
-fullJobs = both 5 ∷ both 5 ∷ both 5 ∷ []
+abbrev fullContents : Contents
+fullContents = sheet (bay 2 4 7 8) (both 5 ∷ both 5 ∷ both 5 ∷ [])
 
 abbrev fullSheet : List ℕ
-fullSheet = sheetBytes fullHead fullJobs
+fullSheet = sheetBytes fullContents
 
-full-read : readSheet fullSheet ≡ accepted fullHead fullJobs
+full-read : readSheet fullSheet ≡ accepted fullContents
 unfolding isSet hyperEdgeVerdict jobsVerdict writerVerdict
-full-read = write-read-computed fullHead fullJobs refl refl
+full-read = write-read-computed fullContents refl refl
 
 abbrev ClaimedNone : ℕ → ℕ → List ℕ → List ℕ → Type 0
-ClaimedNone set moves places′ loads′ = PlannerClaim fullSheet exactPlaces exactLoads (None set moves) places′ loads′
+ClaimedNone set moves places′ loads′ = PlannerClaim fullSheet exactPlaces exactLoads (None (noneOf set moves)) places′ loads′
 
-full-answerable : Answerable fullSheet exactPlaces exactLoads fullHead fullJobs
+full-answerable : Answerable fullSheet exactPlaces exactLoads fullContents
 full-answerable = record { sheet-accepted = full-read; place-to-a-job = omega arith; load-to-a-bench = omega arith }
 
 pub set-of-no-bench : ClaimedNone 0 0 exactPlaces exactLoads → ⊥
 unfolding isSet
-set-of-no-bench c = omega (arith, c .none-right fullHead fullJobs full-answerable 0 0 refl .0 .blocking .some-bench)
+set-of-no-bench c = omega (arith, c .none-right fullContents full-answerable (noneOf 0 0) refl .0 .blocking .some-bench)
 
 -- Bench 2 is the bit of weight 2 ^ 61.
 pub set-past-the-head : ClaimedNone (2 ^ 61) 0 exactPlaces exactLoads → ⊥
 unfolding isSet
-set-past-the-head c = omega (arith, c .none-right fullHead fullJobs full-answerable (2 ^ 61) 0 refl .0 .of-the-head 2 refl)
+set-past-the-head c = omega (arith, c .none-right fullContents full-answerable (noneOf (2 ^ 61) 0) refl .0 .of-the-head 2 refl)
 
 pub set-too-wide : ClaimedNone (2 ^ 64) 0 exactPlaces exactLoads → ⊥
-set-too-wide c = omega (arith, c .none-right fullHead fullJobs full-answerable (2 ^ 64) 0 refl .0 .of-64-bits)
+set-too-wide c = omega (arith, c .none-right fullContents full-answerable (noneOf (2 ^ 64) 0) refl .0 .of-64-bits)
 
 -- All three jobs are heavy.
 pub none-with-a-move : (set : ℕ) → ClaimedNone set 1 exactPlaces exactLoads → ⊥
 unfolding isSet
-none-with-a-move set c = omega (arith, c .none-right fullHead fullJobs full-answerable set 1 refl .0 .few-moves)
+none-with-a-move set c = omega (arith, c .none-right fullContents full-answerable (noneOf set 1) refl .0 .few-moves)
 
 pub none-changes-places : (set : ℕ) → ClaimedNone set 0 (8 ∷ 9 ∷ 9 ∷ 9 ∷ []) exactLoads → ⊥
-none-changes-places set c = omega (arith, front (c .none-right fullHead fullJobs full-answerable set 0 refl .1 .same-places))
+none-changes-places set c = omega (arith, first-entry (c .none-right fullContents full-answerable (noneOf set 0) refl .1 .same-places))
 
 pub none-changes-loads : (set : ℕ) → ClaimedNone set 0 exactPlaces (8 ∷ 9 ∷ []) → ⊥
-none-changes-loads set c = omega (arith, front (c .none-right fullHead fullJobs full-answerable set 0 refl .1 .same-loads))
+none-changes-loads set c = omega (arith, first-entry (c .none-right fullContents full-answerable (noneOf set 0) refl .1 .same-loads))
+
+-- Two benches, T = 5: a heavy job of 4 on each, and light ones of 2 and 1 on bench 0. Both benches block, bench 1 alone
+-- carries 4.
+abbrev oneFullContents : Contents
+oneFullContents = sheet (bay 2 4 7 5) (first 4 ∷ second 4 ∷ first 2 ∷ first 1 ∷ [])
+
+abbrev oneFullSheet : List ℕ
+oneFullSheet = sheetBytes oneFullContents
+
+one-full-read : readSheet oneFullSheet ≡ accepted oneFullContents
+unfolding isSet hyperEdgeVerdict jobsVerdict writerVerdict
+one-full-read = write-read-computed oneFullContents refl refl
+
+one-full-answerable : Answerable oneFullSheet exactPlaces exactLoads oneFullContents
+one-full-answerable = record { sheet-accepted = one-full-read; place-to-a-job = omega arith; load-to-a-bench = omega arith }
+
+-- Bench 1 is the bit of weight 2 ^ 62.
+pub set-that-fits : PlannerClaim oneFullSheet exactPlaces exactLoads (None (noneOf (2 ^ 62) 0)) exactPlaces exactLoads → ⊥
+unfolding isSet
+set-that-fits c =
+    omega (arith, c .none-right oneFullContents one-full-answerable (noneOf (2 ^ 62) 0) refl .0 .blocking .heavier (λ j. j) placed)
+  where
+    own-bench : (j : ℕ) → j < 4 → heavy (dayOf oneFullContents) j ≡ true → dayOf oneFullContents .allows j j ≡ true
+    own-bench zero l is-heavy = refl
+    own-bench (suc zero) l is-heavy = refl
+    own-bench (suc (suc zero)) l is-heavy = clash is-heavy refl
+    own-bench (suc (suc (suc zero))) l is-heavy = clash is-heavy refl
+    own-bench (suc (suc (suc (suc j)))) l is-heavy = absurd (omega arith)
+
+    placed : Placement (dayOf oneFullContents) (λ j. j)
+    placed = record { on-allowed = own-bench; one-to-a-bench = λ e f le lf he hf same. omega arith }
 
 -- ── other calls ──
 
-pub empty-sheet-planned : (largest moves : ℕ) (places′ loads′ : List ℕ) → PlannerClaim [] exactPlaces exactLoads (Plan largest moves) places′ loads′ → ⊥
+pub empty-sheet-planned : (p : PlanAnswer) (places′ loads′ : List ℕ) → PlannerClaim [] exactPlaces exactLoads (Plan p) places′ loads′ → ⊥
 unfolding readSheet readFrom
-empty-sheet-planned largest moves places′ loads′ c = let e = c .sheet-refused (Truncated 0) refl .0 in clash {b = true} refl cc
+empty-sheet-planned p places′ loads′ c = let e = c .sheet-refused (Truncated 0) refl .0 in clash {b = true} refl cc
 
-pub short-table-planned : (largest moves : ℕ) (places′ loads′ : List ℕ)
-    → PlannerClaim sheet8 (9 ∷ 9 ∷ 9 ∷ []) exactLoads (Plan largest moves) places′ loads′ → ⊥
-short-table-planned largest moves places′ loads′ c =
-    let e = c .tables-short head8 jobs8 read-8 (inl (omega arith)) .0 in clash {b = true} refl cc
+pub short-table-planned : (p : PlanAnswer) (places′ loads′ : List ℕ)
+    → PlannerClaim sheet8 (9 ∷ 9 ∷ 9 ∷ []) exactLoads (Plan p) places′ loads′ → ⊥
+short-table-planned p places′ loads′ c =
+    let e = c .tables-short contents8 read-8 (inl (omega arith)) .0 in clash {b = true} refl cc
 
-pub fault-changes-places : (r : Given) (loads′ : List ℕ) → PlannerClaim [] exactPlaces exactLoads r (8 ∷ 9 ∷ 9 ∷ 9 ∷ []) loads′ → ⊥
+pub fault-changes-places : (r : Answer) (loads′ : List ℕ) → PlannerClaim [] exactPlaces exactLoads r (8 ∷ 9 ∷ 9 ∷ 9 ∷ []) loads′ → ⊥
 unfolding readSheet readFrom
-fault-changes-places r loads′ c = omega (arith, front (c .sheet-refused (Truncated 0) refl .1 .same-places))
+fault-changes-places r loads′ c = omega (arith, first-entry (c .sheet-refused (Truncated 0) refl .1 .same-places))
 
-pub fault-changes-loads : (r : Given) (places′ : List ℕ) → PlannerClaim [] exactPlaces exactLoads r places′ (8 ∷ 9 ∷ []) → ⊥
+pub fault-changes-loads : (r : Answer) (places′ : List ℕ) → PlannerClaim [] exactPlaces exactLoads r places′ (8 ∷ 9 ∷ []) → ⊥
 unfolding readSheet readFrom
-fault-changes-loads r places′ c = omega (arith, front (c .sheet-refused (Truncated 0) refl .1 .same-loads))
+fault-changes-loads r places′ c = omega (arith, first-entry (c .sheet-refused (Truncated 0) refl .1 .same-loads))
 
-pub short-changes-places : (r : Given) (loads′ : List ℕ) → PlannerClaim sheet8 (9 ∷ 9 ∷ 9 ∷ []) exactLoads r (8 ∷ 9 ∷ 9 ∷ []) loads′ → ⊥
-short-changes-places r loads′ c = omega (arith, front (c .tables-short head8 jobs8 read-8 (inl (omega arith)) .1 .same-places))
+pub short-changes-places : (r : Answer) (loads′ : List ℕ) → PlannerClaim sheet8 (9 ∷ 9 ∷ 9 ∷ []) exactLoads r (8 ∷ 9 ∷ 9 ∷ []) loads′ → ⊥
+short-changes-places r loads′ c = omega (arith, first-entry (c .tables-short contents8 read-8 (inl (omega arith)) .1 .same-places))
 
-pub short-changes-loads : (r : Given) (places′ : List ℕ) → PlannerClaim sheet8 exactPlaces (9 ∷ []) r places′ (8 ∷ []) → ⊥
-short-changes-loads r places′ c = omega (arith, front (c .tables-short head8 jobs8 read-8 (inr (omega arith)) .1 .same-loads))
+pub short-changes-loads : (r : Answer) (places′ : List ℕ) → PlannerClaim sheet8 exactPlaces (9 ∷ []) r places′ (8 ∷ []) → ⊥
+short-changes-loads r places′ c = omega (arith, first-entry (c .tables-short contents8 read-8 (inr (omega arith)) .1 .same-loads))
