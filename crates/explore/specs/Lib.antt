@@ -1,0 +1,3 @@
+pub mod SetArrays
+pub mod CandidateArrays
+pub mod ExploreArrays
