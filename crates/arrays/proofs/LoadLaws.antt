@@ -1,4 +1,6 @@
--- LoadLaws.
+-- The loads of benches, summed job by job.
+--     own-more, own-length           the loads after one job more
+--     added-left, added-here         the two ways in which a job is added
 use Prim.Native.Nat.{ℕ, _+_, _<_, _^_}
 use mathlib.Core.Path.{_≡_, sym, ap, subst, _∙_}
 use mathlib.Core.Bool.{Bool, true, false}

@@ -1,4 +1,7 @@
--- NumberLaws.
+-- Laws of sums and products that stop, and of the higher of two numbers.
+--     plus-one, plus-fits            sums that do not stop
+--     times-fits, times-exact        products of small numbers
+--     largest-more                   the greatest of one number more
 use Prim.Native.Nat.{ℕ, suc, _+_, _<_, _^_, _*_, _≤_, max}
 use mathlib.Core.Path.{_≡_, _∙_}
 use native.Mathlib.Omega.{arith}

@@ -1,4 +1,6 @@
--- Loads.
+-- Loads of benches, from the amounts of jobs and the places where they lie.
+--     amountOn amount left place v j       what job j puts on bench v, if it is not left
+--     addedAt amount left place own j      the loads with job j
 use Prim.Native.Nat.{ℕ}
 use mathlib.Core.Bool.{Bool, false, cond, not, _&&_}
 use mathlib.Core.List.{List}

@@ -1,4 +1,4 @@
-// Loads of benches, and whether one is activated.
+// Loads of benches.
 use crate::arrays;
 ghost use mathlib.Core.Path.{_≡_};
 ghost use Prim.Native.Nat.{ℕ, _+_, _<_, _^_};

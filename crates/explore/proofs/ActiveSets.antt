@@ -21,11 +21,11 @@ use Rattle.algorithm.specs.Board.{Board, Directions}
 use Rattle.algorithm.specs.Explore.{activate}
 use Rattle.rocks.specs.RockArrays.{withinAt}
 use Rattle.rocks.specs.BoardArrays.{rocksOf, Rocks, Directed, Owned, Rounds}
-use Rattle.explore.specs.ExploreArrays.{activatesAt, ruleOneAt, ruleTwoAt}
+use Rattle.explore.specs.ExploreArrays.{activatesAt, ruleOneAt, ruleTwoAt, Waits}
 use Rattle.rocks.specs.Neighbours.{Here}
-use Rattle.explore.specs.SetArrays.{Covers, Waits}
-use Rattle.explore.specs.CandidateArrays.{someRock, benchOf}
-use Rattle.explore.proofs.CandidateLaws.{candidate-lowest, candidate-none, candidate-below, end-below, rock-ends, few-rocks, few-benches}
+use Rattle.forced.specs.SetArrays.{Covers}
+use Rattle.forced.specs.CandidateArrays.{someRock, benchOf}
+use Rattle.forced.proofs.CandidateLaws.{candidate-lowest, candidate-none, candidate-below, end-below, rock-ends, few-rocks, few-benches}
 use Rattle.explore.proofs.ActivateRun.{Activating, activating-ends, activating-goes-on}
 use Rattle.explore.proofs.RoundSets.{waits-left}
 

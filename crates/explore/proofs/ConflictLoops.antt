@@ -1,6 +1,6 @@
 -- The two loops of the construction of the conflict set, each search through its candidates.
---     Visited                   what a loop through a set keeps of the numbers that it passed
 --     rock-out, rock-starts     a search through the rocks of a bench
+--     fake-lowest               the lowest neutral rock of a bench, where it is in the conflict set
 --     Closes, Closed            what the loop that closes the conflict set keeps, and what it leaves behind
 --     Builds, Ends              the same of the loop with the fake orientations, which keeps the neutral rocks too
 use Prim.Native.Nat.{ℕ, _-_, _≤_, _<_}
@@ -12,25 +12,26 @@ use native.Mathlib.Omega.{arith}
 use lib.Bits.{bitOr}
 use lib.ListN.{getD, set, length}
 use lib.Dec.{eqb, ltb}
-use Rattle.bools.proofs.BoolLaws.{clash, and-right, and-false-right}
+use Rattle.bools.proofs.BoolLaws.{clash, and-right, and-false-right, and-unit}
 use Rattle.bools.proofs.OrderLaws.{lt-or-le}
 use Rattle.sums.specs.Search.{least}
-use Rattle.sums.proofs.SearchLaws.{least-none}
+use Rattle.sums.proofs.SearchLaws.{least-none, least-cong}
 use Rattle.bits.specs.Bits.{isSet}
 use Rattle.rocks.specs.declared.rocks.Limits.{Limits}
 use Rattle.algorithm.specs.Board.{Board, Directions}
 use Rattle.algorithm.specs.Forced.{forcedOrientations}
 use Rattle.algorithm.specs.Explore.{conflictSet, construct}
 use Rattle.arrays.specs.Arrays.{plusOf}
+use Rattle.sets.specs.Sets.{lowestOf}
 use Rattle.rocks.specs.RockArrays.{lowestEnd, touchesAt, otherAt, withinAt}
 use Rattle.rocks.specs.BoardArrays.{rocksOf, Rocks, Directed, Seen, Rounds}
-use Rattle.explore.specs.ExploreArrays.{joinsAt, fakeAt, Built}
+use Rattle.explore.specs.ExploreArrays.{joinsAt, fakeAt, Built, Grew}
 use Rattle.rocks.specs.Neighbours.{Here, Near}
-use Rattle.explore.specs.SetArrays.{Covers, Nowhere, forcesAt, Tails, Grew}
-use Rattle.explore.specs.CandidateArrays.{Neutral, benchOf, rockOf}
+use Rattle.forced.specs.SetArrays.{Covers, Nowhere, forcesAt, Tails}
+use Rattle.forced.specs.CandidateArrays.{Neutral, benchOf, rockOf}
 use Rattle.sets.proofs.SetRun.{Searched, searched-starts}
-use Rattle.explore.proofs.CandidateLaws.{Met, rock-none, rock-met, first-rock, candidate-some, candidate-below, candidate-lowest, candidate-none, rock-ends, few-rocks, few-benches, nowhere as found-nowhere}
-use Rattle.explore.proofs.NeutralLaws.{WithOne, LessOne, neutral-next}
+use Rattle.forced.proofs.CandidateLaws.{Met, rock-none, rock-met, first-rock, candidate-some, candidate-below, candidate-lowest, candidate-none, rock-ends, few-rocks, few-benches, nowhere as found-nowhere}
+use Rattle.forced.proofs.NeutralLaws.{WithOne, LessOne, BothOf, free-least, neutral-next}
 use Rattle.explore.proofs.ConflictRun.{Closing, closing-starts, closing-goes-on, closing-ends, closing-spent, Building, building-starts, building-goes-on, building-ends, building-spent, faked, fake-seen}
 use Rattle.explore.proofs.ConflictSets.{grew-none, grew-join, closed-nowhere, neutral-nowhere, Growing, growing-starts, growing-goes-on, fakes-more, forces-far, joins-tails, fakes-rest}
 
@@ -43,6 +44,14 @@ module _ (here : List ℕ) (P : ℕ → ℕ → Bool) (v : ℕ) where
 
   pub rock-starts : (left : ℕ) → left ≡ getD here v 0 → Searched (getD here v 0) (λ r. P r v) left
   rock-starts left e = subst (Searched (getD here v 0) (λ r. P r v)) (sym e) (searched-starts (getD here v 0) (λ r. P r v))
+
+module _ (n : Limits) (low high dir here : List ℕ) (neutral : ℕ) (H : Here n low high here) (N : Neutral n dir neutral) (v : ℕ) (hv : v < 64) (set : ℕ)
+    (both : BothOf set (getD here v 0) neutral) where
+  pub fake-lowest : (benches : ℕ) (joined : List ℕ) → withinAt benches joined v ≡ true → (r : ℕ) → r ≡ lowestOf set → r ≡ rockOf here (fakeAt benches dir joined) v
+  unfolding rockOf lowestOf
+  fake-lowest benches joined p r e =
+      e ∙ least-cong 64 (isSet 64 set) (λ k. isSet 64 set k && withinAt benches joined v) (λ k l. sym (and-unit (isSet 64 set k) p))
+      ∙ free-least n low high dir here neutral H N v hv set both (λ k. withinAt benches joined v)
 
 module _ (b : Board) (n : Limits) (low high weight : List ℕ) (R : Rocks b n low high weight) (few : rocksOf b ≤ 64) (here : List ℕ) (H : Here n low high here) where
   rocks-fit : n .rocks ≤ 64

@@ -1,5 +1,5 @@
 -- The arrays follow the construction of the conflict set.
---     within-same, father-same, child-same     the tests of the arrays are those of the definition
+--     father-same, child-same       the tests of the arrays are those of the definition
 --     rounds-set                    the array after a bench gets a round
 --     Closing                       what the loop keeps that closes the conflict set; how it goes on, and how it ends
 --     Building                      the same of the loop with the fake orientations

@@ -31,9 +31,9 @@ use Rattle.algorithm.specs.Explore.{within, joins, conflictSet}
 use Rattle.arrays.specs.Arrays.{plusOf}
 use Rattle.rocks.specs.RockArrays.{lowestEnd, touchesAt, otherAt, withinAt}
 use Rattle.rocks.specs.BoardArrays.{rocksOf, rockAt, Rocks, Directed, Rounds}
-use Rattle.explore.specs.ExploreArrays.{joinsAt, fakeAt}
+use Rattle.explore.specs.ExploreArrays.{joinsAt, fakeAt, Grew}
 use Rattle.rocks.specs.Neighbours.{Near}
-use Rattle.explore.specs.SetArrays.{Covers, Nowhere, forcesAt, Tails, Grew}
+use Rattle.forced.specs.SetArrays.{Covers, Nowhere, forcesAt, Tails}
 use Rattle.algorithm.proofs.BoardLaws.{touches-below, other-below, other-touches, other-other}
 use Rattle.algorithm.proofs.GrowthLaws.{directed-towards}
 use Rattle.algorithm.proofs.StepLaws.{steps-towards}

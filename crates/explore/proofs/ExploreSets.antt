@@ -24,12 +24,12 @@ use Rattle.algorithm.specs.Forced.{forcedOrientations}
 use Rattle.algorithm.specs.Explore.{construct, activate, explore}
 use Rattle.arrays.specs.Arrays.{plusOf}
 use Rattle.rocks.specs.BoardArrays.{rocksOf, Rocks, Directed, Seen, Rounds}
-use Rattle.explore.specs.ExploreArrays.{joinsAt, fakeAt, Reaches, openedJoined, Built}
+use Rattle.explore.specs.ExploreArrays.{joinsAt, fakeAt, Reaches, openedJoined, Built, Grew, Waits}
 use Rattle.rocks.specs.Neighbours.{Here, Near, Mapped}
-use Rattle.explore.specs.SetArrays.{Covers, Nowhere, forcesAt, Grew, Waits}
-use Rattle.explore.specs.CandidateArrays.{Neutral}
+use Rattle.forced.specs.SetArrays.{Covers, Nowhere, forcesAt}
+use Rattle.forced.specs.CandidateArrays.{Neutral}
 use Rattle.rocks.specs.Shown.{Shown}
-use Rattle.explore.proofs.CandidateLaws.{rock-ends, few-rocks, few-benches}
+use Rattle.forced.proofs.CandidateLaws.{rock-ends, few-rocks, few-benches}
 use Rattle.explore.proofs.RoundSets.{end-below, Raised, Sets, sets-start, joins-covered, fakes-covered, waits-asked, sets-next}
 use Rattle.explore.proofs.RoundRun.{Exploring, exploring-starts, exploring-joined, exploring-goes-on, exploring-ends, exploring-spent}
 

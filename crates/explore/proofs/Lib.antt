@@ -1,15 +1,10 @@
 pub mod ActivateRun
 pub mod ActiveSets
-pub mod CandidateLaws
 pub mod ConflictLoops
 pub mod ConflictRun
 pub mod ConflictSets
 pub mod ExploreLaws
 pub mod ExploreSets
-pub mod ForcedLoops
-pub mod ForcedRun
-pub mod ForcedSets
-pub mod NeutralLaws
 pub mod OpenRun
 pub mod RoundRun
 pub mod RoundSets

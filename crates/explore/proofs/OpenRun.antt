@@ -1,6 +1,4 @@
 -- The arrays follow the opening of a round, and the search for a bench to activate.
---     Gathered          what a loop over the first k benches keeps that collects those with f
---     some-entry, no-entry     how it goes on where it collects the entries that are not 0
 --     Entering          what the loop keeps by which the benches of a set join the conflict set
 --     some-yes, some-no     how the search through the rocks of a bench ends
 use Prim.Native.Nat.{ℕ, _≤_, _<_}
@@ -20,7 +18,7 @@ use Rattle.bits.specs.Bits.{isSet}
 use Rattle.bits.proofs.SetBits.{isSet-zero}
 use Rattle.sets.specs.Sets.{lowestOf}
 use Rattle.rocks.specs.RockArrays.{withinAt}
-use Rattle.explore.specs.CandidateArrays.{someRock}
+use Rattle.forced.specs.CandidateArrays.{someRock}
 use Rattle.sets.proofs.SetLaws.{lowest-holds}
 use Rattle.sets.proofs.SetRun.{Searched}
 

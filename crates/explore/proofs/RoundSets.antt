@@ -23,9 +23,9 @@ use Rattle.bits.proofs.SetBits.{isSet-zero}
 use Rattle.rocks.specs.declared.rocks.Limits.{Limits}
 use Rattle.arrays.specs.Arrays.{plusOf}
 use Rattle.rocks.specs.RockArrays.{touchesAt, otherAt, withinAt, fatherAt}
-use Rattle.explore.specs.ExploreArrays.{joinsAt, fakeAt, opensAt}
+use Rattle.explore.specs.ExploreArrays.{joinsAt, fakeAt, opensAt, Grew, Waits}
 use Rattle.rocks.specs.Neighbours.{Mapped}
-use Rattle.explore.specs.SetArrays.{Covers, Nowhere, forcesAt, Grew, Waits}
+use Rattle.forced.specs.SetArrays.{Covers, Nowhere, forcesAt}
 use Rattle.rocks.proofs.RockLaws.{other-at-low, other-at-high}
 use Rattle.sets.proofs.SetLaws.{or-isSet}
 

@@ -7,9 +7,11 @@
 --     openedLevels, openedJoined     the two tables with which round i begins
 --     Built, Begun              the arrays show what CONFLICT SET CONSTRUCTION leaves behind, and how a round begins
 --     Reaches b from            entry u of the array is the set of the benches that the pebbles on u allow
+--     Grew                      the set has every bench that has come into the conflict set
+--     Waits                     the set has every bench of the conflict set that is not activated
 use Prim.Native.Nat.{ℕ, _+_, _<_}
 use mathlib.Core.Path.{_≡_}
-use mathlib.Core.Bool.{Bool, false, cond, not, _&&_, _||_}
+use mathlib.Core.Bool.{Bool, true, false, cond, not, _&&_, _||_}
 use mathlib.Core.List.{List}
 use lib.ListN.{getD, set}
 use lib.Dec.{eqb, ltb}
@@ -77,3 +79,13 @@ pub record Begun (b : Board) (i : ℕ) (x : Explored) (opened : ℕ) (rounds lev
 pub record Built (b : Board) (c : Constructed) (dir loads rounds : List ℕ) : Type 0 where
   pub seen : Seen b (c .dir) dir loads
   pub joined : Rounds b (c .joined) rounds
+
+-- ── sets that have every bench at which something can happen ──
+
+abbrev pub Grew : Limits → List ℕ → List ℕ → ℕ → Type 0
+Grew n rounds rounds′ set =
+    (v : ℕ) → v < n .benches → withinAt (n .benches) rounds v ≡ false → withinAt (n .benches) rounds′ v ≡ true → isSet 64 set v ≡ true
+
+abbrev pub Waits : Limits → List ℕ → List ℕ → ℕ → Type 0
+Waits n joined level set =
+    (v : ℕ) → v < n .benches → withinAt (n .benches) joined v ≡ true → withinAt (n .benches) level v ≡ false → isSet 64 set v ≡ true

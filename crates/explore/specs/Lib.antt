@@ -1,3 +1,1 @@
-pub mod SetArrays
-pub mod CandidateArrays
 pub mod ExploreArrays

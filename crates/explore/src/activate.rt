@@ -9,10 +9,9 @@ ghost use Rattle.bits.specs.Bits.{isSet};
 ghost use Rattle.algorithm.specs.Board.{Board, Directions};
 ghost use Rattle.algorithm.specs.Explore.{activate as activated};
 ghost use Rattle.rocks.specs.BoardArrays.{rocksOf, Rocks, Directed, Owned, Rounds};
-ghost use Rattle.explore.specs.ExploreArrays.{ruleOneAt, ruleTwoAt, activatesAt};
+ghost use Rattle.explore.specs.ExploreArrays.{ruleOneAt, ruleTwoAt, activatesAt, Waits};
 ghost use Rattle.rocks.specs.Neighbours.{Here};
-ghost use Rattle.explore.specs.SetArrays.{Waits};
-ghost use Rattle.explore.specs.CandidateArrays.{someRock, benchOf};
+ghost use Rattle.forced.specs.CandidateArrays.{someRock, benchOf};
 
 // rule1 b dir joined v, by the rock r.
 fn rule_one<'a>(

@@ -1,5 +1,4 @@
 // The conflict set and fake orientations.
-use crate::forced;
 use rocks::Limits;
 ghost use mathlib.Core.Path.{_≡_};
 ghost use Prim.Native.Nat.{ℕ, _≤_, _<_};
@@ -7,10 +6,10 @@ ghost use mathlib.Core.List.{List};
 ghost use Rattle.algorithm.specs.Board.{Board, Directions};
 ghost use Rattle.algorithm.specs.Explore.{conflictSet, construct as constructed};
 ghost use Rattle.rocks.specs.BoardArrays.{rocksOf, Rocks, Directed, Seen, Rounds};
-ghost use Rattle.explore.specs.ExploreArrays.{joinsAt, fakeAt, Built};
+ghost use Rattle.explore.specs.ExploreArrays.{joinsAt, fakeAt, Built, Grew};
 ghost use Rattle.rocks.specs.Neighbours.{Here, Near};
-ghost use Rattle.explore.specs.SetArrays.{Covers, Nowhere, forcesAt, Grew};
-ghost use Rattle.explore.specs.CandidateArrays.{Neutral, rockOf, benchOf};
+ghost use Rattle.forced.specs.SetArrays.{Covers, Nowhere, forcesAt};
+ghost use Rattle.forced.specs.CandidateArrays.{Neutral, rockOf, benchOf};
 
 // The lowest rock by which v joins the conflict set, and 64 where there is none.
 fn joining_rock<'a>(

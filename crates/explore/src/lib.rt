@@ -1,8 +1,7 @@
-// EXPLORE2 on arrays: forced orientations, the conflict set, activation, and the rounds.
+// EXPLORE2 on arrays (figure 4.6): the conflict set, activation, and the rounds.
 mod activate;
 mod conflict;
 mod rounds;
-mod forced;
 
 pub use rounds::explore;
 pub use rounds::fill_from;

@@ -1,7 +1,6 @@
 // EXPLORE2: the rounds, with the benches in reach of the round before.
 use crate::activate;
 use crate::conflict;
-use crate::forced;
 use rocks::Limits;
 ghost use mathlib.Core.Path.{_≡_};
 ghost use Prim.Native.Nat.{ℕ, _<_, _≤_};

@@ -4,9 +4,6 @@
 --     lies-none, lies-more     the benches in reach of no job, and of one job more
 --     lies-all, lies-full      the benches in reach of all jobs: after the last job, and where the set has all that can come
 --     reach-shifted        the sets after a shift
---     held-choices         the choices of the jobs show the board's pebbles
---     owned-sums           the loads that an array shows are the sums of the weights
---     moved-owned, moved-reach     after the move of a push the shifted arrays show the next state
 use Prim.Native.Nat.{ℕ, _+_, _-_, _≤_, _<_, _^_, min}
 use mathlib.Core.Path.{_≡_, sym, ap, ap₂, subst, _∙_}
 use mathlib.Core.Logic.{_≢_, inl, inr}

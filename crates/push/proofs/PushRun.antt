@@ -1,6 +1,5 @@
 -- The arrays follow PUSH.
 --     or-first, or-second      a bench with no child, and one with no heavy father
---     has-past, has-in         a bench of a set
 --     goalAt, goal-none, goal-next     the benches that may receive a pebble from a bench
 --     Fills, fills-more        the entries of a list after one turn more of the loop
 --     opens, opens-not, opens-nowhere, opens-more     the benches to which a job may go, and a job that goes nowhere

@@ -1,5 +1,4 @@
 -- PUSH in arrays.
---     hasAt mask v          bench v is in the set that a mask shows
 --     heavyAt               rock r is a father of v that is too heavy for lightFathers
 --     receivesAt, receiving     what canPush asks of v alone: of the arrays, and of the board
 --     Wanted b x wanted     for each level the benches of it that may receive, as a set

@@ -1,4 +1,8 @@
--- BoardLaws.
+-- The arrays show a board.
+--     within-same                    a round of the array is one of the exploration where that of the board is
+--     rock-differs                   different rocks have different jobs
+--     other-at                       the other end of a rock is that of its job
+--     directs-directed, directs-loaded, directs-seen     the arrays after a rock is directed
 use Prim.Native.Nat.{ℕ, _<_, _+_}
 use mathlib.Core.Path.{_≡_, ap₂, _∙_, refl, sym, ap, subst}
 use mathlib.Core.List.{List}

@@ -5,7 +5,7 @@
 --     component-rocks, component-balance     and its rocks and its balance are the day's
 --     component-found        so it is in a set of 64 entries that was empty
 --     balance-cycle, balance-crowded     1 is one cycle, 2 is crowded
---     cycles-are, crowded-bench-is, long-job-is     what the array of balances, and the searches, say of the day
+--     cycles-are, crowded-bench-is       what the array of balances, and the search in it, say of the day
 use Prim.Native.Nat.{ℕ, _≤_, _<_}
 use mathlib.Core.Path.{_≡_, refl, sym, ap, ap₂, subst, _∙_}
 use mathlib.Core.Bool.{Bool, true, false, not, _&&_}

@@ -1,4 +1,6 @@
--- DayRockLaws.
+-- The rocks of a day, in arrays.
+--     day-rock-below, day-rock-holds     the job of a rock
+--     touches-are                        a rock's ends are the benches that its job allows
 use Prim.Native.Nat.{ℕ, _<_}
 use mathlib.Core.Path.{_≡_, sym, subst}
 use mathlib.Core.Bool.{true, _||_}

@@ -1,4 +1,5 @@
--- RockLaws.
+-- The tests at a rock: one law for each way in which the functions return.
+--     lowest-none, lowest-more       the lowest end of no rock, and of one rock more
 use Prim.Native.Nat.{ℕ, _+_}
 use mathlib.Core.Path.{_≡_, refl}
 use mathlib.Core.Bool.{Bool, true}

@@ -1,4 +1,9 @@
--- DayArrays.
+-- What the program's arrays hold of the rocks of a day, and of their components.
+--     dayRocks d, dayRock d r   how many rocks a day has, and the job of rock r
+--     DayRocks d n low high     the arrays hold the day's rocks, with their ends
+--     balanceIn d v             0, 1 or 2 where the component of v has fewer rocks than benches, as many, or more
+--     BalancesTo d v xs         entry u is the balance of u for u below v, and else that or 3
+--     Cycles d balance          the benches whose component has one cycle
 use Prim.Native.Nat.{ℕ, _≤_, _<_}
 use mathlib.Core.Path.{_≡_}
 use mathlib.Core.List.{List}

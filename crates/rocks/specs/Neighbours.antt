@@ -1,4 +1,8 @@
--- Neighbours.
+-- The rocks and the neighbours of each bench, as sets.
+--     Here n low high here        entry v of here is the set of the rocks at bench v
+--     Near n low high near        entry u of near has the other ends of the rocks at bench u
+--     Mapped                      what stays the same in a run: both tables, the set of all benches, and one that has every
+--                                 bench with a rock
 use Prim.Native.Nat.{ℕ, _<_}
 use mathlib.Core.Path.{_≡_}
 use mathlib.Core.Bool.{true, _&&_}

@@ -1,4 +1,8 @@
--- RockArrays.
+-- Tests at a rock, in arrays. Rock r is the one with the r-th lowest job; dir has 0 for a neutral rock, else its bench plus 1.
+--     touchesAt, otherAt             an end of rock r, and its other end
+--     withinAt                       the round of a bench is one of the exploration
+--     fatherAt, childAt              father and child, at an end of rock r
+--     lowestEnd m k low high P       the lowest end of the first k rocks that P holds of, and m where there is none
 use Prim.Native.Nat.{ℕ, zero, suc}
 use mathlib.Core.Bool.{Bool, cond, _&&_, _||_}
 use mathlib.Core.List.{List}

@@ -1,10 +1,9 @@
--- What the functions on neutral rocks read from the arrays.
+-- Sets of benches that neutral rocks join, in arrays.
 --     neutralRock dir r           rock r is neutral
---     followsAt                   and bench v, one of its ends, is marked
 --     insideAt                    and its lower end is in the set
 --     crossesAt                   and one of its ends is in the set, the other is not
 --     joinOf, widenOf, changedOf  the set after one rock, after the first k rocks; whether any of them added a bench
---     linkedAt                    two benches joined by a neutral rock
+--     linksAt, linkedAt           two benches joined by rock r, which is neutral; by some neutral rock
 --     balanceOf rocks size        0, 1 or 2 where there are fewer rocks than benches, as many, or more
 --     Within m k low high         the ends of the first k rocks are below m
 --     Shows m S xs                the array shows the set S of numbers below m

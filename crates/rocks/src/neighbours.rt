@@ -1,6 +1,6 @@
-// The other ends of the rocks at some benches.
-use crate::rocks::Limits;
+// The rocks at each bench, and the other ends of these, as sets.
 use crate::rocks;
+use crate::rocks::Limits;
 ghost use mathlib.Core.Path.{_≡_};
 ghost use Prim.Native.Nat.{ℕ, _<_};
 ghost use mathlib.Core.Bool.{true, _&&_, _||_};

@@ -1,4 +1,4 @@
-// spread.
+// Sets of benches that neutral rocks join, and their balances.
 use crate::rocks::Limits;
 ghost use Prim.Native.Nat.{ℕ};
 ghost use mathlib.Core.Path.{_≡_};

@@ -1,4 +1,7 @@
--- MoveRun.
+-- After the move of a push the shifted arrays show the next state.
+--     held-choices         the choices of the jobs show the board's pebbles
+--     owned-sums           the loads that an array shows are the sums of the weights
+--     moved-owned, moved-reach     the loads and the benches in reach of the next state
 use Prim.Native.Nat.{ℕ, _+_, _-_, _≤_, _<_, _^_}
 use mathlib.Core.Path.{_≡_, refl, sym, ap, ap₂, _∙_}
 use mathlib.Core.Logic.{_≢_, inl, inr}

@@ -1,4 +1,4 @@
--- The tables of an answer, and what they show of it.
+-- The places of an answer: no rock, and one rock more.
 use Prim.Native.Nat.{ℕ, _+_, _-_}
 use mathlib.Core.Path.{_≡_, refl, _∙_}
 use mathlib.Core.List.{List}

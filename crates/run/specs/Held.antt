@@ -1,5 +1,4 @@
 -- What the program's tables hold of a day, and its state of a state of the run.
---     amountOn, addedAt         what a job puts on a bench; the loads with it
 --     isLeft d j, leftJob d r   the jobs of the rocks that are left after the start; the r-th of them
 --     Ready d n ..              the tables that the run reads: numbers, rocks, weights, pebbles and allowed benches of the day
 --     Pushed, Last              what a push makes of a state; the state at which the turns end

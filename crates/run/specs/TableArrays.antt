@@ -1,8 +1,5 @@
--- Tables of the answer, entry by entry.
---     higherOf a b              the higher of two numbers
+-- The places of an answer.
 --     placedOf k job dir place  the places after the first k rocks went where they are directed
---     bitOf v                   bench v as a set
---     setMore, setUpTo n P      a set with one more bench; the benches below n that P holds of
 use Prim.Native.Nat.{ℕ, zero, suc, _-_}
 use mathlib.Core.List.{List}
 use lib.ListN.{getD, set}

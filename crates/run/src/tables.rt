@@ -1,4 +1,4 @@
-// Tables of the answer: weights and places of the rocks, the greatest load, and sets of benches as numbers.
+// Tables of the answer: weights and places of the rocks, and the activated benches.
 ghost use mathlib.Core.Path.{_≡_};
 ghost use lib.ListN.{getD};
 ghost use Rattle.rocks.specs.RockArrays.{withinAt};

@@ -1,11 +1,14 @@
--- BitLaws.
+-- Sets of numbers below 64 by their bits.
+--     leading-least, trailing-least  zeros before the first and behind the last number of a set
+--     choices-count, lowest-leading, highest-trailing     so the processor's counts are those of the set
+--     with-bench, with-none          a set with one more number
+--     set-more                       the numbers with P, one number more
 use Prim.Native.Nat.{ℕ, zero, suc, _+_, _-_, _*_, _/_, _%_, _^_, _≤_, _<_, max}
 use mathlib.Core.Path.{_≡_, refl, sym, ap, _∙_}
 use mathlib.Core.Bool.{true, false, _||_, Bool}
 use mathlib.Core.Logic.{inl, inr}
 use native.Mathlib.Nat.{pow-suc, eq-zero-or-pos, div-lt-iff-lt-mul, div-one}
 use native.Mathlib.Omega.{arith}
-use lib.ListN.{set}
 use lib.Dec.{eqb}
 use lib.Bits.{bitOr}
 use lib.Pow.{pow-mono, pow-pos, pow-lt, pow-add, shl-shr, shr-shr}

@@ -1,4 +1,8 @@
--- GatherLaws.
+-- Loops that collect numbers into a set.
+--     Gathered                       what a loop over the first k numbers keeps that collects those with f
+--     gathered-all, gathered-every, gathered-wide     how it ends
+--     add-yes, add-not               a number that counts, and one that does not
+--     some-entry, no-entry           how it goes on where it collects the entries that are not 0
 use Prim.Native.Nat.{ℕ, _+_, _≤_, _<_}
 use mathlib.Core.Path.{_≡_, refl, sym, ap, subst, _∙_}
 use mathlib.Core.Bool.{Bool, true, false, not, _&&_, _||_}

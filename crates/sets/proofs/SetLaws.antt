@@ -4,6 +4,7 @@
 --     lowest-first              the lowest number of a set: it is in the set, and none below it
 --     above-set                 the numbers of a set that are higher than one
 --     after-set, after-less     a set without its lowest number; as a number it is less
+--     has-past, has-in          whether a number is in a set
 use Prim.Native.Nat.{ℕ, zero, suc, _+_, _-_, _*_, _/_, _%_, _^_, _≤_, _<_, min, max}
 use mathlib.Core.Path.{_≡_, refl, sym, ap, subst, _∙_}
 use mathlib.Core.Bool.{Bool, true, false, not, _&&_, _||_}

@@ -3,6 +3,7 @@
 --     Searched          what a search keeps: g is false of every number of the set that is no longer left
 --     searched-starts, searched-goes-on, searched-found, searched-none     how it starts, goes on and ends
 --     Put, Joined       what a loop that writes to the entries of a set keeps, and one that joins them
+--     Visited           what a loop through a set keeps of the numbers that it passed
 use Prim.Native.Nat.{ℕ, _≤_, _<_, _^_}
 use mathlib.Core.List.{List}
 use mathlib.Core.Path.{_≡_, refl, sym, ap, subst, _∙_}

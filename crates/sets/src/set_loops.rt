@@ -1,4 +1,4 @@
-// Loops over the numbers of a set, the lowest first, and the sets of the rocks at each bench.
+// Loops over sets: the numbers of a set, the lowest first, and sets that are collected.
 use crate::sets;
 ghost use mathlib.Core.Path.{_≡_};
 ghost use Prim.Native.Nat.{ℕ, _<_};

@@ -47,7 +47,7 @@ pub fn above(set: usize, v: usize) -> usize
     set % (1 << (63 - v))
 }
 
-// Whether the set `mask` has bench v, which is the bit of weight 2^(63 - v).
+// Whether the set `mask` has number v.
 pub fn has(mask: usize, v: usize) -> bool
     ensures { λ r. ⌜ r ≡ hasAt mask v ⌝ }
 {
@@ -57,7 +57,7 @@ pub fn has(mask: usize, v: usize) -> bool
     (mask >> (63 - v)) % 2 == 1
 }
 
-// The set `mask` with bench v, where v is below 64.
+// The set `mask` with number v, where v is below 64.
 pub fn with(mask: usize, v: usize) -> usize
     ensures { λ r. ⌜ ((u : ℕ) → u < 64 → isSet 64 r u ≡ (isSet 64 mask u || eqb u v)) ⌝ }
 {
@@ -67,14 +67,14 @@ pub fn with(mask: usize, v: usize) -> usize
     mask | (1 << (63 - v))
 }
 
-// choices d j.
+// How many numbers a set has.
 pub fn choices(allowed: usize) -> usize
     ensures { λ r. ⌜ r ≡ choicesOf allowed ⌝ }
 {
     u64::count_ones(allowed as u64) as usize
 }
 
-// highest d j, of a job with two benches.
+// The highest number of a set that is not empty.
 pub fn highest(allowed: usize) -> usize
     ensures { λ r. ⌜ r ≡ highestOf allowed ⌝ }
 {

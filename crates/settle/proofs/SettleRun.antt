@@ -1,5 +1,4 @@
 -- The arrays follow the rule for the rocks that stay neutral, one direction after another.
---     balance-less, balance-same, balance-more    one for each way in which balance returns
 --     lowest-neutral, neutral-step    the bench and the rock that the searches find are those of the definition
 --     Following                       what the loop of follow keeps; how it goes on, and how it ends
 --     linked-board, spread-board      the benches that the arrays link are those of the board, and so is their closure

@@ -1,4 +1,5 @@
--- SettleArrays.
+-- What the rule for neutral rocks reads from the arrays.
+--     followsAt     rock r is neutral, and bench v, one of its ends, is marked
 use Prim.Native.Nat.{ℕ}
 use mathlib.Core.Bool.{Bool, false, _&&_}
 use mathlib.Core.List.{List}

@@ -1,4 +1,4 @@
-// The rule for the rocks that stay neutral, and the sets of benches that neutral rocks join.
+// The rule for the rocks that stay neutral.
 use rocks::Limits;
 ghost use Prim.Native.Nat.{ℕ, _<_};
 ghost use mathlib.Core.Path.{_≡_};

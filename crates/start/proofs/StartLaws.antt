@@ -1,11 +1,8 @@
 -- Laws of the numbers and lists that a day is put into (StartArrays).
---     times-fits, times-exact        products of small numbers
---     leading-least, trailing-least  zeros before the first and behind the last bench of a set
 --     member-at                      the place of a member
 --     choices-are, lowest-is, highest-is, heavy-is, rock-is, pebble-is, weight-is     a job's numbers are those of the day
 --     bound-is, small-is, limit-is   so are the limits
 --     count-yes, count-no            one more index that is counted, or not
---     with-bench, with-none          a set with one more bench
 --     Gathered                       what the loop that gathers rocks keeps; how it starts, goes on and ends
 use Prim.Native.Nat.{ℕ, zero, suc, _+_, _-_, _*_, _^_, _≤_, _<_}
 use mathlib.Core.Path.{_≡_, refl, sym, ap, ap₂, subst, _∙_}

@@ -1,6 +1,4 @@
 -- The arrays follow the peeling of a day's rocks, one rock after another.
---     rock-below, rock-holds      the rocks of a day
---     touches-are                 a rock's ends are the benches that its job allows
 --     left-count, hanging-is      the rocks left at a bench, and whether it is hanging, as the definition has them
 --     hanging-least, left-first   the bench and the rock that the searches find are those of the definition
 --     Peeling                     what the loop keeps; how it goes on, and how it ends
@@ -8,6 +6,7 @@
 --     gathered-jobs, gathered-rocks     the day's rocks, gathered from the marks of rocks
 --     rocks-are, pebbles-are, weights-are, lowest-are     the tables of a day's jobs
 --     unpeeled-shown, start-shown       the state before the peeling, and after it
+--     long-job-is                 what the search for a long job says of the day
 use Prim.Native.Nat.{ℕ, zero, suc, _-_, _≤_, _<_}
 use mathlib.Core.Path.{_≡_, refl, sym, ap, ap₂, subst, _∙_}
 use mathlib.Core.Bool.{Bool, true, false, _&&_}

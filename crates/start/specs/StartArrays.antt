@@ -1,23 +1,16 @@
 -- What the program's arrays hold of a day before its run.
---     timesOf a b               a × b for a below 2^20 and b below 2^30, and else 0
---     choicesOf, lowestOf, highestOf    how many benches a set has, its lowest and its highest (bit 0 of 64 is the highest bit)
 --     heavyOf, rockOf, pebbleOf         a job's kind, by its numbers
 --     limitsOf                  the limits of a day, with no rocks yet
---     filled n f xs             xs with f i at each place i below n
 --     Bounded d                 a day's numbers are small
 --     Fields d jobs minutes allowed     the arrays hold the day's jobs
---     dayRocks d, dayRock d r   how many rocks a day has, and the job of rock r
---     DayRocks, JobsOf          the arrays hold the day's rocks, with their ends; their jobs
---     balanceIn d v             0, 1 or 2 where the component of v has fewer rocks than benches, as many, or more
---     BalancesTo d v xs         entry u is the balance of u for u below v, and else that or 3
+--     JobsOf d job              the array holds the jobs of the day's rocks
 --     leftRock, leftCount, hangingOf    leftAt, its count, and hanging, in arrays
---     Cycles                    the benches whose component has one cycle
 --     Placed d s left place      the arrays show this state
 use Prim.Native.Nat.{ℕ, _-_, _≤_, _<_, _^_}
 use mathlib.Core.Path.{_≡_}
 use mathlib.Core.Bool.{Bool, true, false, not, _&&_}
 use mathlib.Core.List.{List}
-use lib.ListN.{length, getD, set}
+use lib.ListN.{length, getD}
 use lib.Dec.{eqb, leb, ltb}
 use Rattle.sums.specs.Sum.{count}
 use Rattle.bits.specs.Bits.{isSet}
@@ -71,7 +64,7 @@ pub record Fields (d : Day) (jobs : ℕ) (minutes allowed : List ℕ) : Type 0 w
   pub allows : (j v : ℕ) → j < d .jobs → d .allows j v ≡ (ltb v (d .benches) && isSet 64 (getD allowed j 0) v)
   pub none-above : (j v : ℕ) → j < d .jobs → d .benches ≤ v → v < 64 → isSet 64 (getD allowed j 0) v ≡ false
 
--- And their jobs.
+-- The jobs of the day's rocks.
 abbrev pub JobsOf : Day → List ℕ → Type 0
 JobsOf d job = (r : ℕ) → r < dayRocks d → getD job r 0 ≡ dayRock d r
 

@@ -6,9 +6,8 @@ use mathlib.Core.Path.{refl, ap, _∙_}
 use lib.ListN.{length, length-set}
 use Rattle.algorithm.specs.Board.{Board, Directions}
 use Rattle.rocks.specs.BoardArrays.{rocksOf, Rocks, Directed, Owned, Rounds}
-use Rattle.explore.specs.ExploreArrays.{activatesAt}
+use Rattle.explore.specs.ExploreArrays.{activatesAt, Waits}
 use Rattle.rocks.specs.Neighbours.{Here}
-use Rattle.explore.specs.SetArrays.{Waits}
 use Rattle.explore.proofs.ActivateRun.{Activating, activating-starts, activating-spent}
 use Rattle.explore.proofs.ActiveSets.{Leaving, leaving-starts, leaving-goes-on, active-goes-on, active-ends}
 use borrow.Author.Needs.{needs}

@@ -2,9 +2,9 @@
 use mathlib.Core.Path.{sym, _∙_}
 use native.Mathlib.Omega.{arith}
 use Rattle.explore.specs.ExploreArrays.{activatesAt}
-use Rattle.explore.specs.CandidateArrays.{someRock}
+use Rattle.forced.specs.CandidateArrays.{someRock}
 use Rattle.sets.proofs.SetRun.{lowest-below, Searched, searched-starts, searched-goes-on}
-use Rattle.explore.proofs.CandidateLaws.{bench-found, bench-none}
+use Rattle.forced.proofs.CandidateLaws.{bench-found, bench-none}
 use borrow.Author.Needs.{needs}
 use Rattle.explore.proofs.activate.first_active.Statement.{statement}
 use Rattle.explore.proofs.activate.first_active.Tie as tie

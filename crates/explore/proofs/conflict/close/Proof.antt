@@ -8,7 +8,7 @@ use Rattle.algorithm.specs.Board.{Board, Directions}
 use Rattle.rocks.specs.BoardArrays.{rocksOf, Rocks, Directed, Rounds}
 use Rattle.explore.specs.ExploreArrays.{joinsAt}
 use Rattle.rocks.specs.Neighbours.{Here, Near}
-use Rattle.explore.specs.SetArrays.{Covers}
+use Rattle.forced.specs.SetArrays.{Covers}
 use Rattle.explore.proofs.ConflictLoops.{Closes, closes-starts, closes-goes-on, closes-ends, closes-spent}
 use borrow.Author.Needs.{needs}
 use Rattle.explore.proofs.conflict.close.Statement.{statement}

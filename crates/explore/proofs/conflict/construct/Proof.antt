@@ -8,8 +8,8 @@ use Rattle.algorithm.specs.Board.{Board, Directions}
 use Rattle.rocks.specs.BoardArrays.{rocksOf, Rocks, Seen, Rounds}
 use Rattle.explore.specs.ExploreArrays.{joinsAt, fakeAt}
 use Rattle.rocks.specs.Neighbours.{Here, Near}
-use Rattle.explore.specs.SetArrays.{Covers, Nowhere, forcesAt}
-use Rattle.explore.specs.CandidateArrays.{Neutral}
+use Rattle.forced.specs.SetArrays.{Covers, Nowhere, forcesAt}
+use Rattle.forced.specs.CandidateArrays.{Neutral}
 use Rattle.explore.proofs.ConflictLoops.{Builds, builds-starts, builds-goes-on, builds-ends, builds-spent}
 use borrow.Author.Needs.{needs}
 use Rattle.explore.proofs.conflict.construct.Statement.{statement}

@@ -5,8 +5,8 @@ use lib.ListN.{getD}
 use lib.Dec.{eqb}
 use Rattle.bools.proofs.BoolLaws.{and-false-right, not-true, not-false}
 use Rattle.explore.specs.ExploreArrays.{fakeAt}
-use Rattle.explore.proofs.NeutralLaws.{BothOf, fake-lowest}
-use Rattle.explore.proofs.ConflictLoops.{rock-out}
+use Rattle.forced.proofs.NeutralLaws.{BothOf}
+use Rattle.explore.proofs.ConflictLoops.{fake-lowest, rock-out}
 use borrow.Author.Needs.{needs}
 use Rattle.explore.proofs.conflict.fake_rock.Statement.{statement}
 use Rattle.explore.proofs.conflict.fake_rock.Tie as tie

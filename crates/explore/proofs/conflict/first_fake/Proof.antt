@@ -5,9 +5,9 @@ use native.Mathlib.Omega.{arith}
 use Rattle.rocks.specs.declared.rocks.Limits.{Limits}
 use Rattle.explore.specs.ExploreArrays.{fakeAt}
 use Rattle.rocks.specs.Neighbours.{Here}
-use Rattle.explore.specs.CandidateArrays.{Neutral, someRock}
+use Rattle.forced.specs.CandidateArrays.{Neutral, someRock}
 use Rattle.sets.proofs.SetRun.{Searched, searched-starts, searched-goes-on}
-use Rattle.explore.proofs.CandidateLaws.{rock-found, rock-none, bench-found, bench-none}
+use Rattle.forced.proofs.CandidateLaws.{rock-found, rock-none, bench-found, bench-none}
 use Rattle.sets.proofs.SetRun.{first-below}
 use borrow.Author.Needs.{needs}
 use Rattle.explore.proofs.conflict.first_fake.Statement.{statement}

@@ -1,9 +1,9 @@
 -- No candidate passed joins.
 use native.Mathlib.Omega.{arith}
 use Rattle.explore.specs.ExploreArrays.{joinsAt}
-use Rattle.explore.specs.CandidateArrays.{someRock}
+use Rattle.forced.specs.CandidateArrays.{someRock}
 use Rattle.sets.proofs.SetRun.{Searched, searched-starts, searched-goes-on}
-use Rattle.explore.proofs.CandidateLaws.{rock-found, rock-none, bench-found, bench-none}
+use Rattle.forced.proofs.CandidateLaws.{rock-found, rock-none, bench-found, bench-none}
 use Rattle.sets.proofs.SetRun.{first-below}
 use borrow.Author.Needs.{needs}
 use Rattle.explore.proofs.conflict.first_joining.Statement.{statement}

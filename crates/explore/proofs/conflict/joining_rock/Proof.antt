@@ -9,7 +9,7 @@ use Rattle.rocks.specs.RockArrays.{fatherAt}
 use Rattle.explore.specs.ExploreArrays.{joinsAt}
 use Rattle.arrays.proofs.ArrayLaws.{and-rest}
 use Rattle.sets.proofs.SetRun.{Searched, searched-goes-on}
-use Rattle.explore.proofs.CandidateLaws.{listed-found, listed-none}
+use Rattle.forced.proofs.CandidateLaws.{listed-found, listed-none}
 use Rattle.explore.proofs.ConflictLoops.{rock-out, rock-starts}
 use Rattle.sets.proofs.SetRun.{first-below}
 use borrow.Author.Needs.{needs}

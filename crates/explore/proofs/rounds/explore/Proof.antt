@@ -10,9 +10,9 @@ use Rattle.arrays.specs.Arrays.{plusOf}
 use Rattle.rocks.specs.BoardArrays.{rocksOf, Rocks, Seen, Owned}
 use Rattle.explore.specs.ExploreArrays.{Reaches}
 use Rattle.rocks.specs.Neighbours.{Mapped}
-use Rattle.explore.specs.SetArrays.{Nowhere, forcesAt}
-use Rattle.explore.specs.CandidateArrays.{Neutral}
-use Rattle.explore.proofs.NeutralLaws.{neutral-starts}
+use Rattle.forced.specs.SetArrays.{Nowhere, forcesAt}
+use Rattle.forced.specs.CandidateArrays.{Neutral}
+use Rattle.forced.proofs.NeutralLaws.{neutral-starts}
 use Rattle.explore.proofs.RoundRun.{seen-none}
 use Rattle.explore.proofs.ExploreSets.{covers-stony, Exploration, exploration-starts, exploration-goes-on, exploration-ends, exploration-spent}
 use borrow.Author.Needs.{needs}

@@ -26,12 +26,12 @@ use Rattle.algorithm.proofs.TurnLaws.{outer-stable}
 use Rattle.algorithm.specs.Properties.{Pointed}
 use Rattle.arrays.specs.Arrays.{plusOf}
 use Rattle.rocks.specs.RockArrays.{lowestEnd, touchesAt, otherAt}
-use Rattle.explore.specs.SetArrays.{forcedAt, forcesAt, Covers, Nowhere, Tails}
+use Rattle.forced.specs.SetArrays.{forcedAt, forcesAt, Covers, Nowhere, Tails}
 use Rattle.rocks.specs.BoardArrays.{rocksOf, rockAt, Rocks, Seen}
 use Rattle.rocks.specs.Neighbours.{Here}
-use Rattle.explore.specs.CandidateArrays.{someRock, rockOf, benchOf, Left}
+use Rattle.forced.specs.CandidateArrays.{someRock, rockOf, benchOf, Left}
 use Rattle.rocks.proofs.ScanLaws.{rock-below, rock-holds, touches-at}
-use Rattle.explore.proofs.CandidateLaws.{rock-met, first-rock, candidate-below, candidate-some, candidate-lowest, candidate-none, rock-ends, few-rocks, few-benches}
+use Rattle.forced.proofs.CandidateLaws.{rock-met, first-rock, candidate-below, candidate-some, candidate-lowest, candidate-none, rock-ends, few-rocks, few-benches}
 
 -- ── marked benches ──
 

@@ -3,14 +3,14 @@ use Prim.Native.Nat.{ℕ, _≤_}
 use mathlib.Core.List.{List}
 use native.Mathlib.Omega.{arith}
 use Rattle.rocks.specs.declared.rocks.Limits.{Limits}
-use Rattle.explore.specs.SetArrays.{forcesAt}
+use Rattle.forced.specs.SetArrays.{forcesAt}
 use Rattle.rocks.specs.Neighbours.{Here}
-use Rattle.explore.specs.CandidateArrays.{Neutral, someRock}
+use Rattle.forced.specs.CandidateArrays.{Neutral, someRock}
 use Rattle.sets.proofs.SetRun.{lowest-below, Searched, searched-starts, searched-goes-on}
-use Rattle.explore.proofs.CandidateLaws.{rock-found, rock-none, bench-found, bench-none, bench-left}
+use Rattle.forced.proofs.CandidateLaws.{rock-found, rock-none, bench-found, bench-none, bench-left}
 use borrow.Author.Needs.{needs}
-use Rattle.explore.proofs.forced.first_forcing.Statement.{statement}
-use Rattle.explore.proofs.forced.first_forcing.Tie as tie
+use Rattle.forced.proofs.forced.first_forcing.Statement.{statement}
+use Rattle.forced.proofs.forced.first_forcing.Tie as tie
 
 abbrev Inv-loop : tie.InvT-loop
 Inv-loop bound weight here neutral load cand left₀ left = (left ≤ cand) × ((n : Limits) (low high dir : List ℕ) → Here n low high here → Neutral n dir neutral → Searched cand (someRock here (forcesAt bound weight dir load)) left)

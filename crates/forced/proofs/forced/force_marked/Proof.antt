@@ -5,13 +5,13 @@ use native.Mathlib.Omega.{arith}
 use lib.ListN.{length, length-set}
 use Rattle.algorithm.specs.Board.{Board, Directions}
 use Rattle.rocks.specs.BoardArrays.{rocksOf, Rocks, Seen}
-use Rattle.explore.specs.SetArrays.{forcesAt}
+use Rattle.forced.specs.SetArrays.{forcesAt}
 use Rattle.rocks.specs.Neighbours.{Here}
-use Rattle.explore.specs.CandidateArrays.{Neutral, CoversBut}
-use Rattle.explore.proofs.ForcedLoops.{InnerSets, inner-sets-start, inner-sets-next, inner-sets-ends, inner-sets-spent}
+use Rattle.forced.specs.CandidateArrays.{Neutral, CoversBut}
+use Rattle.forced.proofs.ForcedLoops.{InnerSets, inner-sets-start, inner-sets-next, inner-sets-ends, inner-sets-spent}
 use borrow.Author.Needs.{needs}
-use Rattle.explore.proofs.forced.force_marked.Statement.{statement}
-use Rattle.explore.proofs.forced.force_marked.Tie as tie
+use Rattle.forced.proofs.forced.force_marked.Statement.{statement}
+use Rattle.forced.proofs.forced.force_marked.Tie as tie
 
 abbrev Inv-loop : tie.InvT-loop
 Inv-loop n low high weight here dir₀ load₀ first watch tails₀ neutral₀ cand₀ turns₀ dir load tails neutral cand turns = (length dir ≡ length dir₀) × (length load ≡ length load₀) × ((b : Board) (dirs : Directions) (R : Rocks b n low high weight) (few : rocksOf b ≤ 64) (H : Here n low high here) → Neutral n dir₀ neutral₀ → CoversBut n low high (forcesAt (n .bound) weight dir₀ load₀) watch first → first < 64 → Seen b dirs dir₀ load₀ → InnerSets b n low high weight R here few H dirs first watch dir₀ tails₀ turns dir load cand tails neutral)

@@ -3,10 +3,10 @@ use Prim.Native.Nat.{ℕ}
 use mathlib.Core.Path.{sym, subst, _∙_}
 use native.Mathlib.Omega.{arith}
 use Rattle.sets.proofs.SetRun.{lowest-below, Searched, searched-starts, searched-goes-on}
-use Rattle.explore.proofs.NeutralLaws.{BothOf, exceedsAt, free-found, free-none}
+use Rattle.forced.proofs.NeutralLaws.{BothOf, exceedsAt, free-found, free-none}
 use borrow.Author.Needs.{needs}
-use Rattle.explore.proofs.forced.forced_rock.Statement.{statement}
-use Rattle.explore.proofs.forced.forced_rock.Tie as tie
+use Rattle.forced.proofs.forced.forced_rock.Statement.{statement}
+use Rattle.forced.proofs.forced.forced_rock.Tie as tie
 
 abbrev Inv-loop : tie.InvT-loop
 Inv-loop bound weight here neutral load v left₀ left = Searched left₀ (exceedsAt bound weight load v) left

@@ -5,13 +5,13 @@ use native.Mathlib.Omega.{arith}
 use lib.ListN.{length, length-set}
 use Rattle.algorithm.specs.Board.{Board, Directions}
 use Rattle.rocks.specs.BoardArrays.{rocksOf, Rocks, Seen}
-use Rattle.explore.specs.SetArrays.{forcesAt, Covers}
+use Rattle.forced.specs.SetArrays.{forcesAt, Covers}
 use Rattle.rocks.specs.Neighbours.{Here}
-use Rattle.explore.specs.CandidateArrays.{Neutral}
-use Rattle.explore.proofs.ForcedLoops.{OuterSets, outer-sets-start, outer-sets-next, outer-sets-ends, outer-sets-spent}
+use Rattle.forced.specs.CandidateArrays.{Neutral}
+use Rattle.forced.proofs.ForcedLoops.{OuterSets, outer-sets-start, outer-sets-next, outer-sets-ends, outer-sets-spent}
 use borrow.Author.Needs.{needs}
-use Rattle.explore.proofs.forced.force.Statement.{statement}
-use Rattle.explore.proofs.forced.force.Tie as tie
+use Rattle.forced.proofs.forced.force.Statement.{statement}
+use Rattle.forced.proofs.forced.force.Tie as tie
 
 abbrev Inv-loop : tie.InvT-loop
 Inv-loop n low high weight here watch before dir₀ load₀ left₀ tails₀ neutral₀ turns₀ dir load left tails neutral turns = (length dir ≡ length dir₀) × (length load ≡ length load₀) × ((b : Board) (dirs : Directions) (R : Rocks b n low high weight) (few : rocksOf b ≤ 64) (H : Here n low high here) → Neutral n dir₀ before → Covers n low high (forcesAt (n .bound) weight dir₀ load₀) watch → Seen b dirs dir₀ load₀ → OuterSets b n low high weight R here few H dirs dir₀ turns dir load left tails neutral)

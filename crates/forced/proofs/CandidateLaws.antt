@@ -25,8 +25,8 @@ use Rattle.sets.specs.Sets.{lowestOf}
 use Rattle.rocks.specs.RockArrays.{lowestEnd, touchesAt}
 use Rattle.rocks.specs.BoardArrays.{rocksOf, Rocks}
 use Rattle.rocks.specs.Neighbours.{Here}
-use Rattle.explore.specs.SetArrays.{Covers, Nowhere}
-use Rattle.explore.specs.CandidateArrays.{someRock, rockOf, benchOf, Left}
+use Rattle.forced.specs.SetArrays.{Covers, Nowhere}
+use Rattle.forced.specs.CandidateArrays.{someRock, rockOf, benchOf, Left}
 use Rattle.sets.proofs.SetRun.{Searched, searched-found, searched-none}
 use Rattle.rocks.proofs.ScanLaws.{lowest-least, low-below, high-below}
 

@@ -8,9 +8,9 @@ ghost use lib.ListN.{set};
 ghost use Rattle.algorithm.specs.Board.{Board, Directions};
 ghost use Rattle.algorithm.specs.Forced.{inner, nobody, forcedOrientations};
 ghost use Rattle.rocks.specs.BoardArrays.{rocksOf, Rocks, Seen};
-ghost use Rattle.explore.specs.SetArrays.{forcesAt, Covers, Nowhere, Tails};
+ghost use Rattle.forced.specs.SetArrays.{forcesAt, Covers, Nowhere, Tails};
 ghost use Rattle.rocks.specs.Neighbours.{Here};
-ghost use Rattle.explore.specs.CandidateArrays.{Neutral, rockOf, benchOf, Left, CoversBut};
+ghost use Rattle.forced.specs.CandidateArrays.{Neutral, rockOf, benchOf, Left, CoversBut};
 
 // A bench and a rock at it, and the candidates that are left.
 pub struct Found {

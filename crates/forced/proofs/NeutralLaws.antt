@@ -1,8 +1,8 @@
 -- The neutral rocks as a set.
 --     WithOne, LessOne, BothOf  a set with one more number, one without the numbers of another, and the numbers that two have
 --     exceedsAt                 rock r is too heavy for bench v
+--     free-least                the lowest neutral rock of entry v of here with g
 --     free-found, free-none     how a search through the neutral rocks of entry v of here for one that is forced ends (its loop keeps Searched)
---     fake-lowest               the lowest neutral rock of entry v, where v is in the conflict set
 --     neutral-starts            where no rock is directed, every rock is neutral
 --     neutral-next              after a rock is directed, the set loses it
 use Prim.Native.Nat.{ℕ, _+_, _≤_, _<_}
@@ -24,11 +24,10 @@ use Rattle.bits.proofs.SetBits.{isSet-zero}
 use Rattle.rocks.specs.declared.rocks.Limits.{Limits}
 use Rattle.sets.specs.Sets.{lowestOf}
 use Rattle.arrays.specs.Arrays.{plusOf}
-use Rattle.rocks.specs.RockArrays.{touchesAt, withinAt}
+use Rattle.rocks.specs.RockArrays.{touchesAt}
 use Rattle.rocks.specs.Neighbours.{Here}
-use Rattle.explore.specs.SetArrays.{forcesAt}
-use Rattle.explore.specs.ExploreArrays.{fakeAt}
-use Rattle.explore.specs.CandidateArrays.{Neutral, rockOf}
+use Rattle.forced.specs.SetArrays.{forcesAt}
+use Rattle.forced.specs.CandidateArrays.{Neutral, rockOf}
 use Rattle.sets.proofs.SetRun.{Searched, searched-found, searched-none}
 use Rattle.rocks.proofs.ScanLaws.{and-assoc}
 
@@ -63,7 +62,7 @@ module _ (n : Limits) (low high dir here : List ℕ) (neutral : ℕ) (H : Here n
             and-false-left (g r) (and-false-left (isSet 64 neutral r) p) ∙ sym (and-false-left (eqb (getD dir r 0) 0 && g r) p)
       ]
 
-  free-least : (g : ℕ → Bool) → least 64 (λ r. isSet 64 set r && g r) ≡ least 64 (λ r. isSet 64 (getD here v 0) r && (eqb (getD dir r 0) 0 && g r))
+  pub free-least : (g : ℕ → Bool) → least 64 (λ r. isSet 64 set r && g r) ≡ least 64 (λ r. isSet 64 (getD here v 0) r && (eqb (getD dir r 0) 0 && g r))
   free-least g =
       least-cong 64 (λ r. isSet 64 set r && g r) (λ r. isSet 64 (getD here v 0) r && (eqb (getD dir r 0) 0 && g r)) (free-rock g)
 
@@ -76,12 +75,6 @@ module _ (n : Limits) (low high dir here : List ℕ) (neutral : ℕ) (H : Here n
     pub free-none : left ≤ 0 → 64 ≡ rockOf here (forcesAt bound weight dir load) v
     unfolding rockOf
     free-none none = searched-none set (exceedsAt bound weight load v) left S none ∙ free-least (exceedsAt bound weight load v)
-
-  pub fake-lowest : (benches : ℕ) (joined : List ℕ) → withinAt benches joined v ≡ true → (r : ℕ) → r ≡ lowestOf set → r ≡ rockOf here (fakeAt benches dir joined) v
-  unfolding rockOf lowestOf
-  fake-lowest benches joined p r e =
-      e ∙ least-cong 64 (isSet 64 set) (λ k. isSet 64 set k && withinAt benches joined v) (λ k l. sym (and-unit (isSet 64 set k) p))
-      ∙ free-least (λ k. withinAt benches joined v)
 
 -- ── how the set changes ──
 

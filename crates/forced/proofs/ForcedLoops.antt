@@ -22,16 +22,16 @@ use Rattle.algorithm.specs.Forced.{direct, nobody, inner, forcedOrientations}
 use Rattle.algorithm.specs.Properties.{Pointed}
 use Rattle.arrays.specs.Arrays.{plusOf}
 use Rattle.rocks.specs.RockArrays.{touchesAt, otherAt}
-use Rattle.explore.specs.SetArrays.{forcedAt, forcesAt, Covers, Nowhere, Tails}
+use Rattle.forced.specs.SetArrays.{forcedAt, forcesAt, Covers, Nowhere, Tails}
 use Rattle.rocks.specs.BoardArrays.{rocksOf, rockAt, Rocks, Seen}
 use Rattle.rocks.specs.Neighbours.{Here}
-use Rattle.explore.specs.CandidateArrays.{Neutral, rockOf, benchOf, Left, CoversBut}
+use Rattle.forced.specs.CandidateArrays.{Neutral, rockOf, benchOf, Left, CoversBut}
 use Rattle.sets.proofs.SetLaws.{or-isSet}
-use Rattle.explore.proofs.CandidateLaws.{covers-left, rock-ends, few-rocks, few-benches, nowhere}
-use Rattle.explore.proofs.NeutralLaws.{WithOne, LessOne, neutral-next}
-use Rattle.explore.proofs.ForcedRun.{Inner, inner-starts, inner-next, inner-ends, inner-spent, Outer, outer-starts, outer-goes-on, outer-ends, outer-spent, forced-step}
+use Rattle.forced.proofs.CandidateLaws.{covers-left, rock-ends, few-rocks, few-benches, nowhere}
+use Rattle.forced.proofs.NeutralLaws.{WithOne, LessOne, neutral-next}
+use Rattle.forced.proofs.ForcedRun.{Inner, inner-starts, inner-next, inner-ends, inner-spent, Outer, outer-starts, outer-goes-on, outer-ends, outer-spent, forced-step}
 use Rattle.rocks.proofs.BoardLaws.{directs-seen}
-use Rattle.explore.proofs.ForcedSets.{Inside, forces-marked, forced-marked, forced-forces, bench-same, left-same, search-found, search-none, bench-below, other-near, forces-after, tails-next, nowhere-forced}
+use Rattle.forced.proofs.ForcedSets.{Inside, forces-marked, forced-marked, forced-forces, bench-same, left-same, search-found, search-none, bench-below, other-near, forces-after, tails-next, nowhere-forced}
 
 module _ (b : Board) (n : Limits) (low high weight : List ℕ) (R : Rocks b n low high weight) (here : List ℕ) (few : rocksOf b ≤ 64) (H : Here n low high here) where
   -- ── the inner loop ──

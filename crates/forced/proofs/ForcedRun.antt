@@ -1,5 +1,4 @@
 -- The arrays follow FORCED ORIENTATIONS, one direction after another.
---     directs-directed, directs-loaded    the arrays after a rock is directed
 --     lowest-forcing, first-forced        the bench and the rock that the searches find are those of the definition
 --     Inner, Outer                        what the two loops keep; how they go on, and how they end
 use Prim.Native.Nat.{ℕ, zero, suc, _+_, _-_, _≤_, _<_}
@@ -20,7 +19,7 @@ use Rattle.algorithm.specs.Board.{Board, Directions, touches, other, neutral, l
 use Rattle.algorithm.specs.Forced.{forces, direct, forcing, markedForcing, forcedJob, nobody, inner, outer, forcedOrientations}
 use Rattle.arrays.specs.Arrays.{plusOf}
 use Rattle.rocks.specs.RockArrays.{lowestEnd, touchesAt, otherAt}
-use Rattle.explore.specs.SetArrays.{forcedAt}
+use Rattle.forced.specs.SetArrays.{forcedAt}
 use Rattle.rocks.specs.BoardArrays.{rocksOf, rockAt, Rocks, Seen, Marked}
 use Rattle.algorithm.proofs.StepLaws.{forces-touches, forces-neutral}
 use Rattle.algorithm.proofs.TurnLaws.{forcedJob-forces, inner-stop, inner-go, outer-stop, outer-go}
