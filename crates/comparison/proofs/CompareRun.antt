@@ -38,12 +38,12 @@ use Rattle.algorithm.specs.Answer.{loadOf}
 use Rattle.comparison.specs.declared.compared.Compared.{Compared}
 use Rattle.comparison.specs.declared.compared.Compared.the-variants.{Same, Different, Fault as ComparedFault}
 use Rattle.comparison.specs.Comparison.{givesEach, sameLoads, comparedOf, comparePlans}
-use Rattle.run.specs.PushArrays.{hasAt}
-use Rattle.run.specs.Held.{amountOn}
-use Rattle.run.specs.StartArrays.{filled}
+use Rattle.sets.specs.Sets.{hasAt}
+use Rattle.arrays.specs.Loads.{amountOn}
+use Rattle.arrays.specs.Arrays.{filled}
 use Rattle.comparison.specs.CompareArrays.{fitsAt, givesIn, minutesOn, loadIn, LoadsFit, sameIn}
 use Rattle.comparison.proofs.ComparedCases.{first-faulty, second-faulty, all-same, not-same}
-use Rattle.run.proofs.FilledLaws.{getD-filled}
+use Rattle.arrays.proofs.FilledLaws.{getD-filled}
 
 -- ── a search for an index that fails ──
 

@@ -14,7 +14,7 @@ use lib.ListN.{length, getD}
 use lib.Dec.{eqb}
 use Rattle.sums.specs.Sum.{on, sum}
 use Rattle.sums.specs.Search.{all}
-use Rattle.run.specs.PushArrays.{hasAt}
+use Rattle.sets.specs.Sets.{hasAt}
 
 abbrev pub fitsAt : List ℕ → List ℕ → ℕ → Bool
 fitsAt allowed list j = hasAt (getD allowed j 0) (getD list j 0)

@@ -19,9 +19,9 @@ ghost use Rattle.comparison.specs.CompareArrays.{fitsAt, givesIn, Loads,
 fn fit<'a>(allowed: &'a [u64], list: &'a [u64], j: usize) -> bool
     ensures { λ r. ⌜ r ≡ fitsAt (now (allowed .entry)) (now (list .entry)) j ⌝ }
 {
-    let set = run::entry(allowed, j) as usize;
-    let v = run::entry(list, j) as usize;
-    run::has(set, v)
+    let set = arrays::entry(allowed, j) as usize;
+    let v = arrays::entry(list, j) as usize;
+    sets::has(set, v)
 }
 
 // Whether each job's bench in the list is one of its set.
@@ -56,9 +56,9 @@ fn list_loads<'a>(jobs: usize, minutes: &'a [u64], list: &'a [u64]) -> [usize; 6
     let mut amount = [0usize; 512];
     let mut place = [0usize; 512];
     let mut load = [0usize; 64];
-    run::narrow(jobs, minutes, &mut amount);
-    run::narrow(jobs, list, &mut place);
-    run::own_loads(jobs, &amount, &nothing, &place, &mut load);
+    arrays::narrow(jobs, minutes, &mut amount);
+    arrays::narrow(jobs, list, &mut place);
+    arrays::own_loads(jobs, &amount, &nothing, &place, &mut load);
     load
 }
 
@@ -68,7 +68,7 @@ fn same<'a>(n: usize, a: &'a [usize], b: &'a [usize]) -> bool
 {
     let mut v = 0;
     while v < n {
-        if run::at(a, v) != run::at(b, v) {
+        if arrays::at(a, v) != arrays::at(b, v) {
             return false;
         }
         v += 1;

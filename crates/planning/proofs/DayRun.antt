@@ -23,13 +23,18 @@ use Rattle.algorithm.specs.Start.{start, component, crowdedBench}
 use Rattle.algorithm.specs.Run.{run, turns, budget}
 use Rattle.algorithm.specs.Answer.{Answer, tooLong, none, shown, answerTo}
 use Rattle.algorithm.proofs.Budget.{run-turns}
-use Rattle.run.specs.declared.rocks.Limits.{Limits}
-use Rattle.run.specs.StartArrays.{timesOf, filled, rockOf, pebbleOf, lowestOf, highestOf, limitsOf, Fields, DayRocks, JobsOf, dayRocks, balanceIn}
-use Rattle.run.specs.Arrays.{plusOf}
-use Rattle.run.specs.TableArrays.{setUpTo}
-use Rattle.run.proofs.StartLaws.{times-exact, bound-is, small-is, limit-is}
-use Rattle.run.proofs.StartRun.{rocks-are, pebbles-are, weights-are, gathered-jobs, gathered-rocks}
-use Rattle.run.proofs.ComponentRun.{long-job-is, crowded-bench-is}
+use Rattle.rocks.specs.declared.rocks.Limits.{Limits}
+use Rattle.arrays.specs.Arrays.{timesOf, filled}
+use Rattle.start.specs.StartArrays.{rockOf, pebbleOf, limitsOf, Fields, JobsOf}
+use Rattle.sets.specs.Sets.{lowestOf, highestOf}
+use Rattle.rocks.specs.DayArrays.{DayRocks, dayRocks, balanceIn}
+use Rattle.arrays.specs.Arrays.{plusOf}
+use Rattle.sets.specs.Sets.{setUpTo}
+use Rattle.arrays.proofs.NumberLaws.{times-exact}
+use Rattle.start.proofs.StartLaws.{bound-is, small-is, limit-is}
+use Rattle.start.proofs.StartRun.{rocks-are, pebbles-are, weights-are, gathered-jobs, gathered-rocks}
+use Rattle.start.proofs.StartRun.{long-job-is}
+use Rattle.rocks.proofs.ComponentRun.{crowded-bench-is}
 use Rattle.planning.specs.declared.answer.Answer.{Answer as Given}
 use Rattle.planning.specs.declared.answer.Answer.the-variants.{Long, None}
 use Rattle.planning.specs.Planner.{setOf, given, Answered}

@@ -26,13 +26,14 @@ use Rattle.sums.proofs.MembersLaws.{members-snoc-true, members-snoc-false}
 use Rattle.algorithm.specs.Day.{Day, weight, pebble, bound, small, limit, longJob}
 use Rattle.algorithm.specs.Answer.{plan, loadOf, loadsOf, largestOf}
 use Rattle.planning.specs.declared.answer.Answer.the-variants.{Plan}
-use Rattle.run.specs.Arrays.{plusOf}
-use Rattle.run.specs.StartArrays.{filled, Fields}
-use Rattle.run.specs.TableArrays.{bitOf, setMore, setUpTo}
-use Rattle.run.specs.Held.{amountOn}
+use Rattle.arrays.specs.Arrays.{plusOf}
+use Rattle.arrays.specs.Arrays.{filled}
+use Rattle.start.specs.StartArrays.{Fields}
+use Rattle.sets.specs.Sets.{bitOf, setMore, setUpTo}
+use Rattle.arrays.specs.Loads.{amountOn}
 use Rattle.planning.specs.declared.answer.Answer.{Answer as Given}
 use Rattle.planning.specs.Planner.{setOf, Answered}
-use Rattle.run.proofs.RocksRun.{left-count, left-jobs, left-lows, left-highs}
+use Rattle.start.proofs.RocksRun.{left-count, left-jobs, left-lows, left-highs}
 use Rattle.run.proofs.HeldLaws.{few-left}
 use Rattle.bits.specs.Bits.{isSet}
 use Rattle.algorithm.specs.Start.{crowdedBench}
@@ -40,7 +41,8 @@ use Rattle.algorithm.specs.SoundDay.{SoundDay, Uncrowded}
 use Rattle.algorithm.specs.States.{at-start}
 use Rattle.algorithm.proofs.RockGraph.{uncrowded-test}
 use Rattle.run.specs.Held.{Held}
-use Rattle.run.specs.StartArrays.{Placed, lowestOf, highestOf}
+use Rattle.start.specs.StartArrays.{Placed}
+use Rattle.sets.specs.Sets.{lowestOf, highestOf}
 use mathlib.Core.Logic.{_≢_}
 use lib.ListN.{length-set}
 use lib.Seq.{getD-set-same, getD-set-other}
@@ -55,16 +57,17 @@ use Rattle.algorithm.specs.Settle.{settle}
 use Rattle.algorithm.specs.Start.{start}
 use Rattle.algorithm.specs.Run.{boardOf, explored, congested, placesOf, answerAt, turns, budget}
 use Rattle.algorithm.specs.Answer.{Answer, none, shown}
-use Rattle.run.specs.declared.rocks.Limits.{Limits}
+use Rattle.rocks.specs.declared.rocks.Limits.{Limits}
 use Rattle.run.specs.declared.state.State.{State as Kept}
 use Rattle.planning.specs.declared.answer.Answer.the-variants.{None}
-use Rattle.run.specs.Arrays.{withinAt, rocksOf, rockAt, Rocks, Directed}
+use Rattle.rocks.specs.RockArrays.{withinAt}
+use Rattle.rocks.specs.BoardArrays.{rocksOf, rockAt, Rocks, Directed}
 use Rattle.run.specs.TableArrays.{placedOf}
 use Rattle.run.specs.Held.{Ready, Last, isLeft, leftJob}
-use Rattle.run.proofs.ForcedRun.{rock-differs}
+use Rattle.rocks.proofs.BoardLaws.{rock-differs}
 use Rattle.run.proofs.HeldLaws.{held-rocks, rock-job}
 use Rattle.run.proofs.StateRun.{congested-shown, within-shown}
-use Rattle.run.proofs.FilledLaws.{length-filled, getD-filled, filled-rest}
+use Rattle.arrays.proofs.FilledLaws.{length-filled, getD-filled, filled-rest}
 
 -- ── a table whose front is filled ──
 

@@ -30,8 +30,9 @@ use Rattle.frame.proofs.Stored.{verdict-refused, verdict-accepted}
 use Rattle.algorithm.specs.Day.{dayOf, longJob}
 use Rattle.algorithm.specs.SoundDay.{SoundDay}
 use Rattle.algorithm.specs.Answer.{Answer, fault, answerTo}
-use Rattle.run.specs.StartArrays.{filled, Fields}
-use Rattle.run.proofs.FilledLaws.{getD-filled}
+use Rattle.arrays.specs.Arrays.{filled}
+use Rattle.start.specs.StartArrays.{Fields}
+use Rattle.arrays.proofs.FilledLaws.{getD-filled}
 use Rattle.planning.specs.declared.answer.Answer.{Answer as Given}
 use Rattle.planning.specs.declared.answer.Answer.the-variants.{Fault as GivenFault}
 use Rattle.planning.specs.Planner.{shortTables, answerFor, Answered}

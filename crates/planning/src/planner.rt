@@ -4,7 +4,7 @@ use frame::Fault;
 use frame::Head;
 use frame::Sheet;
 use frame::Verdict;
-use run::Limits;
+use rocks::Limits;
 use run::State;
 ghost use mathlib.Core.Path.{_≡_};
 ghost use Prim.Native.Nat.{ℕ, _≤_, _<_};
@@ -22,11 +22,13 @@ ghost use Rattle.algorithm.specs.SoundDay.{SoundDay};
 ghost use Rattle.algorithm.specs.Start.{start as startOf, component as componentOf, crowdedBench};
 ghost use Rattle.algorithm.specs.Run.{turns as turnsOf, budget as budgetOf};
 ghost use Rattle.algorithm.specs.Answer.{plan as planned, none as blockedBy, shown, answerTo, loadsOf, largestOf};
-ghost use Rattle.run.specs.StartArrays.{Fields, DayRocks, JobsOf, balanceIn, filled};
+ghost use Rattle.start.specs.StartArrays.{Fields, JobsOf};
+ghost use Rattle.rocks.specs.DayArrays.{DayRocks, balanceIn};
+ghost use Rattle.arrays.specs.Arrays.{filled};
 ghost use Rattle.run.specs.Held.{Ready, Last, isLeft, leftJob};
 ghost use Rattle.planning.specs.Planner.{Answered, answerFor, given};
-ghost use Rattle.run.specs.Arrays.{withinAt};
-ghost use Rattle.run.specs.TableArrays.{setUpTo};
+ghost use Rattle.rocks.specs.RockArrays.{withinAt};
+ghost use Rattle.sets.specs.Sets.{setUpTo};
 
 // The plan with these places: its loads, both tables, and the answer.
 fn write_plan<'a>(
@@ -42,10 +44,10 @@ fn write_plan<'a>(
 {
     let nothing = [false; 512];
     let mut load = [0usize; 64];
-    run::own_loads(jobs, minutes, &nothing, place, &mut load);
-    run::widen(jobs, place, places);
-    run::widen(benches, &load, loads);
-    Answer::Plan(run::greatest(benches, &load) as u64, moves as u64)
+    arrays::own_loads(jobs, minutes, &nothing, place, &mut load);
+    arrays::widen(jobs, place, places);
+    arrays::widen(benches, &load, loads);
+    Answer::Plan(arrays::greatest(benches, &load) as u64, moves as u64)
 }
 
 // The activated benches, as a set.
@@ -54,7 +56,7 @@ fn active_set(benches: usize, level: &[usize]) -> usize
 {
     let mut marked = [false; 64];
     run::mark_active(benches, level, &mut marked);
-    run::set_of(benches, &marked)
+    sets::set_of(benches, &marked)
 }
 
 // The answer at the last state of the run.
@@ -74,9 +76,9 @@ fn finish<'a>(
         return Answer::None(active_set(n.benches, &last.level) as u64, last.moves as u64);
     }
     let mut dir = last.dir;
-    run::settle(n, low, high, &mut dir);
+    settle::settle(n, low, high, &mut dir);
     let mut place = [0usize; 512];
-    run::from_bytes(n.jobs, &last.place, &mut place);
+    arrays::from_bytes(n.jobs, &last.place, &mut place);
     run::place_rocks(n.rocks, job, &dir, &mut place);
     write_plan(
         n.jobs,
@@ -110,7 +112,7 @@ fn plan_run<'a>(
     let mut mine = [0usize; 64];
     let mut lows = [0usize; 64];
     let mut highs = [0usize; 64];
-    let rocks = run::gather(
+    let rocks = start::gather(
         n.jobs,
         &first.left,
         allowed,
@@ -122,7 +124,7 @@ fn plan_run<'a>(
     run::pick(rocks, &mine, amount, &mut weight);
     let mut m = n;
     m.rocks = rocks;
-    let budget = run::times(n.benches, run::count(n.jobs, pebble));
+    let budget = arrays::times(n.benches, arrays::count(n.jobs, pebble));
     let last = run::turns(
         first,
         budget,
@@ -142,8 +144,8 @@ fn crowded<'a>(n: Limits, low: &'a [usize], high: &'a [usize], v: usize) -> Answ
     ensures { λ r. ⌜ ((d : Day) → DayRocks d n (now (low .entry)) (now (high .entry)) → v < d .benches → r ≡ given (blockedBy (members (d .benches) (componentOf d v)) 0)) ⌝ }
 {
     let mut set = [false; 64];
-    run::component(n, low, high, v, &mut set);
-    Answer::None(run::set_of(n.benches, &set) as u64, 0)
+    rocks::component(n, low, high, v, &mut set);
+    Answer::None(sets::set_of(n.benches, &set) as u64, 0)
 }
 
 // The answer to a day.
@@ -160,28 +162,28 @@ fn plan_day<'a>(
     let p = h.p as usize;
     let q = h.q as usize;
     let target = h.target as usize;
-    let long = run::long_job(jobs, target, minutes);
+    let long = start::long_job(jobs, target, minutes);
     if long < jobs {
         return Answer::Long(long);
     }
     let mut rock = [false; 512];
-    run::mark_rocks(jobs, p, q, target, minutes, allowed, &mut rock);
+    start::mark_rocks(jobs, p, q, target, minutes, allowed, &mut rock);
     let mut job = [0usize; 512];
     let mut low = [0usize; 512];
     let mut high = [0usize; 512];
-    let rocks = run::gather(jobs, &rock, allowed, &mut job, &mut low, &mut high);
-    let mut n = run::limits(h.benches as usize, jobs, p, q, target);
+    let rocks = start::gather(jobs, &rock, allowed, &mut job, &mut low, &mut high);
+    let mut n = start::limits(h.benches as usize, jobs, p, q, target);
     n.rocks = rocks;
     let mut balance = [3usize; 64];
-    run::balances(n, &low, &high, &mut balance);
-    let v = run::crowded_bench(n.benches, &balance);
+    rocks::balances(n, &low, &high, &mut balance);
+    let v = rocks::crowded_bench(n.benches, &balance);
     if v < n.benches {
         return crowded(n, &low, &high, v);
     }
     let mut amount = [0usize; 512];
-    run::weigh(jobs, q, minutes, &mut amount);
+    start::weigh(jobs, q, minutes, &mut amount);
     let mut pebble = [false; 512];
-    run::mark_pebbles(jobs, p, q, target, minutes, allowed, &mut pebble);
+    start::mark_pebbles(jobs, p, q, target, minutes, allowed, &mut pebble);
     plan_run(
         n,
         rock,
@@ -212,8 +214,8 @@ fn plan_sheet(s: Sheet, places: &mut [u64], loads: &mut [u64]) -> Answer
     }
     let mut minutes = [0usize; 512];
     let mut allowed = [0usize; 512];
-    run::narrow(jobs, &s.minutes, &mut minutes);
-    run::narrow(jobs, &s.allowed, &mut allowed);
+    arrays::narrow(jobs, &s.minutes, &mut minutes);
+    arrays::narrow(jobs, &s.allowed, &mut allowed);
     plan_day(h, jobs, &minutes, &allowed, places, loads)
 }
 

@@ -15,10 +15,11 @@ use Rattle.algorithm.specs.SoundDay.{SoundDay}
 use Rattle.algorithm.specs.Start.{State, start}
 use Rattle.algorithm.proofs.Peeling.{start-peeled}
 use Rattle.algorithm.proofs.RockLaws.{lowest-below}
-use Rattle.run.specs.StartArrays.{filled, Placed}
-use Rattle.run.specs.KeptArrays.{Chosen}
+use Rattle.arrays.specs.Arrays.{filled}
+use Rattle.start.specs.StartArrays.{Placed}
+use Rattle.push.specs.KeptArrays.{Chosen}
 use Rattle.run.specs.Held.{Held}
-use Rattle.run.proofs.FilledLaws.{length-filled, getD-filled}
+use Rattle.arrays.proofs.FilledLaws.{length-filled, getD-filled}
 
 pub start-below : (d : Day) → SoundDay d → (j : ℕ) → j < d .jobs → getD (start d .place) j 0 < d .benches
 start-below d sound j h =

@@ -19,7 +19,7 @@ use Rattle.sums.specs.Sum.{sum, count}
 use Rattle.sums.specs.Search.{any}
 use Rattle.sums.proofs.SearchLaws.{any-cong, any-intro, any-elim, any-least, least-holds, least-le}
 use Rattle.sums.proofs.CountLaws.{count-le}
-use Rattle.run.specs.declared.rocks.Limits.{Limits}
+use Rattle.rocks.specs.declared.rocks.Limits.{Limits}
 use Rattle.run.specs.declared.state.State.{State as Kept}
 use Rattle.algorithm.specs.Board.{Board}
 use Rattle.algorithm.specs.Explore.{never, roundOf, within, activated}
@@ -28,17 +28,20 @@ use Rattle.algorithm.specs.Day.{Day, pebble}
 use Rattle.algorithm.specs.Start.{State, start}
 use Rattle.algorithm.specs.Run.{boardOf, explored, congested, canMove, nextState, turns, budget}
 use Rattle.algorithm.specs.States.{Reached, by-move}
-use Rattle.run.specs.Arrays.{plusOf, withinAt, rocksOf, Rocks, Owned, Rounds, Pebbles}
-use Rattle.run.specs.ExploreArrays.{Reaches}
-use Rattle.run.specs.PushArrays.{Wanted, Goals, Choices}
-use Rattle.run.specs.Shown.{Shown}
-use Rattle.run.specs.Held.{amountOn, Ready, Held, Pushed, a-move, no-move, Last}
+use Rattle.arrays.specs.Arrays.{plusOf}
+use Rattle.rocks.specs.RockArrays.{withinAt}
+use Rattle.rocks.specs.BoardArrays.{rocksOf, Rocks, Owned, Rounds, Pebbles}
+use Rattle.explore.specs.ExploreArrays.{Reaches}
+use Rattle.push.specs.PushArrays.{Wanted, Goals, Choices}
+use Rattle.rocks.specs.Shown.{Shown}
+use Rattle.arrays.specs.Loads.{amountOn}
+use Rattle.run.specs.Held.{Ready, Held, Pushed, a-move, no-move, Last}
 use Rattle.algorithm.proofs.PushLaws.{push-allowed}
 use Rattle.algorithm.proofs.Budget.{turns-move, turns-stop}
 use Rattle.algorithm.proofs.DayFacts.{reached-run}
-use Rattle.run.proofs.ForcedRun.{plus-one}
-use Rattle.run.specs.KeptArrays.{shiftedOf, ReachShifted, Chosen}
-use Rattle.run.proofs.KeptRun.{moved-owned, moved-reach, held-choices}
+use Rattle.arrays.proofs.NumberLaws.{plus-one}
+use Rattle.push.specs.KeptArrays.{shiftedOf, ReachShifted, Chosen}
+use Rattle.run.proofs.MoveRun.{moved-owned, moved-reach, held-choices}
 use Rattle.run.proofs.HeldLaws.{held-good, held-rocks, held-pebbles, held-owned, few-rocks}
 
 pub within-shown : (b : Board) (xs rounds : List ℕ) (benches v : ℕ) → benches ≡ b .benches → Rounds b xs rounds → v < b .benches

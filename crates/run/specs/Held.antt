@@ -1,38 +1,27 @@
 -- What the program's tables hold of a day, and its state of a state of the run.
---     amountOn, addedAt         what a job puts on a bench; the loads with it
 --     isLeft d j, leftJob d r   the jobs of the rocks that are left after the start; the r-th of them
 --     Ready d n ..              the tables that the run reads: numbers, rocks, weights, pebbles and allowed benches of the day
 --     Pushed, Last              what a push makes of a state; the state at which the turns end
 --     Held d m s left place     the state's tables hold the state s, to which the run comes after m moves
 use Prim.Native.Nat.{ℕ, suc, _≤_, _<_, _^_}
 use mathlib.Core.Path.{_≡_}
-use mathlib.Core.Bool.{Bool, true, false, cond, not, _&&_}
+use mathlib.Core.Bool.{Bool, true, false}
 use mathlib.Core.List.{List}
-use lib.ListN.{length, getD, set}
-use lib.Dec.{eqb}
+use lib.ListN.{length, getD}
 use Rattle.bits.specs.Bits.{isSet}
-use Rattle.sums.specs.Sum.{on, sum, count}
+use Rattle.sums.specs.Sum.{sum, count}
 use Rattle.sums.specs.Members.{members}
-use Rattle.run.specs.declared.rocks.Limits.{Limits}
+use Rattle.rocks.specs.declared.rocks.Limits.{Limits}
 use Rattle.algorithm.specs.Day.{Day, lowest, highest, pebble, weight, bound, small, limit}
 use Rattle.algorithm.specs.SoundDay.{SoundDay, Uncrowded}
 use Rattle.algorithm.specs.Start.{State, start}
 use Rattle.algorithm.specs.Run.{boardOf, explored, canMove, nextState, answerAt, turns, budget}
 use Rattle.algorithm.specs.Push.{pushJob}
-use Rattle.run.specs.Shown.{Shown}
+use Rattle.rocks.specs.Shown.{Shown}
 use Rattle.run.specs.declared.state.State.{State as Kept}
 use Rattle.algorithm.specs.States.{Reached}
-use Rattle.run.specs.Arrays.{plusOf, Owned}
-use Rattle.run.specs.ExploreArrays.{Reaches}
-
--- What job j puts on bench v, if it is not left.
-abbrev pub amountOn : List ℕ → List Bool → List ℕ → ℕ → ℕ → ℕ
-amountOn amount left place v j = on (not (getD left j false) && eqb (getD place j 0) v) (getD amount j 0)
-
--- The loads after job j is added.
-abbrev pub addedAt : List ℕ → List Bool → List ℕ → List ℕ → ℕ → List ℕ
-addedAt amount left place own j =
-    cond (getD left j false) own (set own (getD place j 0) (plusOf (getD own (getD place j 0) 0) (getD amount j 0)))
+use Rattle.rocks.specs.BoardArrays.{Owned}
+use Rattle.explore.specs.ExploreArrays.{Reaches}
 
 -- A rock is left after the start.
 abbrev pub isLeft : Day → ℕ → Bool

@@ -1,12 +1,7 @@
 // The turns of the run.
-use crate::arrays;
-use crate::explore;
-use crate::loads;
-use crate::neighbours;
-use crate::rocks::Limits;
-use crate::set_loops;
-use crate::start;
 use crate::state::State;
+use crate::tables;
+use rocks::Limits;
 ghost use mathlib.Core.Path.{_≡_};
 ghost use Rattle.algorithm.specs.Day.{Day};
 ghost use Rattle.algorithm.specs.Start.{start as startOf};
@@ -28,11 +23,11 @@ pub fn turns<'a>(
     ensures { λ r. ⌜ ((d : Day) → Ready d n (now (low .entry)) (now (high .entry)) (now (weight .entry)) (now (amount .entry)) (now (pebble .entry)) (now (allowed .entry)) → Held d 0 (startOf d) (first .left) (first .place) → first .moves ≡ 0 → budget ≡ budgetOf d → Last d r) ⌝ }
 {
     let mut here = [0usize; 64];
-    set_loops::fill_here(n, low, high, &mut here);
+    rocks::fill_here(n, low, high, &mut here);
     let mut near = [0usize; 64];
-    neighbours::fill_near(low, high, &here, &mut near);
-    let all = explore::everywhere(n.benches);
-    let stony = set_loops::some(&here);
+    rocks::fill_near(low, high, &here, &mut near);
+    let all = sets::everywhere(n.benches);
+    let stony = sets::some(&here);
     let mut choice = [0usize; 512];
     start::choose(n.jobs, pebble, allowed, &mut choice);
     let mut s = first.weigh(n, amount, pebble, allowed);
@@ -40,7 +35,7 @@ pub fn turns<'a>(
     let mut left = arrays::plus(budget, 1);
     while 0 < left {
         s = s.orient(n, low, high, weight, &here, &near, all, stony);
-        if !loads::congested(n.benches, &s.level) {
+        if !tables::congested(n.benches, &s.level) {
             return s;
         }
         let before = s.moves;

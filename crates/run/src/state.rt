@@ -1,12 +1,5 @@
 // The state of the run: the rocks that are left, where every other job is, the moves made, and the last exploration.
-use crate::arrays;
-use crate::explore;
-use crate::kept;
-use crate::loads;
-use crate::peeling;
-use crate::push;
-use crate::rocks::Limits;
-use crate::start;
+use rocks::Limits;
 ghost use mathlib.Core.Path.{_≡_};
 ghost use Prim.Native.Nat.{ℕ, _<_};
 ghost use mathlib.Core.Bool.{Bool, false};
@@ -15,13 +8,14 @@ ghost use lib.ListN.{getD};
 ghost use Rattle.algorithm.specs.Day.{Day, rock as isRock};
 ghost use Rattle.algorithm.specs.Start.{State as RunState, start as startOf};
 ghost use Rattle.algorithm.specs.Run.{boardOf, explored};
-ghost use Rattle.run.specs.Arrays.{Owned};
-ghost use Rattle.run.specs.ExploreArrays.{Reaches};
-ghost use Rattle.run.specs.SetArrays.{Mapped};
-ghost use Rattle.run.specs.KeptArrays.{Chosen};
-ghost use Rattle.run.specs.Shown.{Shown};
+ghost use Rattle.rocks.specs.BoardArrays.{Owned};
+ghost use Rattle.explore.specs.ExploreArrays.{Reaches};
+ghost use Rattle.rocks.specs.Neighbours.{Mapped};
+ghost use Rattle.push.specs.KeptArrays.{Chosen};
+ghost use Rattle.rocks.specs.Shown.{Shown};
 ghost use Rattle.run.specs.Held.{Ready, Held, Pushed};
-ghost use Rattle.run.specs.StartArrays.{Fields, DayRocks, JobsOf, Cycles, Placed};
+ghost use Rattle.start.specs.StartArrays.{Fields, JobsOf, Placed};
+ghost use Rattle.rocks.specs.DayArrays.{DayRocks, Cycles};
 
 pub struct State {
     pub left: [bool; 512],
@@ -53,7 +47,7 @@ impl State {
         let mut left = rock;
         let mut place = [0usize; 512];
         start::place_lowest(n.jobs, allowed, &mut place);
-        peeling::peel(n, job, low, high, balance, &mut left, &mut place);
+        start::peel(n, job, low, high, balance, &mut left, &mut place);
         let mut places = [0u8; 512];
         arrays::to_bytes(n.jobs, &place, &mut places);
         let none = [0usize; 64];
@@ -83,7 +77,7 @@ impl State {
         let mut place = [0usize; 512];
         arrays::from_bytes(n.jobs, &self.place, &mut place);
         let mut own = [0usize; 64];
-        loads::own_loads(n.jobs, amount, &self.left, &place, &mut own);
+        arrays::own_loads(n.jobs, amount, &self.left, &place, &mut own);
         let mut from = [0usize; 64];
         explore::fill_from(n, pebble, allowed, &place, &mut from);
         self.own = own;
@@ -170,7 +164,7 @@ impl State {
                 self.place[job] = (bench % 256) as u8;
                 let own = self.own;
                 let from = self.from;
-                let k = kept::shifted(
+                let k = push::shifted(
                     own,
                     from,
                     n.jobs,

@@ -1,6 +1,6 @@
 -- One bit of the set.
 use mathlib.Core.Path.{ap₂, _∙_}
-use Rattle.run.specs.PushArrays.{hasAt}
+use Rattle.sets.specs.Sets.{hasAt}
 use borrow.Author.Needs.{needs}
 use Rattle.comparison.proofs.comparison.fit.Statement.{statement}
 use Rattle.comparison.proofs.comparison.fit.Tie as tie

@@ -3,7 +3,7 @@ use mathlib.Core.Path.{ap, _∙_}
 use mathlib.Core.Bool.{Bool, false}
 use mathlib.Core.List.{List}
 use lib.ListN.{getD}
-use Rattle.run.specs.TableArrays.{setUpTo}
+use Rattle.sets.specs.Sets.{setUpTo}
 use borrow.Author.Needs.{needs}
 use Rattle.planning.proofs.planner.active_set.Statement.{statement}
 use Rattle.planning.proofs.planner.active_set.Tie as tie

@@ -7,8 +7,8 @@ use native.Mathlib.Omega.{arith}
 use lib.ListN.{getD, replicate, length-replicate}
 use Rattle.planning.proofs.PlanRun.{last-rocks, finish-none, settled-places, finish-plan}
 use Rattle.algorithm.specs.Run.{boardOf, explored}
-use Rattle.run.specs.StartArrays.{filled}
-use Rattle.run.specs.Arrays.{withinAt}
+use Rattle.arrays.specs.Arrays.{filled}
+use Rattle.rocks.specs.RockArrays.{withinAt}
 use Rattle.run.proofs.PlaceLaws.{held-copied}
 use borrow.Author.Needs.{needs}
 use Rattle.planning.proofs.planner.finish.Statement.{statement}

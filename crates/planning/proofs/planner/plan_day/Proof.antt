@@ -5,7 +5,7 @@ use mathlib.Core.Bool.{Bool, false}
 use native.Mathlib.Omega.{arith}
 use lib.ListN.{replicate, length-replicate, getD-replicate}
 use Rattle.planning.proofs.DayRun.{long-answer, not-long, crowded-answer, not-crowded, marks-are, pebble-marks, weighed, limit-benches, limit-jobs, limit-bound, limit-small, limit-limit, jobs-gathered, rocks-gathered}
-use Rattle.run.specs.StartArrays.{Fields}
+use Rattle.start.specs.StartArrays.{Fields}
 use borrow.Author.Needs.{needs}
 use Rattle.planning.proofs.planner.plan_day.Statement.{statement}
 use Rattle.planning.proofs.planner.plan_day.Tie as tie

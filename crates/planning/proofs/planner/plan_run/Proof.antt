@@ -4,8 +4,8 @@ use native.Mathlib.Omega.{arith}
 use lib.ListN.{replicate, length-replicate}
 use Rattle.planning.proofs.PlanRun.{begun, ready}
 use Rattle.planning.proofs.DayRun.{budget-is, run-answer}
-use Rattle.run.proofs.ComponentRun.{cycles-are}
-use Rattle.run.specs.declared.rocks.Limits.{Limits}
+use Rattle.rocks.proofs.ComponentRun.{cycles-are}
+use Rattle.rocks.specs.declared.rocks.Limits.{Limits}
 use borrow.Author.Needs.{needs}
 use Rattle.planning.proofs.planner.plan_run.Statement.{statement}
 use Rattle.planning.proofs.planner.plan_run.Tie as tie

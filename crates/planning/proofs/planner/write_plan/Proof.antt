@@ -5,7 +5,7 @@ use lib.ListN.{replicate, getD-replicate}
 use Rattle.planning.proofs.PlanRun.{plan-written}
 use Rattle.planning.proofs.DayRun.{from-zero}
 use Rattle.sums.specs.Sum.{sum}
-use Rattle.run.specs.Held.{amountOn}
+use Rattle.arrays.specs.Loads.{amountOn}
 use borrow.Author.Needs.{needs}
 use Rattle.planning.proofs.planner.write_plan.Statement.{statement}
 use Rattle.planning.proofs.planner.write_plan.Tie as tie

@@ -6,7 +6,7 @@ use lib.ListN.{length-replicate}
 use Rattle.bools.proofs.BoolLaws.{not-true}
 use Rattle.algorithm.specs.Day.{Day}
 use Rattle.run.specs.Held.{Ready}
-use Rattle.run.proofs.ExploreSets.{mapped}
+use Rattle.explore.proofs.ExploreSets.{mapped}
 use Rattle.run.proofs.PlaceLaws.{chosen}
 use Rattle.run.proofs.StateRun.{Turning, Oriented, starts, pushes, turning-calm, turning-stuck, turning-next, turning-spent}
 use borrow.Author.Needs.{needs}

@@ -3,9 +3,9 @@ use Prim.Native.Nat.{_≤_, _-_}
 use mathlib.Core.Path.{_≡_, refl, ap, _∙_}
 use native.Mathlib.Omega.{arith}
 use lib.ListN.{length, length-set}
-use Rattle.run.specs.StartArrays.{filled}
-use Rattle.run.proofs.FilledLaws.{filled-none, filled-more, filled-end}
-use Rattle.run.specs.Arrays.{withinAt}
+use Rattle.arrays.specs.Arrays.{filled}
+use Rattle.arrays.proofs.FilledLaws.{filled-none, filled-more, filled-end}
+use Rattle.rocks.specs.RockArrays.{withinAt}
 use borrow.Author.Needs.{needs}
 use Rattle.run.proofs.tables.mark_active.Statement.{statement}
 use Rattle.run.proofs.tables.mark_active.Tie as tie

@@ -3,8 +3,8 @@ use Prim.Native.Nat.{ℕ, _≤_, _-_}
 use mathlib.Core.Path.{_≡_, refl, ap, _∙_}
 use native.Mathlib.Omega.{arith}
 use lib.ListN.{length, getD, length-set}
-use Rattle.run.specs.StartArrays.{filled}
-use Rattle.run.proofs.FilledLaws.{filled-none, filled-more, filled-end}
+use Rattle.arrays.specs.Arrays.{filled}
+use Rattle.arrays.proofs.FilledLaws.{filled-none, filled-more, filled-end}
 use borrow.Author.Needs.{needs}
 use Rattle.run.proofs.tables.pick.Statement.{statement}
 use Rattle.run.proofs.tables.pick.Tie as tie

@@ -3,7 +3,7 @@ use mathlib.Core.Path.{_≡_, refl}
 use Prim.Native.Nat.{ℕ}
 use native.Mathlib.Omega.{arith}
 use lib.ListN.{length, replicate, length-replicate}
-use Rattle.run.proofs.StartRun.{start-placed}
+use Rattle.start.proofs.StartRun.{start-placed}
 use Rattle.run.proofs.PlaceLaws.{start-below, placed-copied}
 use borrow.Author.Needs.{needs}
 use Rattle.run.proofs.state.State.start.Statement.{statement}

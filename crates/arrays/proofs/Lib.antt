@@ -1,0 +1,5 @@
+pub mod ArrayLaws
+pub mod CountRun
+pub mod FilledLaws
+pub mod NumberLaws
+pub mod LoadLaws

@@ -1,0 +1,25 @@
+// Arrays read and written at any index, and numbers that stop at the greatest: none of these asks anything of its caller.
+mod arrays;
+mod loads;
+
+pub use arrays::at;
+pub use arrays::byte;
+pub use arrays::count;
+pub use arrays::entry;
+pub use arrays::exceeds;
+pub use arrays::from_bytes;
+pub use arrays::greatest;
+pub use arrays::holds;
+pub use arrays::least;
+pub use arrays::lower;
+pub use arrays::mark;
+pub use arrays::minus;
+pub use arrays::more;
+pub use arrays::narrow;
+pub use arrays::plus;
+pub use arrays::put;
+pub use arrays::times;
+pub use arrays::to_bytes;
+pub use arrays::where_marked;
+pub use arrays::widen;
+pub use loads::own_loads;

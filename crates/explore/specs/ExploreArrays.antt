@@ -1,0 +1,91 @@
+-- What the program's arrays hold in the course of an exploration.
+--     joinsAt, fakeAt           v joins the conflict set by rock r; rock r is neutral and v is in the conflict set
+--     ruleOneAt, ruleTwoAt      rule 1 and rule 2 at v, by rock r
+--     activatesAt               v is to be activated, by rock r
+--     addedAt                   the sets after the pebble j added the benches that it allows
+--     opensAt                   bench v opens round i: all is the set of the benches, active that of the activated ones
+--     openedLevels, openedJoined     the two tables with which round i begins
+--     Built, Begun              the arrays show what CONFLICT SET CONSTRUCTION leaves behind, and how a round begins
+--     Reaches b from            entry u of the array is the set of the benches that the pebbles on u allow
+--     Grew                      the set has every bench that has come into the conflict set
+--     Waits                     the set has every bench of the conflict set that is not activated
+use Prim.Native.Nat.{ℕ, _+_, _<_}
+use mathlib.Core.Path.{_≡_}
+use mathlib.Core.Bool.{Bool, true, false, cond, not, _&&_, _||_}
+use mathlib.Core.List.{List}
+use lib.ListN.{getD, set}
+use lib.Dec.{eqb, ltb}
+use lib.Bits.{bitOr}
+use Rattle.sums.specs.Search.{any}
+use Rattle.sums.specs.Table.{table}
+use Rattle.bits.specs.Bits.{isSet}
+use Rattle.rocks.specs.declared.rocks.Limits.{Limits}
+use Rattle.algorithm.specs.Board.{Board}
+use Rattle.algorithm.specs.Explore.{Explored, Constructed, roundOf, inConflict, typeA}
+use Rattle.rocks.specs.RockArrays.{otherAt, withinAt, fatherAt, childAt}
+use Rattle.rocks.specs.BoardArrays.{Seen, Rounds}
+
+-- ── the tests of rock r at its end v ──
+
+abbrev pub joinsAt : ℕ → List ℕ → List ℕ → List ℕ → List ℕ → ℕ → ℕ → Bool
+joinsAt benches low high dir joined r v = not (withinAt benches joined v) && fatherAt benches low high dir joined r v
+
+abbrev pub fakeAt : ℕ → List ℕ → List ℕ → ℕ → ℕ → Bool
+fakeAt benches dir joined r v = eqb (getD dir r 0) 0 && withinAt benches joined v
+
+abbrev pub ruleOneAt : Limits → List ℕ → List ℕ → List ℕ → List ℕ → List ℕ → List ℕ → ℕ → ℕ → Bool
+ruleOneAt n low high weight own dir joined r v = fatherAt (n .benches) low high dir joined r v && ltb (n .bound) (getD own v 0 + getD weight r 0)
+
+abbrev pub ruleTwoAt : Limits → List ℕ → List ℕ → List ℕ → List ℕ → List ℕ → List ℕ → ℕ → ℕ → Bool
+ruleTwoAt n low high weight dir joined level r v =
+    ltb (getD weight r 0) (n .small)
+    && (withinAt (n .benches) level (otherAt low high r v)
+    && (fatherAt (n .benches) low high dir joined r v || childAt (n .benches) low high dir joined r v))
+
+abbrev pub activatesAt : Limits → List ℕ → List ℕ → List ℕ → List ℕ → List ℕ → List ℕ → List ℕ → ℕ → ℕ → Bool
+activatesAt n low high weight own dir joined level r v =
+    withinAt (n .benches) joined v
+    && (not (withinAt (n .benches) level v)
+    && (ruleOneAt n low high weight own dir joined r v || ruleTwoAt n low high weight dir joined level r v))
+
+-- ── sets of benches ──
+
+abbrev pub addedAt : List Bool → List ℕ → List ℕ → List ℕ → ℕ → List ℕ
+addedAt pebble allowed place from j =
+    cond (getD pebble j false) (set from (getD place j 0) (bitOr (getD from (getD place j 0) 0) (getD allowed j 0))) from
+
+abbrev pub opensAt : Limits → ℕ → ℕ → ℕ → ℕ → List ℕ → ℕ → Bool
+opensAt n i all active reach load v =
+    cond (eqb i 0) (ltb v (n .benches) && ltb (n .bound) (getD load v 0)) (isSet 64 all v && (isSet 64 reach v && not (isSet 64 active v)))
+
+-- The sets of the benches that the pebbles on each bench allow.
+pub record Reaches (b : Board) (from : List ℕ) : Type 0 where
+  pub entries : (u v : ℕ) → u < b .benches → v < b .benches
+      → isSet 64 (getD from u 0) v ≡ any (b .jobs) (λ j. b .pebble j && eqb (b .place j) u && b .allows j v)
+
+-- ── a round ──
+
+abbrev pub openedLevels : Board → ℕ → Explored → List ℕ
+openedLevels b i x = table (b .benches) (λ v. cond (typeA b i x v) i (roundOf b (x .level) v))
+
+abbrev pub openedJoined : Board → ℕ → Explored → List ℕ
+openedJoined b i x = table (b .benches) (λ v. cond (typeA b i x v && not (inConflict b x v)) i (roundOf b (x .joined) v))
+
+pub record Begun (b : Board) (i : ℕ) (x : Explored) (opened : ℕ) (rounds levels : List ℕ) : Type 0 where
+  pub some : (v : ℕ) → v < 64 → isSet 64 opened v ≡ (ltb v (b .benches) && typeA b i x v)
+  pub joined : Rounds b (openedJoined b i x) rounds
+  pub level : Rounds b (openedLevels b i x) levels
+
+pub record Built (b : Board) (c : Constructed) (dir loads rounds : List ℕ) : Type 0 where
+  pub seen : Seen b (c .dir) dir loads
+  pub joined : Rounds b (c .joined) rounds
+
+-- ── sets that have every bench at which something can happen ──
+
+abbrev pub Grew : Limits → List ℕ → List ℕ → ℕ → Type 0
+Grew n rounds rounds′ set =
+    (v : ℕ) → v < n .benches → withinAt (n .benches) rounds v ≡ false → withinAt (n .benches) rounds′ v ≡ true → isSet 64 set v ≡ true
+
+abbrev pub Waits : Limits → List ℕ → List ℕ → ℕ → Type 0
+Waits n joined level set =
+    (v : ℕ) → v < n .benches → withinAt (n .benches) joined v ≡ true → withinAt (n .benches) level v ≡ false → isSet 64 set v ≡ true

@@ -1,0 +1,195 @@
+// EXPLORE2: the rounds, with the benches in reach of the round before.
+use crate::activate;
+use crate::conflict;
+use rocks::Limits;
+ghost use mathlib.Core.Path.{_≡_};
+ghost use Prim.Native.Nat.{ℕ, _<_, _≤_};
+ghost use mathlib.Core.Bool.{cond, _&&_, not};
+ghost use lib.Dec.{ltb};
+ghost use lib.ListN.{getD, length, set, replicate};
+ghost use Rattle.bits.specs.Bits.{isSet};
+ghost use Rattle.algorithm.specs.Board.{Board};
+ghost use Rattle.algorithm.specs.Explore.{explore as explored};
+ghost use Rattle.arrays.specs.Arrays.{plusOf};
+ghost use Rattle.rocks.specs.RockArrays.{withinAt};
+ghost use Rattle.rocks.specs.BoardArrays.{rocksOf, Rocks, Owned, Pebbles};
+ghost use Rattle.explore.specs.ExploreArrays.{addedAt, opensAt, Reaches};
+ghost use Rattle.rocks.specs.Neighbours.{Mapped};
+ghost use Rattle.rocks.specs.Shown.{Shown};
+
+// Job j, where it is a pebble, adds the benches that it allows to the set of the bench on which it lies.
+fn add_pebble<'a>(
+    pebble: &'a [bool],
+    allowed: &'a [usize],
+    place: &'a [usize],
+    from: &mut [usize],
+    j: usize,
+)
+    ensures { λ _. ⌜ now (from .exit) ≡ addedAt (now (pebble .entry)) (now (allowed .entry)) (now (place .entry)) (now (from .entry)) j ⌝ }
+{
+    if arrays::holds(pebble, j) {
+        let u = arrays::at(place, j);
+        let set = arrays::at(from, u) | arrays::at(allowed, j);
+        arrays::put(from, u, set);
+    }
+}
+
+// Entry u: the benches that a pebble on u allows, as a set.
+pub fn fill_from<'a>(
+    n: Limits,
+    pebble: &'a [bool],
+    allowed: &'a [usize],
+    place: &'a [usize],
+    from: &mut [usize],
+)
+    ensures { λ _. ⌜ ((b : Board) → n .jobs ≡ b .jobs → b .benches ≤ 64 → Pebbles b (now (pebble .entry)) (now (allowed .entry)) (now (place .entry)) → now (from .entry) ≡ replicate 64 0 → Reaches b (now (from .exit))) ⌝ }
+{
+    let mut j = 0;
+    while j < n.jobs {
+        add_pebble(pebble, allowed, place, from, j);
+        j += 1;
+    }
+}
+
+// The overloaded benches, as a set.
+fn overloaded(n: Limits, load: &[usize]) -> usize
+    ensures { λ r. ⌜ ((v : ℕ) → v < 64 → isSet 64 r v ≡ (ltb v (n .benches) && ltb (n .bound) (getD (now (load .entry)) v 0))) ⌝ }
+{
+    let mut over = 0;
+    let mut v = 0;
+    while v < n.benches {
+        over = sets::add(over, v, n.bound < arrays::at(load, v));
+        v += 1;
+    }
+    over
+}
+
+// The benches that open round i.
+fn opening<'a>(
+    n: Limits,
+    i: usize,
+    all: usize,
+    active: usize,
+    reach: usize,
+    load: &'a [usize],
+) -> usize
+    ensures { λ r. ⌜ ((v : ℕ) → v < 64 → isSet 64 r v ≡ opensAt n i all active reach (now (load .entry)) v) ⌝ }
+{
+    if i == 0 {
+        return overloaded(n, load);
+    }
+    sets::common(all, sets::less(reach, active))
+}
+
+// Bench v joins the conflict set in round i, unless it is in it.
+fn enter(benches: usize, i: usize, joined: &mut [usize], v: usize)
+    ensures { λ _. ⌜ now (joined .exit) ≡ cond (withinAt benches (now (joined .entry)) v) (now (joined .entry)) (set (now (joined .entry)) v i) ⌝ }
+{
+    if !rocks::within(benches, joined, v) {
+        arrays::put(joined, v, i);
+    }
+}
+
+// The benches of the set are activated in round i, and join the conflict set unless they are in it.
+fn enter_all(benches: usize, i: usize, set: usize, joined: &mut [usize], level: &mut [usize])
+    ensures { λ _. ⌜ ((v : ℕ) → v < length (now (joined .entry)) → v < 64 → getD (now (joined .exit)) v 0 ≡ cond (isSet 64 set v && not (withinAt benches (now (joined .entry)) v)) i (getD (now (joined .entry)) v 0)) × ((v : ℕ) → v < length (now (level .entry)) → getD (now (level .exit)) v 0 ≡ cond (ltb v 64 && isSet 64 set v) i (getD (now (level .entry)) v 0)) ⌝ }
+{
+    let mut left = set;
+    while 0 < left {
+        let v = sets::lowest(left);
+        arrays::put(level, v, i);
+        enter(benches, i, joined, v);
+        left = sets::after(left, v);
+    }
+}
+
+// The levels and the conflict set with which openRound b i x begins; the benches that open it.
+fn open_round<'a>(
+    n: Limits,
+    i: usize,
+    all: usize,
+    active: usize,
+    reach: usize,
+    load: &'a [usize],
+    joined: &mut [usize],
+    level: &mut [usize],
+) -> usize
+    ensures { λ r. ⌜ ((v : ℕ) → v < 64 → isSet 64 r v ≡ opensAt n i all active reach (now (load .entry)) v) × ((v : ℕ) → v < length (now (joined .entry)) → v < 64 → getD (now (joined .exit)) v 0 ≡ cond (isSet 64 r v && not (withinAt (n .benches) (now (joined .entry)) v)) i (getD (now (joined .entry)) v 0)) × ((v : ℕ) → v < length (now (level .entry)) → getD (now (level .exit)) v 0 ≡ cond (ltb v 64 && isSet 64 r v) i (getD (now (level .entry)) v 0)) ⌝ }
+{
+    let opened = opening(n, i, all, active, reach, load);
+    enter_all(n.benches, i, opened, joined, level);
+    opened
+}
+
+// explore b, where dir is 0 everywhere, load is own, and joined and level are never everywhere.
+// Given: the rocks at each bench, their other ends, all benches, and those with a rock.
+// Kept in the rounds: the neutral rocks, the activated benches, those of the round before, and those of the conflict set that may be activated yet.
+pub fn explore<'a>(
+    n: Limits,
+    low: &'a [usize],
+    high: &'a [usize],
+    weight: &'a [usize],
+    here: &'a [usize],
+    near: &'a [usize],
+    all: usize,
+    stony: usize,
+    own: &'a [usize],
+    from: &'a [usize],
+    dir: &mut [usize],
+    load: &mut [usize],
+    joined: &mut [usize],
+    level: &mut [usize],
+)
+    ensures { λ _. ⌜ ((b : Board) → Rocks b n (now (low .entry)) (now (high .entry)) (now (weight .entry)) → Mapped n (now (low .entry)) (now (high .entry)) (now (here .entry)) (now (near .entry)) all stony → Owned b (now (own .entry)) → Reaches b (now (from .entry)) → rocksOf b ≤ 64 → length (now (own .entry)) ≡ 64 → now (dir .entry) ≡ replicate 64 0 → now (load .entry) ≡ now (own .entry) → now (joined .entry) ≡ replicate 64 (plusOf (n .benches) 1) → now (level .entry) ≡ replicate 64 (plusOf (n .benches) 1) → Shown b (explored b) (now (dir .exit)) (now (load .exit)) (now (joined .exit)) (now (level .exit))) ⌝ }
+{
+    let all_rocks = sets::everywhere(n.rocks);
+    let f = forced::force(n, low, high, weight, here, stony, all_rocks, dir, load);
+    let mut neutral = f.neutral;
+    let turns = arrays::plus(n.benches, 1);
+    let mut active = 0;
+    let mut fresh = 0;
+    let mut wait = 0;
+    let mut i = 0;
+    while i < turns {
+        let rest = sets::less(all, active);
+        let reach = sets::reach_of(from, fresh, rest);
+        let opened = open_round(n, i, all, active, reach, load, joined, level);
+        if opened == 0 {
+            return;
+        }
+        let cand = sets::reach_of(near, opened, stony);
+        let grown = conflict::construct(
+            n,
+            i,
+            low,
+            high,
+            weight,
+            here,
+            near,
+            cand,
+            sets::common(opened, stony),
+            neutral,
+            dir,
+            load,
+            joined,
+        );
+        neutral = grown.neutral;
+        let asked = sets::common(all, sets::less(wait | grown.benches, opened));
+        wait = activate::activate(
+            n,
+            i,
+            low,
+            high,
+            weight,
+            here,
+            asked,
+            own,
+            dir,
+            joined,
+            level,
+        );
+        fresh = opened | sets::less(asked, wait);
+        active = active | fresh;
+        i += 1;
+    }
+}

@@ -1,0 +1,5 @@
+pub mod CandidateLaws
+pub mod NeutralLaws
+pub mod ForcedRun
+pub mod ForcedSets
+pub mod ForcedLoops

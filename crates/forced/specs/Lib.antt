@@ -1,0 +1,2 @@
+pub mod SetArrays
+pub mod CandidateArrays

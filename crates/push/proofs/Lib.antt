@@ -1,0 +1,3 @@
+pub mod KeptRun
+pub mod PushRun
+pub mod ReceiverLaws

@@ -1,0 +1,2 @@
+pub mod KeptArrays
+pub mod PushArrays

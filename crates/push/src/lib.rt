@@ -1,0 +1,10 @@
+// PUSH on arrays (Definition 4.4.3), and what a move changes.
+mod kept;
+mod push;
+
+pub use kept::Kept;
+pub use kept::shifted;
+pub use push::Move;
+pub use push::fill_goals;
+pub use push::first_push;
+pub use push::mark_levels;

@@ -1,0 +1,9 @@
+pub mod RockLaws
+pub mod BalanceRun
+pub mod ComponentRun
+pub mod BoardLaws
+pub mod HereLaws
+pub mod MarkLaws
+pub mod ScanLaws
+pub mod SpreadRun
+pub mod DayRockLaws

@@ -1,0 +1,6 @@
+pub mod RockArrays
+pub mod BoardArrays
+pub mod Neighbours
+pub mod SpreadArrays
+pub mod Shown
+pub mod DayArrays

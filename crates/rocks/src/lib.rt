@@ -1,0 +1,21 @@
+// The rocks as arrays: tests at a rock, the rocks and neighbours of each bench, components and their balances.
+mod components;
+mod neighbours;
+mod rocks;
+mod spreading;
+
+pub use components::balances;
+pub use components::component;
+pub use components::crowded_bench;
+pub use neighbours::fill_here;
+pub use neighbours::fill_near;
+pub use rocks::Limits;
+pub use rocks::child;
+pub use rocks::direct;
+pub use rocks::father;
+pub use rocks::other;
+pub use rocks::touches;
+pub use rocks::within;
+pub use spreading::balance;
+pub use spreading::first_inside;
+pub use spreading::spread;

@@ -1,0 +1,4 @@
+pub mod SetRun
+pub mod GatherLaws
+pub mod SetLaws
+pub mod BitLaws

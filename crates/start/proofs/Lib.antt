@@ -1,0 +1,3 @@
+pub mod StartRun
+pub mod RocksRun
+pub mod StartLaws

@@ -1,0 +1,67 @@
+-- By cases on the mark.
+use Prim.Native.Nat.{ℕ}
+use mathlib.Core.Path.{sym, ap, _∙_}
+use lib.ListN.{set}
+use Rattle.bools.proofs.BoolLaws.{not-true, not-false}
+use Rattle.sets.specs.Sets.{lowestOf, highestOf}
+use Rattle.arrays.proofs.ArrayLaws.{cond-yes, cond-no}
+use borrow.Author.Needs.{needs}
+use Rattle.start.proofs.start.gather_job.Statement.{statement}
+use Rattle.start.proofs.start.gather_job.Tie as tie
+
+holds-requires : tie.Need-holds-requires
+holds-requires c κs = search needs
+
+returns : tie.Need-returns
+returns c = (cond-no _ _ (sym (c .before .holds .ensures) ∙ not-true (c .before .holds .result) (c .if1 .taken)), cond-no _ _ (sym (c .before .holds .ensures) ∙ not-true (c .before .holds .result) (c .if1 .taken)), cond-no _ _ (sym (c .before .holds .ensures) ∙ not-true (c .before .holds .result) (c .if1 .taken)), cond-no _ _ (sym (c .before .holds .ensures) ∙ not-true (c .before .holds .result) (c .if1 .taken)))
+
+at-requires : tie.Need-at-requires
+at-requires c κs = search needs
+
+put-requires : tie.Need-put-requires
+put-requires c κs = search needs
+
+lowest-requires : tie.Need-lowest-requires
+lowest-requires c κs = search needs
+
+put-requires-2 : tie.Need-put-requires-2
+put-requires-2 c κs = search needs
+
+highest-requires : tie.Need-highest-requires
+highest-requires c κs = search needs
+
+put-requires-3 : tie.Need-put-requires-3
+put-requires-3 c κs = search needs
+
+plus-requires : tie.Need-plus-requires
+plus-requires c κs = search needs
+
+same-length : tie.Need-same-length
+same-length c = search needs
+
+same-length-2 : tie.Need-same-length-2
+same-length-2 c = search needs
+
+same-length-3 : tie.Need-same-length-3
+same-length-3 c = search needs
+
+returns-2 : tie.Need-returns-2
+returns-2 c = (cond-yes _ _ (sym (c .before .before .before .before .before .before .before .before .before .before .before .before .before .before .before .before .before .holds .ensures) ∙ not-false (c .before .before .before .before .before .before .before .before .before .before .before .before .before .before .before .before .before .holds .result) (c .before .before .before .before .before .before .before .before .before .before .before .before .before .before .before .before .if1 .left)) (c .plus .ensures), cond-yes _ _ (sym (c .before .before .before .before .before .before .before .before .before .before .before .before .before .before .before .before .before .holds .ensures) ∙ not-false (c .before .before .before .before .before .before .before .before .before .before .before .before .before .before .before .before .before .holds .result) (c .before .before .before .before .before .before .before .before .before .before .before .before .before .before .before .before .if1 .left)) (c .before .before .before .before .before .before .before .before .before .before .before .before .before .put .ensures), cond-yes _ _ (sym (c .before .before .before .before .before .before .before .before .before .before .before .before .before .before .before .before .before .holds .ensures) ∙ not-false (c .before .before .before .before .before .before .before .before .before .before .before .before .before .before .before .before .before .holds .result) (c .before .before .before .before .before .before .before .before .before .before .before .before .before .before .before .before .if1 .left)) (c .before .before .before .before .before .before .before .before .put2 .ensures ∙ ap (λ (k : ℕ). set (c .before .before .before .before .before .before .before .before .before .before .before .before .before .before .before .before .before .before .before .before .before .before .before .args .low .now) (c .before .before .before .before .before .before .before .before .before .before .before .before .before .before .before .before .before .before .before .before .before .before .before .args .k) k) (c .before .before .before .before .before .before .before .before .before .lowest .ensures ∙ ap lowestOf (c .before .before .before .before .before .before .before .before .before .before .before .before .before .before .before .at .ensures))), cond-yes _ _ (sym (c .before .before .before .before .before .before .before .before .before .before .before .before .before .before .before .before .before .holds .ensures) ∙ not-false (c .before .before .before .before .before .before .before .before .before .before .before .before .before .before .before .before .before .holds .result) (c .before .before .before .before .before .before .before .before .before .before .before .before .before .before .before .before .if1 .left)) (c .before .before .before .put3 .ensures ∙ ap (λ (k : ℕ). set (c .before .before .before .before .before .before .before .before .before .before .before .before .before .before .before .before .before .before .before .before .before .before .before .args .high .now) (c .before .before .before .before .before .before .before .before .before .before .before .before .before .before .before .before .before .before .before .before .before .before .before .args .k) k) (c .before .before .before .before .highest .ensures ∙ ap highestOf (c .before .before .before .before .before .before .before .before .before .before .before .before .before .before .before .at .ensures))))
+
+pub gather-job-spec : {M : Type 1} → statement M
+gather-job-spec =
+    tie.close
+    (tie.spec
+    holds-requires
+    returns
+    at-requires
+    put-requires
+    lowest-requires
+    put-requires-2
+    highest-requires
+    put-requires-3
+    plus-requires
+    same-length
+    same-length-2
+    same-length-3
+    returns-2)
