@@ -33,7 +33,7 @@ use Rattle.frame.specs.Reading.{readSheet, stored}
 use Rattle.frame.specs.Tables.{Tables}
 use Rattle.frame.proofs.SheetTables.{tables-of}
 use Rattle.frame.proofs.Stored.{verdict-refused, verdict-accepted}
-use Rattle.algorithm.specs.Day.{dayOf}
+use Rattle.day.specs.Day.{dayOf}
 use Rattle.algorithm.specs.Answer.{loadOf}
 use Rattle.comparison.specs.declared.compared.Compared.{Compared}
 use Rattle.comparison.specs.declared.compared.Compared.the-variants.{Same, Different, Fault as ComparedFault}

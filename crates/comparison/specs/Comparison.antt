@@ -20,7 +20,7 @@ use Rattle.fields.specs.declared.sheet.Job.{Job}
 use Rattle.fields.specs.Format.{allows}
 use Rattle.fields.specs.Tests.{jobAt}
 use Rattle.frame.specs.Reading.{accepted, refused, readSheet}
-use Rattle.algorithm.specs.Day.{Day, dayOf}
+use Rattle.day.specs.Day.{Day, dayOf}
 use Rattle.algorithm.specs.Answer.{loadOf}
 use Rattle.comparison.specs.declared.compared.Compared.{Compared}
 use Rattle.comparison.specs.declared.compared.Compared.the-variants.{Same, Different, Fault as ComparedFault}

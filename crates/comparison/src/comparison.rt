@@ -11,7 +11,7 @@ ghost use Rattle.sums.specs.Search.{all};
 ghost use Rattle.fields.specs.declared.sheet.Head.{Head};
 ghost use Rattle.fields.specs.declared.sheet.Job.{Job};
 ghost use Rattle.frame.specs.Tables.{Tables};
-ghost use Rattle.algorithm.specs.Day.{dayOf};
+ghost use Rattle.day.specs.Day.{dayOf};
 ghost use Rattle.comparison.specs.Comparison.{comparedOf, comparePlans};
 ghost use Rattle.comparison.specs.CompareArrays.{fitsAt, givesIn, Loads, LoadsFit, sameIn};
 

@@ -17,7 +17,8 @@ use Rattle.sums.specs.Search.{least}
 use Rattle.sums.specs.Members.{members}
 use Rattle.sums.proofs.CountLaws.{count-cong, count-le}
 use Rattle.sums.proofs.MembersLaws.{members-cong}
-use Rattle.algorithm.specs.Day.{Day, rock, pebble, weight, bound, small, limit, longJob}
+use Rattle.day.specs.Day.{Day, pebble, bound, longJob}
+use Rattle.algorithm.specs.Rocks.{rock, weight, small, limit}
 use Rattle.algorithm.specs.SoundDay.{SoundDay}
 use Rattle.algorithm.specs.Start.{start, component, crowdedBench}
 use Rattle.algorithm.specs.Run.{run, turns, budget}

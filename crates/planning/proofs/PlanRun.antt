@@ -23,7 +23,8 @@ use Rattle.sums.proofs.SumLaws.{sum-cong, sum-bound}
 use Rattle.sums.proofs.LargestLaws.{largest-cong}
 use Rattle.sums.proofs.TableLaws.{length-table, getD-table, table-cong, table-getD}
 use Rattle.sums.proofs.MembersLaws.{members-snoc-true, members-snoc-false}
-use Rattle.algorithm.specs.Day.{Day, weight, pebble, bound, small, limit, longJob}
+use Rattle.day.specs.Day.{Day, pebble, bound, longJob}
+use Rattle.algorithm.specs.Rocks.{weight, small, limit}
 use Rattle.algorithm.specs.Answer.{plan, loadOf, loadsOf, largestOf}
 use Rattle.planning.specs.declared.answer.Answer.the-variants.{Plan}
 use Rattle.arrays.specs.Arrays.{plusOf}

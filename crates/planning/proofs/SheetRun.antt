@@ -27,7 +27,7 @@ use Rattle.frame.specs.Tables.{Tables}
 use Rattle.frame.proofs.AcceptedLaws.{accepted-sound}
 use Rattle.frame.proofs.SheetTables.{tables-of}
 use Rattle.frame.proofs.Stored.{verdict-refused, verdict-accepted}
-use Rattle.algorithm.specs.Day.{dayOf, longJob}
+use Rattle.day.specs.Day.{dayOf, longJob}
 use Rattle.algorithm.specs.SoundDay.{SoundDay}
 use Rattle.algorithm.specs.Answer.{Answer, fault, answerTo}
 use Rattle.arrays.specs.Arrays.{filled}

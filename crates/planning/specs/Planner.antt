@@ -19,7 +19,7 @@ use Rattle.fields.specs.declared.sheet.Job.{Job}
 use Rattle.frame.specs.Reading.{accepted, refused, readSheet}
 use Rattle.planning.specs.declared.answer.Answer.{Answer as Given}
 use Rattle.planning.specs.declared.answer.Answer.the-variants.{Plan, Long, None, Fault as GivenFault}
-use Rattle.algorithm.specs.Day.{dayOf}
+use Rattle.day.specs.Day.{dayOf}
 use Rattle.algorithm.specs.Answer.{Answer, plan, tooLong, none, fault, answerTo}
 
 unfoldable pub setOf : List ℕ → ℕ

@@ -20,7 +20,8 @@ use Rattle.bools.proofs.BoolLaws.{split}
 use Rattle.bools.proofs.OrderLaws.{eq-or-ne, lt-of-ne}
 use Rattle.sums.specs.Sum.{count}
 use Rattle.sums.proofs.CountLaws.{count-cong, count-pos}
-use Rattle.algorithm.specs.Day.{Day, rock, lowest, highest}
+use Rattle.day.specs.Day.{Day}
+use Rattle.algorithm.specs.Rocks.{rock, lowest, highest}
 use Rattle.algorithm.specs.Start.{joined, component, rocksIn}
 use Rattle.algorithm.proofs.Graph.{component-same, edges-mono}
 use Rattle.algorithm.proofs.RockGraph.{rock-graph, rocks-component, component-self}

@@ -26,7 +26,8 @@ use Rattle.sums.proofs.MembersLaws.{any-members, count-members}
 use Rattle.closure.specs.Closure.{closure, reach}
 use Rattle.closure.proofs.ClosureLaws.{closure-cong}
 use Rattle.rocks.specs.declared.rocks.Limits.{Limits}
-use Rattle.algorithm.specs.Day.{Day, rock, lowest, highest}
+use Rattle.day.specs.Day.{Day}
+use Rattle.algorithm.specs.Rocks.{rock, lowest, highest}
 use Rattle.algorithm.specs.Start.{joinedBy, joined, component, rocksIn, crowded, crowdedBench, oneCycle}
 use Rattle.rocks.specs.RockArrays.{touchesAt, otherAt}
 use Rattle.rocks.specs.SpreadArrays.{neutralRock, insideAt, linksAt, linkedAt, balanceOf, Within, Shows}

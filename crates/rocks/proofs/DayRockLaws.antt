@@ -11,7 +11,8 @@ use borrow.Author.Tests.{eq-eqb, eqb-true}
 use Rattle.bools.proofs.BoolLaws.{bool-ext, or-left, or-right, or-elim}
 use Rattle.sums.proofs.MembersLaws.{member-below, member-holds}
 use Rattle.rocks.specs.declared.rocks.Limits.{Limits}
-use Rattle.algorithm.specs.Day.{Day, rock, lowest, highest}
+use Rattle.day.specs.Day.{Day}
+use Rattle.algorithm.specs.Rocks.{rock, lowest, highest}
 use Rattle.rocks.specs.RockArrays.{touchesAt}
 use Rattle.rocks.specs.DayArrays.{dayRocks, dayRock, DayRocks}
 use Rattle.algorithm.proofs.RockLaws.{low-allowed, high-allowed, allowed-end}

@@ -12,7 +12,8 @@ use lib.Dec.{eqb}
 use Rattle.sums.specs.Sum.{count}
 use Rattle.sums.specs.Members.{members}
 use Rattle.rocks.specs.declared.rocks.Limits.{Limits}
-use Rattle.algorithm.specs.Day.{Day, rock, lowest, highest}
+use Rattle.day.specs.Day.{Day}
+use Rattle.algorithm.specs.Rocks.{rock, lowest, highest}
 use Rattle.algorithm.specs.Start.{component, rocksIn, oneCycle}
 use Rattle.algorithm.specs.SoundDay.{SoundDay}
 use Rattle.rocks.specs.SpreadArrays.{balanceOf}

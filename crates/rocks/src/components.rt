@@ -7,7 +7,7 @@ ghost use mathlib.Core.Bool.{cond, false};
 ghost use lib.ListN.{getD, length};
 ghost use lib.Dec.{eqb};
 ghost use Rattle.sums.specs.Search.{least};
-ghost use Rattle.algorithm.specs.Day.{Day};
+ghost use Rattle.day.specs.Day.{Day};
 ghost use Rattle.algorithm.specs.Start.{component as componentOf};
 ghost use Rattle.arrays.specs.Arrays.{filled};
 ghost use Rattle.rocks.specs.DayArrays.{DayRocks, balanceIn, BalancesTo};

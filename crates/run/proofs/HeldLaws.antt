@@ -14,7 +14,8 @@ use Rattle.sums.specs.Members.{members}
 use Rattle.sums.proofs.CountLaws.{count-cong, count-mono, count-le}
 use Rattle.rocks.specs.declared.rocks.Limits.{Limits}
 use Rattle.algorithm.specs.Board.{Directions, touches, towards, rockLoad, load}
-use Rattle.algorithm.specs.Day.{Day, weight, scale, rock, lowest, highest}
+use Rattle.day.specs.Day.{Day, scale}
+use Rattle.algorithm.specs.Rocks.{weight, rock, lowest, highest}
 use Rattle.algorithm.specs.Start.{State}
 use Rattle.algorithm.specs.SoundDay.{SoundDay, Uncrowded}
 use Rattle.algorithm.specs.Run.{boardOf, ownMinutes}

@@ -22,7 +22,8 @@ use Rattle.bits.specs.Bits.{isSet}
 use Rattle.bits.proofs.SetBits.{isSet-zero}
 use Rattle.push.specs.KeptArrays.{shiftedOf, liesAt, ReachShifted, Chosen}
 use Rattle.push.specs.PushArrays.{Choices}
-use Rattle.algorithm.specs.Day.{Day, rock, heavy, pebble, weight}
+use Rattle.day.specs.Day.{Day, heavy, pebble}
+use Rattle.algorithm.specs.Rocks.{rock, weight}
 use Rattle.algorithm.specs.Start.{State}
 use Rattle.algorithm.specs.Run.{boardOf}
 use Rattle.algorithm.proofs.Peeling.{start-peeled}

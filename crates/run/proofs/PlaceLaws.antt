@@ -10,7 +10,8 @@ use mathlib.Core.List.{List}
 use native.Mathlib.Omega.{arith}
 use lib.ListN.{length, getD, replicate, length-replicate}
 use Rattle.bools.proofs.BoolLaws.{split}
-use Rattle.algorithm.specs.Day.{Day, rock, lowest}
+use Rattle.day.specs.Day.{Day}
+use Rattle.algorithm.specs.Rocks.{rock, lowest}
 use Rattle.algorithm.specs.SoundDay.{SoundDay}
 use Rattle.algorithm.specs.Start.{State, start}
 use Rattle.algorithm.proofs.Peeling.{start-peeled}

@@ -24,7 +24,7 @@ use Rattle.run.specs.declared.state.State.{State as Kept}
 use Rattle.algorithm.specs.Board.{Board}
 use Rattle.algorithm.specs.Explore.{never, roundOf, within, activated}
 use Rattle.algorithm.specs.Push.{canPush, pushJob, pushBench}
-use Rattle.algorithm.specs.Day.{Day, pebble}
+use Rattle.day.specs.Day.{Day, pebble}
 use Rattle.algorithm.specs.Start.{State, start}
 use Rattle.algorithm.specs.Run.{boardOf, explored, congested, canMove, nextState, turns, budget}
 use Rattle.algorithm.specs.States.{Reached, by-move}

@@ -12,7 +12,8 @@ use Rattle.bits.specs.Bits.{isSet}
 use Rattle.sums.specs.Sum.{sum, count}
 use Rattle.sums.specs.Members.{members}
 use Rattle.rocks.specs.declared.rocks.Limits.{Limits}
-use Rattle.algorithm.specs.Day.{Day, lowest, highest, pebble, weight, bound, small, limit}
+use Rattle.day.specs.Day.{Day, pebble, bound}
+use Rattle.algorithm.specs.Rocks.{lowest, highest, weight, small, limit}
 use Rattle.algorithm.specs.SoundDay.{SoundDay, Uncrowded}
 use Rattle.algorithm.specs.Start.{State, start}
 use Rattle.algorithm.specs.Run.{boardOf, explored, canMove, nextState, answerAt, turns, budget}

@@ -3,7 +3,7 @@ use crate::state::State;
 use crate::tables;
 use rocks::Limits;
 ghost use mathlib.Core.Path.{_≡_};
-ghost use Rattle.algorithm.specs.Day.{Day};
+ghost use Rattle.day.specs.Day.{Day};
 ghost use Rattle.algorithm.specs.Start.{start as startOf};
 ghost use Rattle.algorithm.specs.Run.{budget as budgetOf};
 ghost use Rattle.run.specs.Held.{Ready, Held, Last};

@@ -10,7 +10,8 @@ use Rattle.sums.specs.Sum.{count}
 use Rattle.sums.specs.Members.{members}
 use Rattle.sums.proofs.CountLaws.{count-cong}
 use Rattle.sums.proofs.MembersLaws.{members-cong}
-use Rattle.algorithm.specs.Day.{Day, lowest, highest}
+use Rattle.day.specs.Day.{Day}
+use Rattle.algorithm.specs.Rocks.{lowest, highest}
 use Rattle.algorithm.specs.Start.{State}
 use Rattle.algorithm.specs.Run.{boardOf}
 use Rattle.rocks.specs.BoardArrays.{rocksOf, rockAt}

@@ -27,7 +27,8 @@ use Rattle.arrays.specs.Arrays.{plusOf, timesOf, filled}
 use Rattle.arrays.proofs.FilledLaws.{filled-none, filled-more, length-filled}
 use Rattle.sets.specs.Sets.{choicesOf, lowestOf, highestOf}
 use Rattle.start.specs.StartArrays.{heavyOf, rockOf, pebbleOf, limitsOf, Bounded, Fields}
-use Rattle.algorithm.specs.Day.{Day, choices, heavy, rock, pebble, lowest, highest, weight, bound, small, limit}
+use Rattle.day.specs.Day.{Day, choices, heavy, pebble, bound}
+use Rattle.algorithm.specs.Rocks.{rock, lowest, highest, weight, small, limit}
 use Rattle.algorithm.specs.SoundDay.{SoundDay}
 use Rattle.algorithm.proofs.RockLaws.{lowest-below, low-below-high, high-below, high-allowed, allowed-end}
 use Rattle.arrays.proofs.NumberLaws.{times-exact}

@@ -28,7 +28,8 @@ use Rattle.sums.specs.Table.{table}
 use Rattle.sums.proofs.TableLaws.{length-table, getD-table}
 use Rattle.sums.proofs.MembersLaws.{members-cong, member-below, member-holds, count-members, least-members-found}
 use Rattle.rocks.specs.declared.rocks.Limits.{Limits}
-use Rattle.algorithm.specs.Day.{Day, rock, pebble, lowest, highest, weight, longJob}
+use Rattle.day.specs.Day.{Day, pebble, longJob}
+use Rattle.algorithm.specs.Rocks.{rock, lowest, highest, weight}
 use Rattle.algorithm.specs.Start.{State, oneCycle, leftAt, hanging, peel, start}
 use Rattle.algorithm.specs.SoundDay.{SoundDay}
 use Rattle.arrays.specs.Arrays.{timesOf, filled}

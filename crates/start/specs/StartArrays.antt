@@ -15,7 +15,8 @@ use lib.Dec.{eqb, leb, ltb}
 use Rattle.sums.specs.Sum.{count}
 use Rattle.bits.specs.Bits.{isSet}
 use Rattle.rocks.specs.declared.rocks.Limits.{Limits}
-use Rattle.algorithm.specs.Day.{Day, rock}
+use Rattle.day.specs.Day.{Day}
+use Rattle.algorithm.specs.Rocks.{rock}
 use Rattle.algorithm.specs.Start.{State}
 use Rattle.arrays.specs.Arrays.{plusOf, timesOf}
 use Rattle.rocks.specs.RockArrays.{touchesAt}

@@ -2,7 +2,7 @@
 use rocks::Limits;
 ghost use mathlib.Core.Path.{_≡_};
 ghost use Rattle.sums.specs.Search.{least};
-ghost use Rattle.algorithm.specs.Day.{Day};
+ghost use Rattle.day.specs.Day.{Day};
 ghost use Rattle.algorithm.specs.Start.{State, peel as peelOf};
 ghost use Rattle.start.specs.StartArrays.{leftRock, leftCount, hangingOf, JobsOf, Placed};
 ghost use Rattle.rocks.specs.DayArrays.{DayRocks, Cycles};

@@ -5,7 +5,7 @@ use native.Mathlib.Omega.{arith}
 use lib.ListN.{replicate, length-replicate}
 use Rattle.planning.proofs.SheetRun.{fields-of, sound-of, short-places, short-loads, long-enough}
 use Rattle.fields.specs.declared.sheet.Sheet.{Sheet}
-use Rattle.algorithm.specs.Day.{dayOf}
+use Rattle.day.specs.Day.{dayOf}
 use borrow.Author.Needs.{needs}
 use Rattle.planning.proofs.planner.plan_sheet.Statement.{statement}
 use Rattle.planning.proofs.planner.plan_sheet.Tie as tie

@@ -3,7 +3,7 @@ use Prim.Native.Nat.{ℕ, _≤_, _<_, _-_}
 use mathlib.Core.Path.{_≡_, refl}
 use native.Mathlib.Omega.{arith}
 use lib.ListN.{length, getD}
-use Rattle.algorithm.specs.Day.{Day}
+use Rattle.day.specs.Day.{Day}
 use Rattle.rocks.specs.DayArrays.{DayRocks, BalancesTo}
 use Rattle.rocks.proofs.ComponentRun.{zeros}
 use Rattle.rocks.proofs.BalanceRun.{balances-start, balances-all}

@@ -4,7 +4,7 @@ use mathlib.Core.Path.{refl}
 use native.Mathlib.Omega.{arith}
 use lib.ListN.{length-replicate}
 use Rattle.bools.proofs.BoolLaws.{not-true}
-use Rattle.algorithm.specs.Day.{Day}
+use Rattle.day.specs.Day.{Day}
 use Rattle.run.specs.Held.{Ready}
 use Rattle.explore.proofs.ExploreSets.{mapped}
 use Rattle.run.proofs.PlaceLaws.{chosen}

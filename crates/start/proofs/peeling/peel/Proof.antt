@@ -2,7 +2,7 @@
 use mathlib.Core.Path.{_≡_, refl, ap, _∙_}
 use native.Mathlib.Omega.{arith}
 use lib.ListN.{length, length-set}
-use Rattle.algorithm.specs.Day.{Day}
+use Rattle.day.specs.Day.{Day}
 use Rattle.algorithm.specs.Start.{State}
 use Rattle.rocks.specs.DayArrays.{DayRocks, Cycles}
 use Rattle.start.specs.StartArrays.{JobsOf, Placed}
