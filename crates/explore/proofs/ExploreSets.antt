@@ -28,7 +28,7 @@ use Rattle.explore.specs.ExploreArrays.{joinsAt, fakeAt, Reaches, opened
 use Rattle.rocks.specs.Neighbours.{Here, Near, Mapped}
 use Rattle.forced.specs.SetArrays.{Covers, Nowhere, forcesAt}
 use Rattle.forced.specs.CandidateArrays.{Neutral}
-use Rattle.rocks.specs.Shown.{Shown}
+use Rattle.rocks.specs.Shown.{Shown, ShowsActive}
 use Rattle.forced.proofs.CandidateLaws.{rock-ends, few-rocks, few-benches}
 use Rattle.explore.proofs.RoundSets.{end-below, Raised, Sets, sets-start, joins-covered, fakes-covered, waits-asked, sets-next}
 use Rattle.explore.proofs.RoundRun.{Exploring, exploring-starts, exploring-joined, exploring-goes-on, exploring-ends, exploring-spent}
@@ -71,15 +71,15 @@ module _ (b : Board) (n : Limits) (low high weight : List ℕ) (R : Rocks b n lo
       }
 
   pub exploration-spent : {i turns all neutral active fresh wait : ℕ} {dir load joined level : List ℕ} → Exploration i all dir load joined level neutral active fresh wait
-      → turns ≡ plusOf (n .benches) 1 → turns ≤ i → Shown b (explore b) dir load joined level
-  exploration-spent E e over = exploring-spent b n low high weight R (E .exploring) e over
+      → turns ≡ plusOf (n .benches) 1 → turns ≤ i → Shown b (explore b) dir load joined level × ShowsActive b (explore b) active
+  exploration-spent E e over = exploring-spent b n low high weight R (E .exploring) e over (E .sets)
 
   module _ (idle : ℕ) {i turns all neutral active reach fresh wait opened : ℕ} {from dir load joined level joined′ level′ : List ℕ} (T : Reaches b from)
       (E : Exploration i all dir load joined level neutral active fresh wait) (in-time : i < turns) (bound : turns ≡ plusOf (n .benches) 1)
       (ei : (v : ℕ) → isSet 64 idle v ≡ (isSet 64 all v && not (isSet 64 active v)))
       (e : (v : ℕ) → v < 64 → isSet 64 idle v ≡ true → isSet 64 reach v ≡ any 64 (λ u. isSet 64 fresh u && isSet 64 (getD from u 0) v))
       (O : Raised n i all active reach load joined level opened joined′ level′) where
-    pub exploration-ends : opened ≡ 0 → Shown b (explore b) dir load joined′ level′
+    pub exploration-ends : opened ≡ 0 → Shown b (explore b) dir load joined′ level′ × ShowsActive b (explore b) active
     exploration-ends shut = exploring-ends b n low high weight R idle T (E .exploring) in-time bound ei e (E .sets) O shut
 
     module _ (few : rocksOf b ≤ 64) (here near : List ℕ) (stony cand fakes grown neutral′ rest asked left went fresh′ active′ : ℕ) (dir′ load′ joined″ level″ : List ℕ)

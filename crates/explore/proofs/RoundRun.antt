@@ -30,7 +30,7 @@ use Rattle.algorithm.specs.Forced.{forcedOrientations}
 use Rattle.arrays.specs.Arrays.{plusOf}
 use Rattle.rocks.specs.BoardArrays.{rocksOf, rockAt, Rocks, Directed, Loaded, Seen, Owned, Rounds, Pebbles}
 use Rattle.explore.specs.ExploreArrays.{addedAt, opensAt, Reaches, openedLevels, openedJoined, Begun, Built}
-use Rattle.rocks.specs.Shown.{Shown}
+use Rattle.rocks.specs.Shown.{Shown, ShowsActive}
 use Rattle.algorithm.proofs.BoardLaws.{pointed-start, rockLoad-none}
 use Rattle.rocks.proofs.ScanLaws.{rock-below}
 use Rattle.arrays.proofs.NumberLaws.{plus-one}
@@ -332,12 +332,26 @@ module _ (b : Board) (n : Limits) (low high weight : List ℕ) (R : Rocks b n lo
         same = explore-is b;
       }
 
+  -- Of the benches of the board the set has those that are activated, and it has no others.
+  active-shown : {i all active fresh wait : ℕ} {dir loads joined level : List ℕ} (x : Explored) → Rounds b (x .level) level
+      → Sets n low high weight i all dir loads joined level active fresh wait → ShowsActive b x active
+  active-shown {active = active} {level = level} x Y S v h = elim (lt-or-le v (b .benches)) [
+    | inl l ↦
+        S .actives v (omega (arith, R .benches)) ∙ within-same b n low high weight R (x .level) level Y v l
+        ∙ sym (ap (λ (p : Bool). p && activated b x v) (lt-ltb v (b .benches) l))
+    | inr l ↦
+        (elim (split (isSet 64 active v)) [ inl p ↦ absurd (omega (arith, S .active-below v h p, R .benches)) | inr p ↦ p ])
+        ∙ sym (and-false-left (activated b x v) (le-ltb v (b .benches) l))
+  ]
+
   pub exploring-spent : {i turns : ℕ} {dir loads joined level : List ℕ} → Exploring i dir loads joined level → turns ≡ plusOf (n .benches) 1 → turns ≤ i
-      → Shown b (explore b) dir loads joined level
-  exploring-spent {i} {turns} {dir} {loads} {joined} {level} E e over =
+      → {all active fresh wait : ℕ} → Sets n low high weight i all dir loads joined level active fresh wait
+      → Shown b (explore b) dir loads joined level × ShowsActive b (explore b) active
+  exploring-spent {i} {turns} {dir} {loads} {joined} {level} E e over {active = active} S =
       let none : E .left ≡ 0 = omega (arith, E .in-all, e, R .benches, R .few-benches) in
-      subst (λ (x : Explored). Shown b x dir loads joined level)
-      (sym (E .same ∙ ap (λ (k : ℕ). rounds k b i (E .now-x)) none ∙ rounds-none b i (E .now-x))) (E .shown)
+      subst (λ (x : Explored). Shown b x dir loads joined level × ShowsActive b x active)
+      (sym (E .same ∙ ap (λ (k : ℕ). rounds k b i (E .now-x)) none ∙ rounds-none b i (E .now-x)))
+      (E .shown, active-shown (E .now-x) (E .shown .level) S)
 
   module _ (idle : ℕ) {i turns all active reach fresh wait opened : ℕ} {from dir loads joined level joined′ level′ : List ℕ} (T : Reaches b from)
       (E : Exploring i dir loads joined level) (in-time : i < turns) (bound : turns ≡ plusOf (n .benches) 1)
@@ -357,12 +371,12 @@ module _ (b : Board) (n : Limits) (low high weight : List ℕ) (R : Rocks b n lo
     pub exploring-joined : Rounds b (openedJoined b i (E .now-x)) joined′
     exploring-joined = opened-now .joined
 
-    pub exploring-ends : opened ≡ 0 → Shown b (explore b) dir loads joined′ level′
+    pub exploring-ends : opened ≡ 0 → Shown b (explore b) dir loads joined′ level′ × ShowsActive b (explore b) active
     exploring-ends shut =
         let none = none-opens b i (E .now-x) (R .few-benches) opened-now shut in
-        subst (λ (x : Explored). Shown b x dir loads joined′ level′)
+        subst (λ (x : Explored). Shown b x dir loads joined′ level′ × ShowsActive b x active)
         (sym (E .same ∙ rounds-stops (E .left) b i (E .now-x) none))
-        (none-opened b i (E .now-x) (E .shown) opened-now none)
+        (none-opened b i (E .now-x) (E .shown) opened-now none, active-shown (E .now-x) (E .shown .level) S)
 
     pub exploring-goes-on : {dir′ loads′ joined″ level″ : List ℕ} → 0 < opened → opened < 2 ^ 64
         → ((dirs : Directions) (xs : List ℕ) → Seen b dirs dir loads → Rounds b xs joined′ → Built b (construct (b .jobs) b i dirs xs) dir′ loads′ joined″)

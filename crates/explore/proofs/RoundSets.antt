@@ -113,6 +113,7 @@ module _ (n : Limits) (low high weight : List ℕ) where
     pub room-level : n .benches ≤ length level
     pub alls : (v : ℕ) → v < 64 → isSet 64 all v ≡ ltb v (n .benches)
     pub actives : (v : ℕ) → v < n .benches → isSet 64 active v ≡ withinAt (n .benches) level v
+    pub active-below : (v : ℕ) → v < 64 → isSet 64 active v ≡ true → v < n .benches
     pub freshly : (v : ℕ) → v < 64 → isSet 64 fresh v ≡ (ltb v (n .benches) && eqb (plusOf (getD level v 0) 1) i)
     pub earlier : (v : ℕ) → v < n .benches → withinAt (n .benches) level v ≡ true → getD level v 0 < i
     pub waits : Waits n joined level wait
@@ -134,6 +135,7 @@ module _ (n : Limits) (low high weight : List ℕ) where
           room-level = omega (arith, ap length el, length-replicate m (plusOf (n .benches) 1));
           alls = alls;
           actives = λ v h. isSet-zero 64 v ∙ sym (l v h);
+          active-below = λ v h p. clash p (isSet-zero 64 v);
           freshly = λ v h. isSet-zero 64 v ∙ sym (and-false-right (ltb v (n .benches)) (ne-eqb (plusOf (getD level v 0) 1) 0 (λ e. omega arith)));
           earlier = λ v h p. clash p (l v h);
           waits = λ v h p q. clash p (j v h);
@@ -274,6 +276,11 @@ module _ (n : Limits) (low high weight : List ℕ) where
                       or-unit (isSet 64 active v) p ∙ S .actives v h
                       ∙ sym (within-of (n .benches) level″ level v (after-round v h ∙ cond-false i (getD level v 0) p))
                 ];
+                active-below = λ v h p.
+                    elim (or-elim (isSet 64 active v) (isSet 64 fresh′ v) (sym (ap (λ (k : ℕ). isSet 64 k v) en ∙ or-isSet active fresh′ v) ∙ p)) [
+                      | inl q ↦ S .active-below v h q
+                      | inr q ↦ fresh-below v h q
+                    ];
                 freshly = λ v h. elim (split (isSet 64 fresh′ v)) [
                   | inl p ↦
                       let hv = fresh-below v h p in

@@ -15,7 +15,7 @@ ghost use Rattle.rocks.specs.RockArrays.{withinAt};
 ghost use Rattle.rocks.specs.BoardArrays.{rocksOf, Rocks, Owned, Pebbles};
 ghost use Rattle.explore.specs.ExploreArrays.{addedAt, opensAt, Reaches};
 ghost use Rattle.rocks.specs.Neighbours.{Mapped};
-ghost use Rattle.rocks.specs.Shown.{Shown};
+ghost use Rattle.rocks.specs.Shown.{Shown, ShowsActive};
 
 // Job j, where it is a pebble, adds the benches that it allows to the set of the bench on which it lies.
 fn add_pebble<'a>(
@@ -139,8 +139,16 @@ pub fn explore<'a>(
     load: &mut [usize],
     joined: &mut [usize],
     level: &mut [usize],
-)
-    ensures { λ _. ⌜ ((b : Board) → Rocks b n (now (low .entry)) (now (high .entry)) (now (weight .entry)) → Mapped n (now (low .entry)) (now (high .entry)) (now (here .entry)) (now (near .entry)) all stony → Owned b (now (own .entry)) → Reaches b (now (from .entry)) → rocksOf b ≤ 64 → length (now (own .entry)) ≡ 64 → now (dir .entry) ≡ replicate 64 0 → now (load .entry) ≡ now (own .entry) → now (joined .entry) ≡ replicate 64 (plusOf (n .benches) 1) → now (level .entry) ≡ replicate 64 (plusOf (n .benches) 1) → Shown b (explored b) (now (dir .exit)) (now (load .exit)) (now (joined .exit)) (now (level .exit))) ⌝ }
+) -> usize
+    ensures { λ r. ⌜ ((b : Board)
+        → Rocks b n (now (low .entry)) (now (high .entry)) (now (weight .entry))
+        → Mapped n (now (low .entry)) (now (high .entry)) (now (here .entry)) (now (near .entry)) all stony
+        → Owned b (now (own .entry)) → Reaches b (now (from .entry)) → rocksOf b ≤ 64 → length (now (own .entry)) ≡ 64
+        → now (dir .entry) ≡ replicate 64 0 → now (load .entry) ≡ now (own .entry)
+        → now (joined .entry) ≡ replicate 64 (plusOf (n .benches) 1)
+        → now (level .entry) ≡ replicate 64 (plusOf (n .benches) 1)
+        → Shown b (explored b) (now (dir .exit)) (now (load .exit)) (now (joined .exit)) (now (level .exit))
+        × ShowsActive b (explored b) r) ⌝ }
 {
     let all_rocks = sets::everywhere(n.rocks);
     let f = forced::force(n, low, high, weight, here, stony, all_rocks, dir, load);
@@ -155,7 +163,7 @@ pub fn explore<'a>(
         let reach = sets::reach_of(from, fresh, rest);
         let opened = open_round(n, i, all, active, reach, load, joined, level);
         if opened == 0 {
-            return;
+            return active;
         }
         let cand = sets::reach_of(near, opened, stony);
         let grown = conflict::construct(
@@ -192,4 +200,5 @@ pub fn explore<'a>(
         active = active | fresh;
         i += 1;
     }
+    active
 }
