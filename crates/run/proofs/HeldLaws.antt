@@ -60,19 +60,25 @@ module _ (d : Day) (n : Limits) (low high weights amount : List ℕ) (pebbles : 
     same-left j = ap (λ (l : List Bool). getD l j false) (held-good .left-kept)
 
     -- The weights on a bench besides its rocks.
-    pub own-sum : (v : ℕ) → scale d * ownMinutes d s v ≡ sum (d .jobs) (λ j. on (not (getD (s .left) j false) && eqb (getD (s .place) j 0) v) (weight d j))
+    pub own-sum : (v : ℕ) → scale d * ownMinutes d s v
+        ≡ scale d * d .booked v + sum (d .jobs) (λ j. on (not (getD (s .left) j false) && eqb (getD (s .place) j 0) v) (weight d j))
     unfolding ownMinutes
     own-sum v =
         let f : ℕ → ℕ = λ j. on (not (getD (s .left) j false) && eqb (getD (s .place) j 0) v) (d .minutes j) in
-        let none : d .booked v + sum (d .jobs) f ≡ sum (d .jobs) f = omega (arith, R .unbooked v) in
-        ap (λ (k : ℕ). scale d * k) none ∙ sym (sum-mul (d .jobs) (scale d) f)
-        ∙ sum-cong (d .jobs) (λ j. scale d * f j) (λ j. on (not (getD (s .left) j false) && eqb (getD (s .place) j 0) v) (weight d j))
-        (λ j h. scaled-same (scale d) (d .minutes j) (not (getD (s .left) j false) && eqb (getD (s .place) j 0) v))
+        omega (
+          arith,
+          sum-mul (d .jobs) (scale d) f,
+          sum-cong (d .jobs) (λ j. scale d * f j) (λ j. on (not (getD (s .left) j false) && eqb (getD (s .place) j 0) v) (weight d j))
+              (λ j h. scaled-same (scale d) (d .minutes j) (not (getD (s .left) j false) && eqb (getD (s .place) j 0) v)),
+        )
 
-    own-light : (v : ℕ) → scale d * ownMinutes d s v ≤ sum (d .jobs) (λ j. on (not (getD (s .left) j false)) (weight d j))
-    own-light v = rw (own-sum v)
-        (sum-le (d .jobs) (λ j. on (not (getD (s .left) j false) && eqb (getD (s .place) j 0) v) (weight d j)) (λ j. on (not (getD (s .left) j false)) (weight d j))
-        (λ j h. and-part (not (getD (s .left) j false)) (eqb (getD (s .place) j 0) v) (weight d j)))
+    own-light : (v : ℕ) → scale d * ownMinutes d s v ≤ scale d * d .booked v + sum (d .jobs) (λ j. on (not (getD (s .left) j false)) (weight d j))
+    own-light v = omega (
+      arith,
+      own-sum v,
+      sum-le (d .jobs) (λ j. on (not (getD (s .left) j false) && eqb (getD (s .place) j 0) v) (weight d j)) (λ j. on (not (getD (s .left) j false)) (weight d j))
+          (λ j h. and-part (not (getD (s .left) j false)) (eqb (getD (s .place) j 0) v) (weight d j)),
+    )
 
     rocks-light : (dirs : Directions) (v : ℕ) → rockLoad (boardOf d s) dirs v ≤ sum (d .jobs) (λ j. on (getD (s .left) j false) (weight d j))
     unfolding rockLoad
@@ -82,7 +88,7 @@ module _ (d : Day) (n : Limits) (low high weights amount : List ℕ) (pebbles : 
 
     pub loads-light : (dirs : Directions) (v : ℕ) → load (boardOf d s) dirs v < 2 ^ 62
     loads-light dirs v =
-        omega (arith, own-light v, rocks-light dirs v, R .light, sum-split-on (d .jobs) (λ j. getD (s .left) j false) (weight d))
+        omega (arith, own-light v, rocks-light dirs v, R .light v, sum-split-on (d .jobs) (λ j. getD (s .left) j false) (weight d))
 
     pub rock-count : rocksOf (boardOf d s) ≡ count (d .jobs) (isLeft d)
     rock-count = count-cong (d .jobs) (λ j. getD (s .left) j false) (isLeft d) (λ j h. same-left j)
@@ -115,15 +121,16 @@ module _ (d : Day) (n : Limits) (low high weights amount : List ℕ) (pebbles : 
 
     -- The sums of the weights on each bench are the board's own loads.
     pub held-owned : (own : List ℕ)
-        → ((v : ℕ) → v < d .benches → sum (d .jobs) (amountOn amount left place v) < 2 ^ 63
-        → getD own v 0 ≡ sum (d .jobs) (amountOn amount left place v))
+        → ((v : ℕ) → v < d .benches → scale d * d .booked v + sum (d .jobs) (amountOn amount left place v) < 2 ^ 63
+        → getD own v 0 ≡ scale d * d .booked v + sum (d .jobs) (amountOn amount left place v))
         → Owned (boardOf d s) own
     held-owned own sums =
         record {
           entries = λ v h.
               let same = same-sum v in
-              sums v h (rw same (rw (← own-sum v) (omega (arith, own-light v, R .light, sum-split-on (d .jobs) (λ j. getD (s .left) j false) (weight d)))))
-              ∙ same ∙ sym (own-sum v);
+              let fits : scale d * ownMinutes d s v < 2 ^ 63 =
+              omega (arith, own-light v, R .light v, sum-split-on (d .jobs) (λ j. getD (s .left) j false) (weight d)) in
+              sums v h (omega (arith, same, own-sum v, fits)) ∙ omega (arith, same, own-sum v);
         }
       where
         same-sum : (v : ℕ) → sum (d .jobs) (amountOn amount left place v)

@@ -1,5 +1,6 @@
 pub mod HeldLaws
 pub mod MoveRun
 pub mod PlaceLaws
+pub mod StartState
 pub mod StateRun
 pub mod TableRun

@@ -2,7 +2,7 @@
 --     held-choices         the choices of the jobs show the board's pebbles
 --     owned-sums           the loads that an array shows are the sums of the weights
 --     moved-owned, moved-reach     the loads and the benches in reach of the next state
-use Prim.Native.Nat.{ℕ, _+_, _-_, _≤_, _<_, _^_}
+use Prim.Native.Nat.{ℕ, _+_, _-_, _*_, _≤_, _<_, _^_}
 use mathlib.Core.Path.{_≡_, refl, sym, ap, ap₂, _∙_}
 use mathlib.Core.Logic.{_≢_, inl, inr}
 use mathlib.Core.Bool.{Bool, true, false, not, _&&_, _||_}
@@ -22,7 +22,7 @@ use Rattle.bits.specs.Bits.{isSet}
 use Rattle.bits.proofs.SetBits.{isSet-zero}
 use Rattle.push.specs.KeptArrays.{shiftedOf, liesAt, ReachShifted, Chosen}
 use Rattle.push.specs.PushArrays.{Choices}
-use Rattle.day.specs.Day.{Day, heavy, pebble}
+use Rattle.day.specs.Day.{Day, heavy, pebble, scale}
 use Rattle.algorithm.specs.Rocks.{rock, weight}
 use Rattle.algorithm.specs.Start.{State}
 use Rattle.algorithm.specs.Run.{boardOf}
@@ -39,11 +39,13 @@ use Rattle.push.proofs.KeptRun.{shifted-load}
 
 module _ (d : Day) (n : Limits) (low high weights amount : List ℕ) (pebbles : List Bool) (allowed : List ℕ)
     (R : Ready d n low high weights amount pebbles allowed) (m : ℕ) (s : State) (left : List Bool) (place : List ℕ) (H : Held d m s left place) where
-  pub owned-sums : (own : List ℕ) → Owned (boardOf d s) own → (v : ℕ) → v < d .benches → getD own v 0 ≡ sum (d .jobs) (amountOn amount left place v)
+  pub owned-sums : (own : List ℕ) → Owned (boardOf d s) own → (v : ℕ) → v < d .benches
+      → getD own v 0 ≡ scale d * d .booked v + sum (d .jobs) (amountOn amount left place v)
   owned-sums own O v h =
       O .entries v h ∙ own-sum d n low high weights amount pebbles allowed R m s left place H v
-      ∙ sum-cong (d .jobs) (λ j. on (not (getD (s .left) j false) && eqb (getD (s .place) j 0) v) (weight d j)) (amountOn amount left place v)
-      (λ j l. rw (H .lefts j l, H .places j l, R .amounts j l))
+      ∙ ap (λ (k : ℕ). scale d * d .booked v + k)
+      (sum-cong (d .jobs) (λ j. on (not (getD (s .left) j false) && eqb (getD (s .place) j 0) v) (weight d j)) (amountOn amount left place v)
+      (λ j l. rw (H .lefts j l, H .places j l, R .amounts j l)))
 
   -- The choice of a job has the benches that it allows if it is a pebble.
   choice-day : (choice : List ℕ) → Chosen (n .jobs) pebbles allowed choice → (j y : ℕ) → j < d .jobs → y < d .benches
@@ -103,7 +105,7 @@ module _ (d : Day) (n : Limits) (low high weights amount : List ℕ) (pebbles : 
         let now-sum = owned-sums own O v h in
         let part : on (eqb u v) w ≤ sum (d .jobs) (amountOn amount left place v) =
         omega (arith, sum-term (d .jobs) (amountOn amount left place v) job below, put-before v) in
-        let w-small : w < 2 ^ 62 = omega (arith, R .amounts job below, sum-term (d .jobs) (weight d) job below, R .light) in
+        let w-small : w < 2 ^ 62 = omega (arith, R .amounts job below, sum-term (d .jobs) (weight d) job below, R .light v) in
         let more = sums-moved v in
         let flip1 : eqb v u ≡ eqb u v = eqb-sym v u in
         let flip2 : eqb v bench ≡ eqb bench v = eqb-sym v bench in

@@ -5,7 +5,5 @@ mod tables;
 
 pub use loops::turns;
 pub use state::State;
-pub use tables::congested;
-pub use tables::mark_active;
 pub use tables::pick;
 pub use tables::place_rocks;

@@ -1,14 +1,14 @@
 // The turns of the run.
 use crate::state::State;
-use crate::tables;
 use rocks::Limits;
 ghost use mathlib.Core.Path.{_≡_};
 ghost use Rattle.day.specs.Day.{Day};
 ghost use Rattle.algorithm.specs.Start.{start as startOf};
 ghost use Rattle.algorithm.specs.Run.{budget as budgetOf};
-ghost use Rattle.run.specs.Held.{Ready, Held, Last};
+ghost use Rattle.run.specs.Held.{Ready, Holds, Last};
 
-// Explorations and pushes one after another, until no bench is overloaded or no push is possible. The tables and sets that every turn reads are made first.
+// Explorations and pushes one after another, until no bench is overloaded or no push is possible. The tables and sets
+// that every turn reads are made first.
 pub fn turns<'a>(
     first: State,
     budget: usize,
@@ -20,7 +20,10 @@ pub fn turns<'a>(
     pebble: &'a [bool],
     allowed: &'a [usize],
 ) -> State
-    ensures { λ r. ⌜ ((d : Day) → Ready d n (now (low .entry)) (now (high .entry)) (now (weight .entry)) (now (amount .entry)) (now (pebble .entry)) (now (allowed .entry)) → Held d 0 (startOf d) (first .left) (first .place) → first .moves ≡ 0 → budget ≡ budgetOf d → Last d r) ⌝ }
+    ensures { λ r. ⌜ ((d : Day)
+        → Ready d n (now (low .entry)) (now (high .entry)) (now (weight .entry)) (now (amount .entry))
+        (now (pebble .entry)) (now (allowed .entry))
+        → Holds d 0 (startOf d) first → budget ≡ budgetOf d → Last d r) ⌝ }
 {
     let mut here = [0usize; 64];
     rocks::fill_here(n, low, high, &mut here);
@@ -30,12 +33,13 @@ pub fn turns<'a>(
     let stony = sets::some(&here);
     let mut choice = [0usize; 512];
     start::choose(n.jobs, pebble, allowed, &mut choice);
-    let mut s = first.weigh(n, amount, pebble, allowed);
+    let mut s = first;
     // One exploration more than there can be moves.
     let mut left = arrays::plus(budget, 1);
     while 0 < left {
         s = s.orient(n, low, high, weight, &here, &near, all, stony);
-        if !tables::congested(n.benches, &s.level) {
+        let active = s.active;
+        if active == 0 {
             return s;
         }
         let before = s.moves;

@@ -1,92 +1,78 @@
 // The state of the run: the rocks that are left, where every other job is, the moves made, and the last exploration.
 use rocks::Limits;
-ghost use mathlib.Core.Path.{_≡_};
-ghost use Prim.Native.Nat.{ℕ, _<_};
-ghost use mathlib.Core.Bool.{Bool, false};
 ghost use mathlib.Core.List.{List};
-ghost use lib.ListN.{getD};
+ghost use mathlib.Core.Bool.{Bool};
+ghost use Prim.Native.Nat.{ℕ};
 ghost use Rattle.day.specs.Day.{Day};
-ghost use Rattle.algorithm.specs.Rocks.{rock as isRock};
 ghost use Rattle.algorithm.specs.Start.{State as RunState, start as startOf};
-ghost use Rattle.algorithm.specs.Run.{boardOf, explored};
-ghost use Rattle.rocks.specs.BoardArrays.{Owned};
-ghost use Rattle.explore.specs.ExploreArrays.{Reaches};
 ghost use Rattle.rocks.specs.Neighbours.{Mapped};
 ghost use Rattle.push.specs.KeptArrays.{Chosen};
-ghost use Rattle.rocks.specs.Shown.{Shown};
-ghost use Rattle.run.specs.Held.{Ready, Held, Pushed};
-ghost use Rattle.start.specs.StartArrays.{Fields, JobsOf, Placed};
-ghost use Rattle.rocks.specs.DayArrays.{DayRocks, Cycles};
+ghost use Rattle.run.specs.Held.{Begins, Ready, Holds, Unexplored, Explores, Pushed};
 
 pub struct State {
     pub left: [bool; 512],
     pub place: [u8; 512],
     pub moves: usize,
-    // The load of each bench besides its rocks, and the benches that the pebbles on it allow.
+    // The load of each bench besides its rocks, and the benches that the pebbles on it may go to.
     pub own: [usize; 64],
-    pub from: [usize; 64],
-    // Of the last exploration.
+    pub reach: [usize; 64],
+    // The last exploration: directions of the rocks and loads under them, the round in which each bench joined the
+    // conflict set, its level, and the activated benches. Before the first one there is no direction and no such bench.
     pub dir: [usize; 64],
     pub load: [usize; 64],
     pub joined: [usize; 64],
     pub level: [usize; 64],
+    pub active: usize,
 }
 
 impl State {
-    // start d: every job on its lowest bench, and rocks hanging off a cycle peeled. Not weighed, and no exploration yet.
+    // start d: every job on its lowest bench, and rocks hanging off a cycle peeled.
     pub fn start<'a>(
         n: Limits,
         rock: [bool; 512],
+        burden: [usize; 64],
+        pebble: &'a [bool],
         allowed: &'a [usize],
+        amount: &'a [usize],
         job: &'a [usize],
         low: &'a [usize],
         high: &'a [usize],
         balance: &'a [usize],
     ) -> State
-        ensures { λ r. ⌜ (r .moves ≡ 0) × ((d : Day) → (minutes : List ℕ) → Fields d (n .jobs) minutes (now (allowed .entry)) → DayRocks d n (now (low .entry)) (now (high .entry)) → JobsOf d (now (job .entry)) → Cycles d (now (balance .entry)) → ((j : ℕ) → j < d .jobs → getD rock j false ≡ isRock d j) → Placed d (startOf d) (r .left) (r .place)) ⌝ }
+        ensures unexplored { λ r. ⌜ Unexplored n r ⌝ }
+        ensures started { λ r. ⌜ ((d : Day) → (minutes : List ℕ)
+            → Begins d n minutes (now (allowed .entry)) (now (amount .entry)) (now (job .entry)) (now (low .entry))
+            (now (high .entry)) (now (balance .entry)) burden rock (now (pebble .entry))
+            → Holds d 0 (startOf d) r) ⌝ }
     {
         let mut left = rock;
         let mut place = [0usize; 512];
         start::place_lowest(n.jobs, allowed, &mut place);
         start::peel(n, job, low, high, balance, &mut left, &mut place);
+        let mut own = burden;
+        arrays::own_loads(n.jobs, amount, &left, &place, &mut own);
+        let mut reach = [0usize; 64];
+        explore::fill_from(n, pebble, allowed, &place, &mut reach);
         let mut places = [0u8; 512];
         arrays::to_bytes(n.jobs, &place, &mut places);
-        let none = [0usize; 64];
+        let never = arrays::plus(n.benches, 1);
+        let dir = [0usize; 64];
+        let rounds = [never; 64];
         State {
             left,
             place: places,
             moves: 0,
-            own: none,
-            from: none,
-            dir: none,
-            load: none,
-            joined: none,
-            level: none,
+            own,
+            reach,
+            dir,
+            load: own,
+            joined: rounds,
+            level: rounds,
+            active: 0,
         }
     }
 
-    // The loads besides the rocks, and the benches in reach.
-    pub fn weigh<'a>(
-        mut self,
-        n: Limits,
-        amount: &'a [usize],
-        pebble: &'a [bool],
-        allowed: &'a [usize],
-    ) -> State
-        ensures { λ r. ⌜ (r .left ≡ self .left) × (r .place ≡ self .place) × (r .moves ≡ self .moves) × ((d : Day) → (m : ℕ) → (s : RunState) → (low : List ℕ) → (high : List ℕ) → (weight : List ℕ) → Ready d n low high weight (now (amount .entry)) (now (pebble .entry)) (now (allowed .entry)) → Held d m s (self .left) (self .place) → Owned (boardOf d s) (r .own) × Reaches (boardOf d s) (r .from)) ⌝ }
-    {
-        let mut place = [0usize; 512];
-        arrays::from_bytes(n.jobs, &self.place, &mut place);
-        let mut own = [0usize; 64];
-        arrays::own_loads(n.jobs, amount, &self.left, &place, &mut own);
-        let mut from = [0usize; 64];
-        explore::fill_from(n, pebble, allowed, &place, &mut from);
-        self.own = own;
-        self.from = from;
-        self
-    }
-
-    // explored d s.
+    // explored d s, from nothing.
     pub fn orient<'a>(
         mut self,
         n: Limits,
@@ -98,7 +84,11 @@ impl State {
         all: usize,
         stony: usize,
     ) -> State
-        ensures { λ r. ⌜ (r .left ≡ self .left) × (r .place ≡ self .place) × (r .moves ≡ self .moves) × (r .own ≡ self .own) × (r .from ≡ self .from) × ((d : Day) → (m : ℕ) → (s : RunState) → (amount : List ℕ) → (pebble : List Bool) → (allowed : List ℕ) → Ready d n (now (low .entry)) (now (high .entry)) (now (weight .entry)) amount pebble allowed → Mapped n (now (low .entry)) (now (high .entry)) (now (here .entry)) (now (near .entry)) all stony → Held d m s (self .left) (self .place) → Owned (boardOf d s) (self .own) → Reaches (boardOf d s) (self .from) → Shown (boardOf d s) (explored d s) (r .dir) (r .load) (r .joined) (r .level)) ⌝ }
+        ensures { λ r. ⌜ ((d : Day) → (m : ℕ) → (s : RunState) → (amount : List ℕ) → (pebble : List Bool)
+            → (allowed : List ℕ)
+            → Ready d n (now (low .entry)) (now (high .entry)) (now (weight .entry)) amount pebble allowed
+            → Mapped n (now (low .entry)) (now (high .entry)) (now (here .entry)) (now (near .entry)) all stony
+            → Holds d m s self → Holds d m s r × Explores d s r) ⌝ }
     {
         let own = self.own;
         let never = arrays::plus(n.benches, 1);
@@ -106,7 +96,7 @@ impl State {
         let mut load = own;
         let mut joined = [never; 64];
         let mut level = [never; 64];
-        explore::explore(
+        let active = explore::explore(
             n,
             low,
             high,
@@ -116,7 +106,7 @@ impl State {
             all,
             stony,
             &own,
-            &self.from,
+            &self.reach,
             &mut dir,
             &mut load,
             &mut joined,
@@ -126,6 +116,7 @@ impl State {
         self.load = load;
         self.joined = joined;
         self.level = level;
+        self.active = active;
         self
     }
 
@@ -139,7 +130,11 @@ impl State {
         amount: &'a [usize],
         choice: &'a [usize],
     ) -> State
-        ensures { λ r. ⌜ ((d : Day) → (m : ℕ) → (s : RunState) → (pebble : List Bool) → (allowed : List ℕ) → Ready d n (now (low .entry)) (now (high .entry)) (now (weight .entry)) (now (amount .entry)) pebble allowed → Chosen (n .jobs) pebble allowed (now (choice .entry)) → Held d m s (self .left) (self .place) → Owned (boardOf d s) (self .own) → Reaches (boardOf d s) (self .from) → Shown (boardOf d s) (explored d s) (self .dir) (self .load) (self .joined) (self .level) → self .moves ≡ m → Pushed d m s self r) ⌝ }
+        ensures { λ r. ⌜ ((d : Day) → (m : ℕ) → (s : RunState) → (pebble : List Bool) → (allowed : List ℕ)
+            → Ready d n (now (low .entry)) (now (high .entry)) (now (weight .entry)) (now (amount .entry)) pebble
+            allowed
+            → Chosen (n .jobs) pebble allowed (now (choice .entry))
+            → Holds d m s self → Explores d s self → Pushed d m s self r) ⌝ }
     {
         let mut wanted = [0usize; 66];
         push::mark_levels(
@@ -164,10 +159,10 @@ impl State {
                 let before = arrays::byte(&self.place, job);
                 self.place[job] = (bench % 256) as u8;
                 let own = self.own;
-                let from = self.from;
+                let reach = self.reach;
                 let k = push::shifted(
                     own,
-                    from,
+                    reach,
                     n.jobs,
                     amount,
                     choice,
@@ -177,9 +172,9 @@ impl State {
                     job,
                 );
                 let next_own = k.own;
-                let next_from = k.from;
+                let next_reach = k.from;
                 self.own = next_own;
-                self.from = next_from;
+                self.reach = next_reach;
                 self.moves = arrays::plus(self.moves, 1);
             }
         }

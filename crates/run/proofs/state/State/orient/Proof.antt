@@ -2,7 +2,7 @@
 use mathlib.Core.Path.{_≡_, refl, ap}
 use lib.ListN.{length, replicate}
 use Rattle.algorithm.specs.Run.{boardOf}
-use Rattle.run.proofs.StateRun.{oriented-shown}
+use Rattle.run.proofs.StateRun.{orients}
 use borrow.Author.Needs.{needs}
 use Rattle.run.proofs.state.State.orient.Statement.{statement}
 use Rattle.run.proofs.state.State.orient.Tie as tie
@@ -29,7 +29,26 @@ explore-requires : tie.Need-explore-requires
 explore-requires c κs = search needs
 
 returns : tie.Need-returns
-returns c = let at-args = c .before .before .before .before .before .before .before .before .before .before .before .before .before .before .before .before .before .before .before .before .args in let at-explore = c .before .before .before .before .explore in let at-plus = c .before .before .before .before .before .before .before .before .before .before .before .before .before .plus in let sized : length (at-args .t1 .own) ≡ 64 = search needs in (refl, refl, refl, refl, refl, λ d m s amount pebble allowed R M H O F. oriented-shown d (at-args .n) (at-args .low .now) (at-args .high .now) (at-args .weight .now) amount pebble allowed R m s (at-args .t1 .left) (at-args .t1 .place) H _ _ _ _ _ _ O F (λ rocks owned reaches few. at-explore .ensures (boardOf d s) rocks M owned reaches few sized refl refl (ap (replicate 64) (at-plus .ensures)) (ap (replicate 64) (at-plus .ensures))))
+returns c =
+    let n = c .before .before .before .before .before .before .before .before .before .before .before .before .before .before .before .before .before .before .before .before .args .n in
+    let low = c .before .before .before .before .before .before .before .before .before .before .before .before .before .before .before .before .before .before .before .before .args .low .now in
+    let high = c .before .before .before .before .before .before .before .before .before .before .before .before .before .before .before .before .before .before .before .before .args .high .now in
+    let weight = c .before .before .before .before .before .before .before .before .before .before .before .before .before .before .before .before .before .before .before .before .args .weight .now in
+    let never = ap (replicate 64) (c .before .before .before .before .before .before .before .before .before .before .before .before .before .plus .ensures) in
+    let sized : length (c .before .before .before .before .before .before .before .before .before .before .before .before .before .before .before .before .before .before .before .before .args .t1 .own) ≡ 64 = search needs in
+    λ d m s amount pebble allowed R M H.
+    orients d n low high weight amount pebble allowed R m s _ _ H refl refl refl refl refl
+    (λ rocks owned reaches few. c .before .before .before .before .explore .ensures (boardOf d s) rocks M owned reaches few sized refl refl never never) (c .before .before .before .before .explore .ok)
 
 pub orient-spec : {M : Type 1} → statement M
-orient-spec = tie.close (tie.spec plus-requires slice-aggregate-explore slice-aggregate-explore-2 slice-aggregate-explore-3 slice-aggregate-explore-4 slice-aggregate-explore-5 explore-requires returns)
+orient-spec =
+    tie.close
+    (tie.spec
+    plus-requires
+    slice-aggregate-explore
+    slice-aggregate-explore-2
+    slice-aggregate-explore-3
+    slice-aggregate-explore-4
+    slice-aggregate-explore-5
+    explore-requires
+    returns)

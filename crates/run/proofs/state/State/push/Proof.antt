@@ -44,13 +44,52 @@ plus-requires : tie.Need-plus-requires
 plus-requires c κs = search needs
 
 returns : tie.Need-returns
-returns c = let at-args = c .before .before .before .before .before .before .before .before .before .before .before .before .before .before .before .before .before .before .before .before .before .before .before .before .before .before .before .before .before .before .before .before .before .before .before .before .before .before .before .before .before .before .before .before .before .before .before .args in let at-mark-levels = c .before .before .before .before .before .before .before .before .before .before .before .before .before .before .before .before .before .before .before .before .before .before .before .before .before .before .before .before .before .mark-levels in let at-fill-goals = c .before .before .before .before .before .before .before .before .before .before .before .before .before .before .before .before .before .before .before .before .before .before .fill-goals in let at-first-push = c .before .before .before .before .before .before .before .before .before .before .before .before .before .before .before .before .first-push in let at-shifted = c .before .before .before .shifted in let at-if1 = c .before .before .before .before .before .before .before .before .before .before .before .before .before .before .if1 in let at-plus = c .plus in let at-byte = c .before .before .before .before .before .before .before .before .before .byte in λ d m s pebble allowed R C H O F X made. let found = push-found-at d (at-args .n) (at-args .low .now) (at-args .high .now) (at-args .weight .now) (at-args .amount .now) pebble allowed R m s (at-args .t1 .left) (at-args .t1 .place) H (at-args .choice .now) C O X _ _ (at-mark-levels .ensures (boardOf d s) (explored d s)) (at-fill-goals .ensures (boardOf d s) (explored d s)) (at-first-push .ensures (boardOf d s) (explored d s)) in push-moves d (at-args .n) (at-args .low .now) (at-args .high .now) (at-args .weight .now) (at-args .amount .now) pebble allowed R (at-args .choice .now) C m s _ _ H made O F (at-shifted .ensures .0) (at-shifted .ensures .1) _ _ (found .0) (found .1) (at-if1 .taken) refl refl (at-plus .ensures) (at-byte .ensures) (at-shifted .ensures .2) (at-shifted .ensures .3)
+returns c =
+    let n = c .before .before .before .before .before .before .before .before .before .before .before .before .before .before .before .before .before .before .before .before .before .before .before .before .before .before .before .before .before .before .before .before .before .before .before .before .before .before .before .before .before .before .before .before .before .before .before .args .n in
+    let low = c .before .before .before .before .before .before .before .before .before .before .before .before .before .before .before .before .before .before .before .before .before .before .before .before .before .before .before .before .before .before .before .before .before .before .before .before .before .before .before .before .before .before .before .before .before .before .before .args .low .now in
+    let high = c .before .before .before .before .before .before .before .before .before .before .before .before .before .before .before .before .before .before .before .before .before .before .before .before .before .before .before .before .before .before .before .before .before .before .before .before .before .before .before .before .before .before .before .before .before .before .before .args .high .now in
+    let weight = c .before .before .before .before .before .before .before .before .before .before .before .before .before .before .before .before .before .before .before .before .before .before .before .before .before .before .before .before .before .before .before .before .before .before .before .before .before .before .before .before .before .before .before .before .before .before .before .args .weight .now in
+    let amount = c .before .before .before .before .before .before .before .before .before .before .before .before .before .before .before .before .before .before .before .before .before .before .before .before .before .before .before .before .before .before .before .before .before .before .before .before .before .before .before .before .before .before .before .before .before .before .before .args .amount .now in
+    let choice = c .before .before .before .before .before .before .before .before .before .before .before .before .before .before .before .before .before .before .before .before .before .before .before .before .before .before .before .before .before .before .before .before .before .before .before .before .before .before .before .before .before .before .before .before .before .before .before .args .choice .now in
+    λ d m s pebble allowed R C H X.
+    let found = push-found-at d n low high weight amount pebble allowed R m s _ H X choice C _ _ (c .before .before .before .before .before .before .before .before .before .before .before .before .before .before .before .before .before .before .before .before .before .before .before .before .before .before .before .before .before .mark-levels .ensures (boardOf d s) (explored d s))
+    (c .before .before .before .before .before .before .before .before .before .before .before .before .before .before .before .before .before .before .before .before .before .before .fill-goals .ensures (boardOf d s) (explored d s)) (c .before .before .before .before .before .before .before .before .before .before .before .before .before .before .before .before .first-push .ensures (boardOf d s) (explored d s)) in
+    push-moves d n low high weight amount pebble allowed R choice C m s _ _ H (c .before .before .before .shifted .ensures .0) (c .before .before .before .shifted .ensures .1) _ _ (found .0) (found .1)
+    (c .before .before .before .before .before .before .before .before .before .before .before .before .before .before .if1 .taken) refl refl (c .plus .ensures) (c .before .before .before .before .before .before .before .before .before .byte .ensures) (c .before .before .before .shifted .ensures .2) (c .before .before .before .shifted .ensures .3)
+    (record { same-dir = refl; same-load = refl; same-joined = refl; same-level = refl; same-active = refl })
 
 returns-2 : tie.Need-returns-2
-returns-2 c = λ d m s pebble allowed R C H O F X made. absurd (omega (arith, R .few-jobs, R .jobs))
+returns-2 c = λ d m s pebble allowed R C H X. absurd (omega (arith, R .few-jobs, R .jobs))
 
 returns-3 : tie.Need-returns-3
-returns-3 c = let at-args = c .before .before .before .before .before .before .before .before .before .before .before .before .before .before .before .before .before .before .before .before .before .before .before .before .before .before .before .before .before .before .before .before .before .args in let at-mark-levels = c .before .before .before .before .before .before .before .before .before .before .before .before .before .before .before .mark-levels in let at-fill-goals = c .before .before .before .before .before .before .before .before .fill-goals in let at-first-push = c .before .before .first-push in let at-if1 = c .if1 in λ d m s pebble allowed R C H O F X made. let found = push-found-at d (at-args .n) (at-args .low .now) (at-args .high .now) (at-args .weight .now) (at-args .amount .now) pebble allowed R m s (at-args .t1 .left) (at-args .t1 .place) H (at-args .choice .now) C O X _ _ (at-mark-levels .ensures (boardOf d s) (explored d s)) (at-fill-goals .ensures (boardOf d s) (explored d s)) (at-first-push .ensures (boardOf d s) (explored d s)) in push-stays d (at-args .n) (at-args .low .now) (at-args .high .now) (at-args .weight .now) (at-args .amount .now) pebble allowed R m s _ _ _ (found .0) (at-if1 .left) refl
+returns-3 c =
+    let n = c .before .before .before .before .before .before .before .before .before .before .before .before .before .before .before .before .before .before .before .before .before .before .before .before .before .before .before .before .before .before .before .before .before .args .n in
+    let low = c .before .before .before .before .before .before .before .before .before .before .before .before .before .before .before .before .before .before .before .before .before .before .before .before .before .before .before .before .before .before .before .before .before .args .low .now in
+    let high = c .before .before .before .before .before .before .before .before .before .before .before .before .before .before .before .before .before .before .before .before .before .before .before .before .before .before .before .before .before .before .before .before .before .args .high .now in
+    let weight = c .before .before .before .before .before .before .before .before .before .before .before .before .before .before .before .before .before .before .before .before .before .before .before .before .before .before .before .before .before .before .before .before .before .args .weight .now in
+    let amount = c .before .before .before .before .before .before .before .before .before .before .before .before .before .before .before .before .before .before .before .before .before .before .before .before .before .before .before .before .before .before .before .before .before .args .amount .now in
+    let choice = c .before .before .before .before .before .before .before .before .before .before .before .before .before .before .before .before .before .before .before .before .before .before .before .before .before .before .before .before .before .before .before .before .before .args .choice .now in
+    λ d m s pebble allowed R C H X.
+    let found = push-found-at d n low high weight amount pebble allowed R m s _ H X choice C _ _ (c .before .before .before .before .before .before .before .before .before .before .before .before .before .before .before .mark-levels .ensures (boardOf d s) (explored d s))
+    (c .before .before .before .before .before .before .before .before .fill-goals .ensures (boardOf d s) (explored d s)) (c .before .before .first-push .ensures (boardOf d s) (explored d s)) in
+    push-stays d n low high weight amount pebble allowed R m s _ _ _ (found .0) (c .if1 .left) refl
 
 pub push-spec : {M : Type 1} → statement M
-push-spec = tie.close (tie.spec slice-aggregate-mark-levels mark-levels-requires slice-aggregate-fill-goals slice-aggregate-fill-goals-2 fill-goals-requires slice-aggregate-first-push first-push-requires byte-requires cast-self element-write-self shifted-requires plus-requires returns returns-2 returns-3)
+push-spec =
+    tie.close
+    (tie.spec
+    slice-aggregate-mark-levels
+    mark-levels-requires
+    slice-aggregate-fill-goals
+    slice-aggregate-fill-goals-2
+    fill-goals-requires
+    slice-aggregate-first-push
+    first-push-requires
+    byte-requires
+    cast-self
+    element-write-self
+    shifted-requires
+    plus-requires
+    returns
+    returns-2
+    returns-3)

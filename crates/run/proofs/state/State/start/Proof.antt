@@ -1,10 +1,14 @@
--- The places of the jobs, and the peeling (StartRun); then the places as bytes (PlaceLaws).
-use mathlib.Core.Path.{_≡_, refl}
+-- The places of the jobs, and the peeling (StartRun); then the loads and the benches in reach (StartState), and the places
+-- as bytes (PlaceLaws).
+use mathlib.Core.Path.{_≡_, refl, ap}
 use Prim.Native.Nat.{ℕ}
 use native.Mathlib.Omega.{arith}
 use lib.ListN.{length, replicate, length-replicate}
+use Rattle.algorithm.specs.Start.{start}
+use Rattle.algorithm.specs.Run.{boardOf}
 use Rattle.start.proofs.StartRun.{start-placed}
 use Rattle.run.proofs.PlaceLaws.{start-below, placed-copied}
+use Rattle.run.proofs.StartState.{started-held, started-owned, started-pebbles}
 use borrow.Author.Needs.{needs}
 use Rattle.run.proofs.state.State.start.Statement.{statement}
 use Rattle.run.proofs.state.State.start.Tie as tie
@@ -24,6 +28,27 @@ slice-aggregate-peel-2 c = search needs
 peel-requires : tie.Need-peel-requires
 peel-requires c κs = search needs
 
+slice-aggregate-own-loads : tie.Need-slice-aggregate-own-loads
+slice-aggregate-own-loads c = search needs
+
+slice-aggregate-own-loads-2 : tie.Need-slice-aggregate-own-loads-2
+slice-aggregate-own-loads-2 c = search needs
+
+slice-aggregate-own-loads-3 : tie.Need-slice-aggregate-own-loads-3
+slice-aggregate-own-loads-3 c = search needs
+
+own-loads-requires : tie.Need-own-loads-requires
+own-loads-requires c κs = search needs
+
+slice-aggregate-fill-from : tie.Need-slice-aggregate-fill-from
+slice-aggregate-fill-from c = search needs
+
+slice-aggregate-fill-from-2 : tie.Need-slice-aggregate-fill-from-2
+slice-aggregate-fill-from-2 c = search needs
+
+fill-from-requires : tie.Need-fill-from-requires
+fill-from-requires c κs = search needs
+
 slice-aggregate-to-bytes : tie.Need-slice-aggregate-to-bytes
 slice-aggregate-to-bytes c = search needs
 
@@ -33,8 +58,59 @@ slice-aggregate-to-bytes-2 c = search needs
 to-bytes-requires : tie.Need-to-bytes-requires
 to-bytes-requires c κs = search needs
 
+plus-requires : tie.Need-plus-requires
+plus-requires c κs = search needs
+
 returns : tie.Need-returns
-returns c = let at-args = c .before .before .before .before .before .before .before .before .before .before .before .before .before .before .before .before .before .args in let at-place-lowest = c .before .before .before .before .before .before .before .before .before .before .place-lowest in let at-peel = c .before .before .before .before .before .before .peel in let at-to-bytes = c .before .to-bytes in (refl, λ d minutes F D J C rocks. let sized : length (at-args .rock) ≡ 512 = search needs in let P = start-placed d (at-args .n .jobs) minutes (at-args .allowed .now) (replicate 512 0) (at-args .rock) F (D .sound) (omega (arith, sized, F .bounded .few-jobs)) (omega (arith, length-replicate {A = ℕ} 512 0, F .bounded .few-jobs)) rocks (at-place-lowest .ensures) (λ s Q. at-peel .ensures d s D J C Q) in placed-copied (at-args .n .jobs) _ (replicate 512 0) (omega (arith, length-replicate {A = ℕ} 512 0, F .jobs-are, F .bounded .few-jobs)) (at-to-bytes .ensures (omega (arith, P .place-room, F .jobs-are)) (omega (arith, length-replicate {A = ℕ} 512 0, F .jobs-are, F .bounded .few-jobs)) (λ i h. omega (arith, P .places i (omega (arith, F .jobs-are)), start-below d (D .sound) i (omega (arith, F .jobs-are)), D .few-benches))) d _ _ (F .jobs-are) P)
+returns c =
+    let n = c .before .before .before .before .before .before .before .before .before .before .before .before .before .before .before .before .before .before .before .before .before .before .before .before .before .before .before .before .before .args .n in
+    let allowed = c .before .before .before .before .before .before .before .before .before .before .before .before .before .before .before .before .before .before .before .before .before .before .before .before .before .before .before .before .before .args .allowed .now in
+    let sized : length (c .before .before .before .before .before .before .before .before .before .before .before .before .before .before .before .before .before .before .before .before .before .before .before .before .before .before .before .before .before .args .rock) ≡ 512 = search needs in
+    let wide : length (c .before .before .before .before .before .before .before .before .before .before .before .before .before .before .before .before .before .before .before .before .before .before .before .before .before .before .before .before .before .args .burden) ≡ 64 = search needs in
+    let room = length-replicate {A = ℕ} 512 0 in (
+      record {
+        undirected = refl;
+        without-rocks = refl;
+        none-joined = ap (replicate 64) (c .plus .ensures);
+        none-leveled = ap (replicate 64) (c .plus .ensures);
+        none-active = refl;
+      },
+      λ d minutes B.
+      let F = B .fields in
+      let sound = B .day-rocks .sound in
+      let few = F .bounded .few-jobs in
+      let P = start-placed d (n .jobs) minutes allowed (replicate 512 0) (c .before .before .before .before .before .before .before .before .before .before .before .before .before .before .before .before .before .before .before .before .before .before .before .before .before .before .before .before .before .args .rock) F sound (omega (arith, sized, few)) (omega (arith, room, few))
+      (B .rocky) (c .before .before .before .before .before .before .before .before .before .before .before .before .before .before .before .before .before .before .before .before .place-lowest .ensures) (λ s Q. c .before .before .before .before .before .before .before .before .before .before .before .before .before .before .before .before .peel .ensures d s (B .day-rocks) (B .rock-jobs) (B .cycles) Q) in
+      let bytes = c .before .before .to-bytes .ensures (omega (arith, P .place-room, F .jobs-are)) (omega (arith, room, F .jobs-are, few))
+      (λ i h. omega (arith, P .places i (omega (arith, F .jobs-are)), start-below d sound i (omega (arith, F .jobs-are)), F .bounded .few-benches)) in
+      record {
+        held = started-held d n minutes allowed _ _ _ _ _ _ _ _ B _ _
+            (placed-copied (n .jobs) _ (replicate 512 0) (omega (arith, room, F .jobs-are, few)) bytes d _ _ (F .jobs-are) P);
+        made = refl;
+        owned = started-owned d n minutes allowed _ _ _ _ _ _ _ _ B _ _ P wide _ (c .before .before .before .before .before .before .before .before .before .before .own-loads .ensures);
+        reaches = c .before .before .before .before .before .before .fill-from .ensures (boardOf d (start d)) (F .jobs-are) (F .bounded .few-benches)
+            (started-pebbles d n minutes allowed _ _ _ _ _ _ _ _ B _ _ P) refl;
+      },
+    )
 
 pub start-spec : {M : Type 1} → statement M
-start-spec = tie.close (tie.spec slice-aggregate-place-lowest place-lowest-requires slice-aggregate-peel slice-aggregate-peel-2 peel-requires slice-aggregate-to-bytes slice-aggregate-to-bytes-2 to-bytes-requires returns)
+start-spec =
+    tie.close
+    (tie.spec
+    slice-aggregate-place-lowest
+    place-lowest-requires
+    slice-aggregate-peel
+    slice-aggregate-peel-2
+    peel-requires
+    slice-aggregate-own-loads
+    slice-aggregate-own-loads-2
+    slice-aggregate-own-loads-3
+    own-loads-requires
+    slice-aggregate-fill-from
+    slice-aggregate-fill-from-2
+    fill-from-requires
+    slice-aggregate-to-bytes
+    slice-aggregate-to-bytes-2
+    to-bytes-requires
+    plus-requires
+    returns)
