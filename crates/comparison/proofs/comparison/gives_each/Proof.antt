@@ -10,7 +10,8 @@ use Rattle.comparison.proofs.comparison.gives_each.Tie as tie
 returns : tie.Need-returns
 returns c =
     let x = c .before .before .before .args in
-    other-length (length (x .list .now)) (x .jobs) (all (x .jobs) (fitsAt (x .allowed .now) (x .list .now))) (c .if1 .taken)
+    other-length (length (x .list .now)) (x .jobs) (all (x .jobs) (fitsAt (x .allowed .now) (x .list .now)))
+    (c .if1 .taken)
 
 fit-all-requires : tie.Need-fit-all-requires
 fit-all-requires c κs = search needs
