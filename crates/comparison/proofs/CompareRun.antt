@@ -3,6 +3,7 @@
 --     other-length, right-length     a list of another length than the jobs, and of theirs
 --     listed-loads              the loads of a list, from the tables filled with it
 --     same-sums                 where entries are sums, the same entries are the same sums
+--     eqb-plus                  the same number added to both sides of a test; so booked minutes tell no loads apart
 --     gives-is, sums-fit, same-is     of the tables and of the day: a bench of each set, small sums, the same loads
 --     found-first-faulty, found-second-faulty, found-same, found-different     the four answers for a sound sheet
 --     refused-is, accepted-is   the answer for the bytes
@@ -15,26 +16,24 @@ use native.Mathlib.Omega.{arith}
 use lib.ListN.{length, getD, replicate, length-replicate, getD-replicate}
 use lib.Dec.{eqb}
 use borrow.Author.Tests.{eq-eqb, ne-eqb, lt-ltb, le-ltb, le-leb, lt-leb}
-use Rattle.bools.proofs.BoolLaws.{split, not-true, not-false}
+use Rattle.bools.proofs.BoolLaws.{split, bool-ext, tests, not-true, not-false}
 use Rattle.bools.proofs.OrderLaws.{lt-or-le, last-or-below}
 use Rattle.sums.specs.Sum.{on, sum}
 use Rattle.sums.specs.Search.{all}
 use Rattle.sums.proofs.SearchLaws.{all-intro, all-fails, all-cong}
 use Rattle.sums.proofs.SumLaws.{on-le, sum-cong, sum-bound}
 use Rattle.bits.specs.Bits.{isSet}
-use Rattle.fields.specs.declared.sheet.Head.{Head}
-use Rattle.fields.specs.declared.sheet.Job.{Job}
 use Rattle.fields.specs.declared.sheet.Reading.{Reading}
 use Rattle.fields.specs.declared.fault.Fault.{Fault}
 use Rattle.fields.specs.declared.fault.Fault.the-variants.{Table}
 use Rattle.fields.specs.declared.fault.Verdict.the-variants.{Accepted, Refused}
+use Rattle.fields.specs.Contents.{Contents}
 use Rattle.fields.specs.Tests.{jobAt}
 use Rattle.frame.specs.Reading.{readSheet, stored}
 use Rattle.frame.specs.Tables.{Tables}
 use Rattle.frame.proofs.SheetTables.{tables-of}
 use Rattle.frame.proofs.Stored.{verdict-refused, verdict-accepted}
-use Rattle.day.specs.Day.{dayOf}
-use Rattle.algorithm.specs.Answer.{loadOf}
+use Rattle.day.specs.Day.{Day, dayOf, placeIn, loadOf}
 use Rattle.comparison.specs.declared.compared.Compared.{Compared}
 use Rattle.comparison.specs.declared.compared.Compared.the-variants.{Same, Different, Fault as ComparedFault}
 use Rattle.comparison.specs.Comparison.{givesEach, sameLoads, comparedOf, comparePlans}
@@ -47,7 +46,8 @@ use Rattle.arrays.proofs.FilledLaws.{getD-filled}
 
 -- ── a search for an index that fails ──
 
-pub all-more : (f : ℕ → Bool) (r : ℕ) {t : Bool} → ((i : ℕ) → i < r → f i ≡ true) → t ≡ f r → t ≡ true → (i : ℕ) → i < r + 1 → f i ≡ true
+pub all-more : (f : ℕ → Bool) (r : ℕ) {t : Bool} → ((i : ℕ) → i < r → f i ≡ true) → t ≡ f r → t ≡ true
+    → (i : ℕ) → i < r + 1 → f i ≡ true
 all-more f r before e p i l = elim (last-or-below {i = i} {n = r} (omega arith)) [
   | inl same ↦ rw same (sym e ∙ p)
   | inr below ↦ before i below
@@ -72,54 +72,70 @@ right-length n jobs e q = rw (eq-eqb n jobs e) q
 
 -- Tables of k entries, filled with the minutes and with the list.
 module _ (k jobs : ℕ) (minutes list : List ℕ) (room : jobs ≤ k) {amount place : List ℕ}
-    (ea : amount ≡ filled jobs (λ i. getD minutes i 0) (replicate {A = ℕ} k 0)) (ep : place ≡ filled jobs (λ i. getD list i 0) (replicate {A = ℕ} k 0)) where
-  amounts-are : (v : ℕ) → sum jobs (amountOn amount (replicate k false) place v) ≡ sum jobs (minutesOn minutes list v)
+    (ea : amount ≡ filled jobs (λ i. getD minutes i 0) (replicate {A = ℕ} k 0))
+    (ep : place ≡ filled jobs (λ i. getD list i 0) (replicate {A = ℕ} k 0)) where
+  abbrev added : ℕ → ℕ
+  added v = sum jobs (amountOn amount (replicate k false) place v)
+
+  amounts-are : (v : ℕ) → added v ≡ loadIn jobs minutes list v
   amounts-are v =
       sum-cong jobs (amountOn amount (replicate k false) place v) (minutesOn minutes list v)
       (λ j h.
       let wide : j < length (replicate {A = ℕ} k 0) = omega (arith, length-replicate {A = ℕ} k 0) in
       let a : getD amount j 0 ≡ getD minutes j 0 =
-      ap (λ (x : List ℕ). getD x j 0) ea ∙ getD-filled (λ i. getD minutes i 0) jobs (replicate {A = ℕ} k 0) j 0 h wide in
+      ap (λ (x : List ℕ). getD x j 0) ea
+      ∙ getD-filled (λ i. getD minutes i 0) jobs (replicate {A = ℕ} k 0) j 0 h wide in
       let p : getD place j 0 ≡ getD list j 0 =
-      ap (λ (x : List ℕ). getD x j 0) ep ∙ getD-filled (λ i. getD list i 0) jobs (replicate {A = ℕ} k 0) j 0 h wide in
+      ap (λ (x : List ℕ). getD x j 0) ep
+      ∙ getD-filled (λ i. getD list i 0) jobs (replicate {A = ℕ} k 0) j 0 h wide in
       rw (getD-replicate k j false false (omega arith), a, p))
 
   pub listed-loads : (m : ℕ) (load : List ℕ)
-      → ((u : ℕ) → u < length (replicate {A = ℕ} m 0) → getD {A = ℕ} (replicate {A = ℕ} m 0) u 0 + sum jobs (amountOn amount (replicate k false) place u) < 2 ^ 63
-      → getD load u 0 ≡ getD {A = ℕ} (replicate {A = ℕ} m 0) u 0 + sum jobs (amountOn amount (replicate k false) place u))
-      → (v : ℕ) → v < m → sum jobs (minutesOn minutes list v) < 2 ^ 63 → getD load v 0 ≡ sum jobs (minutesOn minutes list v)
+      → ((u : ℕ) → u < length (replicate {A = ℕ} m 0)
+      → getD {A = ℕ} (replicate {A = ℕ} m 0) u 0 + added u < 2 ^ 63
+      → getD load u 0 ≡ getD {A = ℕ} (replicate {A = ℕ} m 0) u 0 + added u)
+      → (v : ℕ) → v < m → loadIn jobs minutes list v < 2 ^ 63 → getD load v 0 ≡ loadIn jobs minutes list v
   listed-loads m load own v h fits =
       let same = amounts-are v in
       let none : getD {A = ℕ} (replicate {A = ℕ} m 0) v 0 ≡ 0 = getD-replicate {A = ℕ} m v 0 0 h in
       own v (omega (arith, length-replicate {A = ℕ} m 0)) (omega (arith, same, none)) ∙ omega (arith, same, none)
 
-pub same-sums : (n : ℕ) (one two : List ℕ) (f g : ℕ → ℕ) {r : Bool} → ((v : ℕ) → v < n → getD one v 0 ≡ f v) → ((v : ℕ) → v < n → getD two v 0 ≡ g v)
+pub same-sums : (n : ℕ) (one two : List ℕ) (f g : ℕ → ℕ) {r : Bool}
+    → ((v : ℕ) → v < n → getD one v 0 ≡ f v) → ((v : ℕ) → v < n → getD two v 0 ≡ g v)
     → r ≡ all n (λ v. eqb (getD one v 0) (getD two v 0)) → r ≡ all n (λ v. eqb (f v) (g v))
 same-sums n one two f g p q e =
     e ∙ all-cong n (λ v. eqb (getD one v 0) (getD two v 0)) (λ v. eqb (f v) (g v)) (λ v h. ap₂ eqb (p v h) (q v h))
 
+pub eqb-plus : (n a b : ℕ) → eqb a b ≡ eqb (n + a) (n + b)
+eqb-plus n a b = bool-ext (eqb a b) (eqb (n + a) (n + b)) (λ p. omega tests) (λ p. omega tests)
+
 -- ── a sound sheet ──
 
-module _ (h : Head) (js : List Job) (benches jobs : ℕ) (minutes allowed : List ℕ) (T : Tables h js benches jobs minutes allowed) where
+module _ (c : Contents) (benches jobs : ℕ) (minutes allowed : List ℕ) (T : Tables c benches jobs minutes allowed) where
+  abbrev d : Day
+  d = dayOf c
+
   -- No set has a bench beyond the head's.
-  has-is : (j v : ℕ) → j < length js → hasAt (getD allowed j 0) v ≡ dayOf h js .allows j v
-  has-is j v l = elim (lt-or-le v (h .benches)) [
-    | inl b ↦ rw (T .allowed-are j l, lt-ltb v (h .benches) b, le-leb v 63 (omega (arith, T .sound .head .at-most-64-benches)))
+  has-is : (j v : ℕ) → j < d .jobs → hasAt (getD allowed j 0) v ≡ d .allows j v
+  has-is j v l = elim (lt-or-le v (d .benches)) [
+    | inl b ↦
+        rw (T .allowed-are j l, lt-ltb v (d .benches) b,
+        le-leb v 63 (omega (arith, T .sound .head .at-most-64-benches)))
     | inr b ↦ elim (lt-or-le 63 v) [
-      | inl far ↦ rw (lt-leb v 63 far, le-ltb v (h .benches) b)
-      | inr near ↦ elim (split (isSet 64 (jobAt js j .allowed) v)) [
+      | inl far ↦ rw (lt-leb v 63 far, le-ltb v (d .benches) b)
+      | inr near ↦ elim (split (isSet 64 (jobAt (c .jobs) j .allowed) v)) [
         | inl p ↦ absurd (omega (arith, T .sound .jobs j l .allows-below v (omega arith) p))
-        | inr p ↦ rw (T .allowed-are j l, p, le-leb v 63 near, le-ltb v (h .benches) b)
+        | inr p ↦ rw (T .allowed-are j l, p, le-leb v 63 near, le-ltb v (d .benches) b)
       ]
     ]
   ]
 
-  pub gives-is : (list : List ℕ) → givesIn jobs allowed list ≡ givesEach (dayOf h js) list
+  pub gives-is : (list : List ℕ) → givesIn jobs allowed list ≡ givesEach d list
   gives-is list =
       ap (λ (n : ℕ). givesIn n allowed list) (T .jobs-are)
-      ∙ ap (λ (b : Bool). eqb (length list) (length js) && b)
-      (all-cong (length js) (fitsAt allowed list) (λ j. dayOf h js .allows j (getD list j 0))
-      (λ j l. has-is j (getD list j 0) l))
+      ∙ ap (λ (b : Bool). eqb (length list) (d .jobs) && b)
+      (all-cong (d .jobs) (fitsAt allowed list) (λ j. d .allows j (placeIn list j))
+      (λ j l. has-is j (placeIn list j) l))
 
   pub few-jobs : jobs ≤ 512
   few-jobs = omega (arith, T .jobs-are, T .sound .at-most-512-jobs)
@@ -132,73 +148,79 @@ module _ (h : Head) (js : List Job) (benches jobs : ℕ) (minutes allowed : List
       let each : loadIn jobs minutes list v ≤ jobs * 1048576 =
       sum-bound jobs 1048576 (minutesOn minutes list v)
       (λ j l.
-      let in-list : j < length js = omega (arith, T .jobs-are) in
-      omega (arith, on-le (eqb (getD list j 0) v) (getD minutes j 0), T .minutes-are j in-list, T .sound .jobs j in-list .minutes-fit)) in
+      let in-list : j < d .jobs = omega (arith, T .jobs-are) in
+      omega (arith, on-le (eqb (getD list j 0) v) (getD minutes j 0), T .minutes-are j in-list,
+      T .sound .jobs j in-list .minutes-fit)) in
       let few = few-jobs in
       omega arith
 
-  load-is : (list : List ℕ) (v : ℕ) → loadIn jobs minutes list v ≡ loadOf (dayOf h js) list v
-  load-is list v =
-      let same : sum (length js) (minutesOn minutes list v) ≡ sum (length js) (λ j. on (eqb (getD list j 0) v) (jobAt js j .minutes)) =
-      sum-cong (length js) (minutesOn minutes list v) (λ j. on (eqb (getD list j 0) v) (jobAt js j .minutes))
-      (λ j l. ap (on (eqb (getD list j 0) v)) (T .minutes-are j l)) in
-      ap (λ (n : ℕ). sum n (minutesOn minutes list v)) (T .jobs-are) ∙ omega (arith, same)
+  -- The minutes of the jobs that the list puts on bench v: its load without what is booked.
+  abbrev put : List ℕ → ℕ → ℕ
+  put list v = sum (d .jobs) (λ j. on (eqb (placeIn list j) v) (d .minutes j))
 
-  pub same-is : (first second : List ℕ)
-      → sameIn benches jobs minutes first second ≡ sameLoads (dayOf h js) first second
+  put-is : (list : List ℕ) (v : ℕ) → loadIn jobs minutes list v ≡ put list v
+  put-is list v =
+      ap (λ (n : ℕ). sum n (minutesOn minutes list v)) (T .jobs-are)
+      ∙ sum-cong (d .jobs) (minutesOn minutes list v) (λ j. on (eqb (placeIn list j) v) (d .minutes j))
+      (λ j l. ap (on (eqb (placeIn list j) v)) (T .minutes-are j l))
+
+  pub same-is : (first second : List ℕ) → sameIn benches jobs minutes first second ≡ sameLoads d first second
   same-is first second =
       ap (λ (n : ℕ). sameIn n jobs minutes first second) (T .benches-are)
-      ∙ all-cong (h .benches) (λ v. eqb (loadIn jobs minutes first v) (loadIn jobs minutes second v))
-      (λ v. eqb (loadOf (dayOf h js) first v) (loadOf (dayOf h js) second v))
-      (λ v l. ap₂ eqb (load-is first v) (load-is second v))
+      ∙ all-cong (d .benches) (λ v. eqb (loadIn jobs minutes first v) (loadIn jobs minutes second v))
+      (λ v. eqb (loadOf d (placeIn first) v) (loadOf d (placeIn second) v))
+      (λ v l. ap₂ eqb (put-is first v) (put-is second v) ∙ eqb-plus (d .booked v) (put first v) (put second v))
 
   -- What the calls find: whether each list gives each job a bench, and whether the loads are the same.
   module _ (first second : List ℕ) {t : Bool} (e : t ≡ givesIn jobs allowed first) where
-    abbrev a : Bool
-    a = givesEach (dayOf h js) first
+    abbrev one : Bool
+    one = givesEach d first
 
-    abbrev b : Bool
-    b = givesEach (dayOf h js) second
+    abbrev two : Bool
+    two = givesEach d second
 
-    abbrev c : Bool
-    c = sameLoads (dayOf h js) first second
+    abbrev same : Bool
+    same = sameLoads d first second
 
-    pub found-first-faulty : not t ≡ true → ComparedFault (Table 0) ≡ comparedOf (dayOf h js) first second
-    found-first-faulty n = sym (first-faulty a b c (sym (e ∙ gives-is first) ∙ not-true t n))
+    pub found-first-faulty : not t ≡ true → ComparedFault (Table 0) ≡ comparedOf d first second
+    found-first-faulty n = sym (first-faulty one two same (sym (e ∙ gives-is first) ∙ not-true t n))
 
     module _ (n : not t ≡ false) {u : Bool} (f : u ≡ givesIn jobs allowed second) where
-      given-first : a ≡ true
+      given-first : one ≡ true
       given-first = sym (e ∙ gives-is first) ∙ not-false t n
 
-      pub found-second-faulty : not u ≡ true → ComparedFault (Table 1) ≡ comparedOf (dayOf h js) first second
-      found-second-faulty m = sym (second-faulty a b c given-first (sym (f ∙ gives-is second) ∙ not-true u m))
+      pub found-second-faulty : not u ≡ true → ComparedFault (Table 1) ≡ comparedOf d first second
+      found-second-faulty m =
+          sym (second-faulty one two same given-first (sym (f ∙ gives-is second) ∙ not-true u m))
 
       module _ (m : not u ≡ false) {w : Bool}
           (g : jobs ≤ 512 → benches ≤ 64 → LoadsFit jobs minutes → w ≡ sameIn benches jobs minutes first second) where
-        given-second : b ≡ true
+        given-second : two ≡ true
         given-second = sym (f ∙ gives-is second) ∙ not-false u m
 
-        same-found : w ≡ c
+        same-found : w ≡ same
         same-found = g few-jobs few-benches sums-fit ∙ same-is first second
 
-        pub found-same : w ≡ true → Same ≡ comparedOf (dayOf h js) first second
-        found-same p = sym (all-same a b c given-first given-second (sym same-found ∙ p))
+        pub found-same : w ≡ true → Same ≡ comparedOf d first second
+        found-same p = sym (all-same one two same given-first given-second (sym same-found ∙ p))
 
-        pub found-different : w ≡ false → Different ≡ comparedOf (dayOf h js) first second
-        found-different p = sym (not-same a b c given-first given-second (sym same-found ∙ p))
+        pub found-different : w ≡ false → Different ≡ comparedOf d first second
+        found-different p = sym (not-same one two same given-first given-second (sym same-found ∙ p))
 
 -- ── the bytes ──
 
 module _ (s first second : List ℕ) where
-  pub refused-is : {x : Reading} {f : Fault} → x ≡ stored (readSheet s) → x .verdict ≡ Refused f → ComparedFault f ≡ comparePlans s first second
+  pub refused-is : {x : Reading} {f : Fault} → x ≡ stored (readSheet s) → x .verdict ≡ Refused f
+      → ComparedFault f ≡ comparePlans s first second
   unfolding comparePlans
   refused-is e a = rw (verdict-refused (readSheet s) e a, comparePlans)
 
   pub accepted-is : (x : Reading) {r : Compared} → x ≡ stored (readSheet s) → x .verdict ≡ Accepted
-      → ((h : Head) → (js : List Job) → Tables h js (x .sheet .head .benches) (x .sheet .count) (x .sheet .minutes) (x .sheet .allowed)
-      → r ≡ comparedOf (dayOf h js) first second)
+      → ((c : Contents)
+      → Tables c (x .sheet .head .benches) (x .sheet .count) (x .sheet .minutes) (x .sheet .allowed)
+      → r ≡ comparedOf (dayOf c) first second)
       → r ≡ comparePlans s first second
   unfolding comparePlans
   accepted-is x e a told =
-      let (h, js, read, same) = verdict-accepted (readSheet s) x e a in
-      rw (read, comparePlans) (told h js (tables-of s h js (x .sheet) read same))
+      let (c, read, same) = verdict-accepted (readSheet s) x e a in
+      rw (read, comparePlans) (told c (tables-of s c (x .sheet) read same))

@@ -1,8 +1,9 @@
--- Laws of the comparison (document 01, "The three answers"). For an accepted sheet each answer is given exactly where its
--- sentence says.
+-- Laws of the comparison (document 01, "The three answers"). For an accepted sheet each answer is given exactly where
+-- its sentence says.
 --     gives-true, true-gives    the test givesEach, and the fact that it tests
 --     equal-true, true-equal    the test sameLoads, and the fact that it tests
 --     compare-refused           a refused sheet: its fault, whatever the lists are
+--     compare-accepted          an accepted sheet: the answer for its day
 --     compared-fault-first      fault 13, place 0: the first list is not good
 --     compared-fault-second     fault 13, place 1: the first list is good, and the second is not
 --     compared-same             same: both lists are good, and every bench has the same load
@@ -13,81 +14,76 @@ use mathlib.Core.Path.{_≡_, sym, ap, ap₂, _∙_, refl}
 use mathlib.Core.Bool.{Bool, true, false}
 use mathlib.Core.Logic.{inl, inr}
 use mathlib.Core.List.{List}
-use lib.ListN.{length, getD}
-use lib.Dec.{eqb, ltb}
-use borrow.Author.Tests.{eq-eqb, eqb-true, lt-ltb, ltb-true}
+use lib.ListN.{length}
+use lib.Dec.{eqb}
+use borrow.Author.Tests.{eq-eqb, eqb-true}
 use Rattle.bools.proofs.BoolLaws.{split, clash, and-intro, and-left, and-right, eqb-sym}
-use Rattle.sums.specs.Search.{all}
 use Rattle.sums.proofs.SearchLaws.{all-intro, all-elim, all-cong}
 use Rattle.fields.specs.declared.fault.Fault.{Fault}
 use Rattle.fields.specs.declared.fault.Fault.the-variants.{Table}
-use Rattle.fields.specs.declared.sheet.Head.{Head}
-use Rattle.fields.specs.declared.sheet.Job.{Job}
-use Rattle.fields.specs.Format.{allows}
-use Rattle.fields.specs.Tests.{jobAt}
+use Rattle.fields.specs.Contents.{Contents}
 use Rattle.frame.specs.Reading.{accepted, refused, readSheet}
 use Rattle.frame.proofs.Stored.{read-cases}
-use Rattle.day.specs.Day.{Day, dayOf}
-use Rattle.algorithm.specs.Answer.{loadOf}
+use Rattle.day.specs.Day.{Day, dayOf, placeIn, loadOf}
+use Rattle.demand.specs.Demand.{isAssignment}
 use Rattle.comparison.specs.declared.compared.Compared.the-variants.{Same, Different, Fault as ComparedFault}
-use Rattle.comparison.specs.Comparison.{givesEach, sameLoads, comparedBy, comparedOf, comparePlans, Gives, Good, EqualLoads}
-use Rattle.comparison.proofs.ComparedCases.{first-faulty, second-faulty, all-same, not-same, of-first-fault, of-second-fault, of-same, of-different}
+use Rattle.comparison.specs.Comparison.{givesEach, sameLoads, comparedBy, comparedOf, comparePlans}
+use Rattle.comparison.specs.Comparison.{Gives, Good, EqualLoads}
+use Rattle.comparison.proofs.ComparedCases.{first-faulty, second-faulty, all-same, not-same}
+use Rattle.comparison.proofs.ComparedCases.{of-first-fault, of-second-fault, of-same, of-different}
 
 -- ── the two tests ──
 
-module _ (h : Head) (js : List Job) where
-  abbrev long-enough : List ℕ → Bool
-  long-enough list = eqb (length list) (length js)
+module _ (d : Day) where
+  module _ (list : List ℕ) where
+    abbrev long-enough : Bool
+    long-enough = eqb (length list) (d .jobs)
 
-  abbrev below : List ℕ → ℕ → Bool
-  below list j = ltb (getD list j 0) (h .benches)
+    abbrev on-bench : ℕ → Bool
+    on-bench j = d .allows j (placeIn list j)
 
-  abbrev permitted : List ℕ → ℕ → Bool
-  permitted list j = allows (jobAt js j) (getD list j 0)
+    pub true-gives : givesEach d list ≡ true → Gives d list
+    true-gives p =
+        record {
+          one-to-a-job = eqb-true (length list) (d .jobs) (and-left long-enough (isAssignment d (placeIn list)) p);
+          assignment = record {
+            on-allowed = all-elim (d .jobs) on-bench (and-right long-enough (isAssignment d (placeIn list)) p);
+          };
+        }
 
-  abbrev on-bench : List ℕ → ℕ → Bool
-  on-bench list j = dayOf h js .allows j (getD list j 0)
+    pub gives-true : Gives d list → givesEach d list ≡ true
+    gives-true g =
+        and-intro (eq-eqb (length list) (d .jobs) (g .one-to-a-job))
+        (all-intro (d .jobs) on-bench (g .assignment .on-allowed))
 
-  pub true-gives : (list : List ℕ) → givesEach (dayOf h js) list ≡ true → Gives h js list
-  true-gives list p =
-      let every = all (length js) (on-bench list) in
-      let each = all-elim (length js) (on-bench list) (and-right (long-enough list) every p) in
-      record {
-        one-to-a-job = eqb-true (length list) (length js) (and-left (long-enough list) every p);
-        of-the-head = λ j l. ltb-true (getD list j 0) (h .benches) (and-left (below list j) (permitted list j) (each j l));
-        on-allowed = λ j l. and-right (below list j) (permitted list j) (each j l);
-      }
+    gives-not : (Gives d list → ⊥) → givesEach d list ≡ false
+    gives-not n = elim (split (givesEach d list)) [ inl p ↦ absurd (n (true-gives p)) | inr p ↦ p ]
 
-  pub gives-true : (list : List ℕ) → Gives h js list → givesEach (dayOf h js) list ≡ true
-  gives-true list g =
-      and-intro (eq-eqb (length list) (length js) (g .one-to-a-job))
-      (all-intro (length js) (on-bench list)
-      (λ j l. and-intro (lt-ltb (getD list j 0) (h .benches) (g .of-the-head j l)) (g .on-allowed j l)))
-
-  gives-not : (list : List ℕ) → (Gives h js list → ⊥) → givesEach (dayOf h js) list ≡ false
-  gives-not list n = elim (split (givesEach (dayOf h js) list)) [ inl p ↦ absurd (n (true-gives list p)) | inr p ↦ p ]
-
-  not-gives : (list : List ℕ) → givesEach (dayOf h js) list ≡ false → Gives h js list → ⊥
-  not-gives list p g = clash (gives-true list g) p
+    not-gives : givesEach d list ≡ false → Gives d list → ⊥
+    not-gives p g = clash (gives-true g) p
 
   module _ (first second : List ℕ) where
     abbrev one : ℕ → ℕ
-    one = loadOf (dayOf h js) first
+    one = loadOf d (placeIn first)
 
     abbrev two : ℕ → ℕ
-    two = loadOf (dayOf h js) second
+    two = loadOf d (placeIn second)
 
-    pub true-equal : sameLoads (dayOf h js) first second ≡ true → EqualLoads h js first second
-    true-equal p v l = eqb-true (one v) (two v) (all-elim (h .benches) (λ u. eqb (one u) (two u)) p v l)
+    pub true-equal : sameLoads d first second ≡ true → EqualLoads d first second
+    true-equal p v l = eqb-true (one v) (two v) (all-elim (d .benches) (λ u. eqb (one u) (two u)) p v l)
 
-    pub equal-true : EqualLoads h js first second → sameLoads (dayOf h js) first second ≡ true
-    equal-true e = all-intro (h .benches) (λ u. eqb (one u) (two u)) (λ v l. eq-eqb (one v) (two v) (e v l))
+    pub equal-true : EqualLoads d first second → sameLoads d first second ≡ true
+    equal-true e = all-intro (d .benches) (λ u. eqb (one u) (two u)) (λ v l. eq-eqb (one v) (two v) (e v l))
 
-    equal-not : (EqualLoads h js first second → ⊥) → sameLoads (dayOf h js) first second ≡ false
-    equal-not n = elim (split (sameLoads (dayOf h js) first second)) [ inl p ↦ absurd (n (true-equal p)) | inr p ↦ p ]
+    equal-not : (EqualLoads d first second → ⊥) → sameLoads d first second ≡ false
+    equal-not n = elim (split (sameLoads d first second)) [ inl p ↦ absurd (n (true-equal p)) | inr p ↦ p ]
 
-    not-equal : sameLoads (dayOf h js) first second ≡ false → EqualLoads h js first second → ⊥
+    not-equal : sameLoads d first second ≡ false → EqualLoads d first second → ⊥
     not-equal p e = clash (equal-true e) p
+
+    same-loads-sym : sameLoads d first second ≡ sameLoads d second first
+    same-loads-sym =
+        all-cong (d .benches) (λ v. eqb (one v) (two v)) (λ v. eqb (two v) (one v)) (λ v l. eqb-sym (one v) (two v))
 
 -- ── each answer ──
 
@@ -97,92 +93,92 @@ pub compare-refused : (s : List ℕ) (f : Fault) (first second : List ℕ) → r
 unfolding comparePlans
 compare-refused s f first second e = rw (e, comparePlans)
 
-module _ (s : List ℕ) (h : Head) (js : List Job) (read : readSheet s ≡ accepted h js) (first second : List ℕ) where
-  pub compare-accepted : comparePlans s first second ≡ comparedOf (dayOf h js) first second
+module _ (s : List ℕ) (c : Contents) (read : readSheet s ≡ accepted c) (first second : List ℕ) where
+  abbrev d : Day
+  d = dayOf c
+
+  pub compare-accepted : comparePlans s first second ≡ comparedOf d first second
   unfolding comparePlans
   compare-accepted = rw (read, comparePlans)
 
-  abbrev a : Bool
-  a = givesEach (dayOf h js) first
+  abbrev gives-first : Bool
+  gives-first = givesEach d first
 
-  abbrev b : Bool
-  b = givesEach (dayOf h js) second
+  abbrev gives-second : Bool
+  gives-second = givesEach d second
 
-  abbrev c : Bool
-  c = sameLoads (dayOf h js) first second
+  abbrev same : Bool
+  same = sameLoads d first second
 
   -- "a list that does not give each job one allowed bench is fault 13, place 0 for the first list"
-  pub compared-fault-first : ((Gives h js first → ⊥) → comparePlans s first second ≡ ComparedFault (Table 0))
-      × (comparePlans s first second ≡ ComparedFault (Table 0) → Gives h js first → ⊥)
+  pub compared-fault-first : ((Gives d first → ⊥) → comparePlans s first second ≡ ComparedFault (Table 0))
+      × (comparePlans s first second ≡ ComparedFault (Table 0) → Gives d first → ⊥)
   compared-fault-first = (
-    λ n. compare-accepted ∙ first-faulty a b c (gives-not h js first n),
-    λ e. not-gives h js first (of-first-fault a b c (sym compare-accepted ∙ e)),
+    λ n. compare-accepted ∙ first-faulty gives-first gives-second same (gives-not d first n),
+    λ e. not-gives d first (of-first-fault gives-first gives-second same (sym compare-accepted ∙ e)),
   )
 
   -- "and 1 for the second, the first judged first"
-  pub compared-fault-second : (Gives h js first → (Gives h js second → ⊥)
+  pub compared-fault-second : (Gives d first → (Gives d second → ⊥)
       → comparePlans s first second ≡ ComparedFault (Table 1))
-      × (comparePlans s first second ≡ ComparedFault (Table 1) → Gives h js first × (Gives h js second → ⊥))
+      × (comparePlans s first second ≡ ComparedFault (Table 1) → Gives d first × (Gives d second → ⊥))
   compared-fault-second = (
-    λ g n. compare-accepted ∙ second-faulty a b c (gives-true h js first g) (gives-not h js second n),
-    λ e. let (p, q) = of-second-fault a b c (sym compare-accepted ∙ e) in
-        (true-gives h js first p, not-gives h js second q),
+    λ g n. compare-accepted
+        ∙ second-faulty gives-first gives-second same (gives-true d first g) (gives-not d second n),
+    λ e. let (p, q) = of-second-fault gives-first gives-second same (sym compare-accepted ∙ e) in
+        (true-gives d first p, not-gives d second q),
   )
 
   -- "Two plans of one sheet count as the same when every bench has the same load."
-  pub compared-same : (Gives h js first → Gives h js second → EqualLoads h js first second
+  pub compared-same : (Gives d first → Gives d second → EqualLoads d first second
       → comparePlans s first second ≡ Same)
-      × (comparePlans s first second ≡ Same → Gives h js first × Gives h js second × EqualLoads h js first second)
+      × (comparePlans s first second ≡ Same → Gives d first × Gives d second × EqualLoads d first second)
   compared-same = (
     λ g k e. compare-accepted
-        ∙ all-same a b c (gives-true h js first g) (gives-true h js second k) (equal-true h js first second e),
-    λ e. let (p, q, r) = of-same a b c (sym compare-accepted ∙ e) in
-        (true-gives h js first p, true-gives h js second q, true-equal h js first second r),
+        ∙ all-same gives-first gives-second same (gives-true d first g) (gives-true d second k)
+        (equal-true d first second e),
+    λ e. let (p, q, r) = of-same gives-first gives-second same (sym compare-accepted ∙ e) in
+        (true-gives d first p, true-gives d second q, true-equal d first second r),
   )
 
-  pub compared-different : (Gives h js first → Gives h js second → (EqualLoads h js first second → ⊥)
+  pub compared-different : (Gives d first → Gives d second → (EqualLoads d first second → ⊥)
       → comparePlans s first second ≡ Different)
       × (comparePlans s first second ≡ Different
-      → Gives h js first × Gives h js second × (EqualLoads h js first second → ⊥))
+      → Gives d first × Gives d second × (EqualLoads d first second → ⊥))
   compared-different = (
     λ g k n. compare-accepted
-        ∙ not-same a b c (gives-true h js first g) (gives-true h js second k) (equal-not h js first second n),
-    λ e. let (p, q, r) = of-different a b c (sym compare-accepted ∙ e) in
-        (true-gives h js first p, true-gives h js second q, not-equal h js first second r),
+        ∙ not-same gives-first gives-second same (gives-true d first g) (gives-true d second k)
+        (equal-not d first second n),
+    λ e. let (p, q, r) = of-different gives-first gives-second same (sym compare-accepted ∙ e) in
+        (true-gives d first p, true-gives d second q, not-equal d first second r),
   )
 
 -- ── an equivalence ──
 
 -- A good list, compared with itself.
-pub compare-same-list : (s : List ℕ) (h : Head) (js : List Job) → readSheet s ≡ accepted h js
-    → (list : List ℕ) → Gives h js list → comparePlans s list list ≡ Same
-compare-same-list s h js read list g = compared-same s h js read list list .0 g g (λ v l. refl)
-
-same-loads-sym : (d : Day) (first second : List ℕ) → sameLoads d first second ≡ sameLoads d second first
-same-loads-sym d first second =
-    all-cong (d .benches)
-    (λ v. eqb (loadOf d first v) (loadOf d second v)) (λ v. eqb (loadOf d second v) (loadOf d first v))
-    (λ v l. eqb-sym (loadOf d first v) (loadOf d second v))
+pub compare-same-list : (s : List ℕ) (c : Contents) → readSheet s ≡ accepted c
+    → (list : List ℕ) → Gives (dayOf c) list → comparePlans s list list ≡ Same
+compare-same-list s c read list g = compared-same s c read list list .0 g g (λ v l. refl)
 
 -- Good lists may change places; so may any two where the sheet is refused.
 pub compare-symmetric : (s first second : List ℕ) → Good s first → Good s second
     → comparePlans s first second ≡ comparePlans s second first
 compare-symmetric s first second g k = elim (read-cases (readSheet s)) [
   | inl (f, e) ↦ compare-refused s f first second e ∙ sym (compare-refused s f second first e)
-  | inr (h, js, e) ↦
-      let p : givesEach (dayOf h js) first ≡ true = gives-true h js first (g h js e) in
-      let q : givesEach (dayOf h js) second ≡ true = gives-true h js second (k h js e) in
-      compare-accepted s h js e first second
-      ∙ ap₂ (λ (a b : Bool). comparedBy a b (sameLoads (dayOf h js) first second)) (p ∙ sym q) (q ∙ sym p)
-      ∙ ap (comparedBy (givesEach (dayOf h js) second) (givesEach (dayOf h js) first))
-      (same-loads-sym (dayOf h js) first second)
-      ∙ sym (compare-accepted s h js e second first)
+  | inr (c, e) ↦
+      let d : Day = dayOf c in
+      let p : givesEach d first ≡ true = gives-true d first (g c e) in
+      let q : givesEach d second ≡ true = gives-true d second (k c e) in
+      compare-accepted s c e first second
+      ∙ ap₂ (λ (a b : Bool). comparedBy a b (sameLoads d first second)) (p ∙ sym q) (q ∙ sym p)
+      ∙ ap (comparedBy (givesEach d second) (givesEach d first)) (same-loads-sym d first second)
+      ∙ sym (compare-accepted s c e second first)
 ]
 
-pub compare-transitive : (s : List ℕ) (h : Head) (js : List Job) → readSheet s ≡ accepted h js
+pub compare-transitive : (s : List ℕ) (c : Contents) → readSheet s ≡ accepted c
     → (first second third : List ℕ)
     → comparePlans s first second ≡ Same → comparePlans s second third ≡ Same → comparePlans s first third ≡ Same
-compare-transitive s h js read first second third e f =
-    let (g, _, one) = compared-same s h js read first second .1 e in
-    let (_, k, two) = compared-same s h js read second third .1 f in
-    compared-same s h js read first third .0 g k (λ v l. one v l ∙ two v l)
+compare-transitive s c read first second third e f =
+    let (g, _, one) = compared-same s c read first second .1 e in
+    let (_, k, two) = compared-same s c read second third .1 f in
+    compared-same s c read first third .0 g k (λ v l. one v l ∙ two v l)

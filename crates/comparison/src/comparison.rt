@@ -4,12 +4,10 @@ use frame::Fault;
 use frame::Verdict;
 ghost use mathlib.Core.Path.{_≡_};
 ghost use Prim.Native.Nat.{_≤_};
-ghost use mathlib.Core.List.{List};
 ghost use lib.ListN.{getD};
 ghost use lib.Dec.{eqb};
 ghost use Rattle.sums.specs.Search.{all};
-ghost use Rattle.fields.specs.declared.sheet.Head.{Head};
-ghost use Rattle.fields.specs.declared.sheet.Job.{Job};
+ghost use Rattle.fields.specs.Contents.{Contents};
 ghost use Rattle.frame.specs.Tables.{Tables};
 ghost use Rattle.day.specs.Day.{dayOf};
 ghost use Rattle.comparison.specs.Comparison.{comparedOf, comparePlans};
@@ -101,9 +99,8 @@ fn compare_lists<'a>(
     first: &'a [u64],
     second: &'a [u64],
 ) -> Compared
-    ensures { λ r. ⌜ ((h : Head) → (js : List Job)
-        → Tables h js benches jobs (now (minutes .entry)) (now (allowed .entry))
-        → r ≡ comparedOf (dayOf h js) (now (first .entry)) (now (second .entry))) ⌝ }
+    ensures { λ r. ⌜ ((c : Contents) → Tables c benches jobs (now (minutes .entry)) (now (allowed .entry))
+        → r ≡ comparedOf (dayOf c) (now (first .entry)) (now (second .entry))) ⌝ }
 {
     if !gives_each(jobs, allowed, first) {
         return Compared::Fault(Fault::Table(0));

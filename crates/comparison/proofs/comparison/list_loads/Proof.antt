@@ -36,8 +36,8 @@ returns c =
     let second = c .before .before .before .before .before .before .before in
     let first = second .before .before .before in
     let x = first .before .before .before .before .args in
-    λ few. listed-loads 512 (x .jobs) (x .minutes .now) (x .list .now) few (first .narrow .ensures) (second .narrow2 .ensures) 64
-    (c .before .own-loads .last .1 .1 .1 .1 .0) (c .before .own-loads .ensures)
+    λ few. listed-loads 512 (x .jobs) (x .minutes .now) (x .list .now) few (first .narrow .ensures)
+    (second .narrow2 .ensures) 64 (c .before .own-loads .last .1 .1 .1 .1 .0) (c .before .own-loads .ensures)
 
 pub list-loads-spec : {M : Type 1} → statement M
 list-loads-spec =
