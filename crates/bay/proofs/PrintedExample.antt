@@ -1,24 +1,35 @@
 -- Example 2 of document 01, from the bytes of its sheet to the two lines.
+use Prim.Native.Nat.{ℕ}
 use mathlib.Core.Path.{_≡_, refl}
-use mathlib.Core.List.{[], _∷_}
+use mathlib.Core.List.{List, [], _∷_}
 use Rattle.bits.specs.Bits.{bit, bits, isSet}
 use Rattle.sums.specs.Members.{members}
 use Rattle.closure.specs.Closure.{grow, closure, reach}
 use Rattle.fields.specs.Tests.{hyperEdgeVerdict}
 use Rattle.frame.specs.Reading.{frameFaults, after, readFrom, readSheet}
-use Rattle.algorithm.specs.Day.{lowest, highest, longJob}
+use Rattle.day.specs.Day.{longJob}
+use Rattle.algorithm.specs.Rocks.{lowest, highest}
 use Rattle.algorithm.specs.Board.{rockLoad}
 use Rattle.algorithm.specs.Forced.{inner, outer}
 use Rattle.algorithm.specs.Explore.{conflictSet, construct, activate, openRound, rounds, explore}
 use Rattle.algorithm.specs.Settle.{follow, settleFrom}
 use Rattle.algorithm.specs.Start.{crowdedBench, oneCycle, peel, start}
 use Rattle.algorithm.specs.Run.{ownMinutes, answerAt, turns, run}
-use Rattle.planning.specs.Planner.{answerFor}
+use Rattle.algorithm.specs.Answer.{answerFor}
 use Rattle.lines.specs.Lines.{digitsWithin, digits, spaced, line, jobLines, linesOf}
 use Rattle.bay.specs.Printed.{printedLines}
 
+-- Its frames: head, job and end.
+abbrev sheet : List ℕ
+sheet =
+    17 ∷ 0 ∷ 7 ∷ 2 ∷ 16 ∷ 56 ∷ 0 ∷ 0 ∷ 0 ∷ 160
+    ∷ 18 ∷ 0 ∷ 11 ∷ 0 ∷ 0 ∷ 88 ∷ 0 ∷ 0 ∷ 0 ∷ 0 ∷ 0 ∷ 0 ∷ 0 ∷ 0
+    ∷ 19 ∷ 0 ∷ 0 ∷ []
+
 -- "For example 2 it prints exactly two lines, `plan 5 0` (largest load, moves) and `0 0`"
-pub example-2 : printedLines (17 ∷ 0 ∷ 7 ∷ 2 ∷ 16 ∷ 56 ∷ 0 ∷ 0 ∷ 0 ∷ 160 ∷ 18 ∷ 0 ∷ 11 ∷ 0 ∷ 0 ∷ 88 ∷ 0 ∷ 0 ∷ 0 ∷ 0 ∷ 0 ∷ 0 ∷ 0 ∷ 0 ∷ 19 ∷ 0 ∷ 0 ∷ [])
-    ≡ 112 ∷ 108 ∷ 97 ∷ 110 ∷ 32 ∷ 53 ∷ 32 ∷ 48 ∷ 10 ∷ 48 ∷ 32 ∷ 48 ∷ 10 ∷ []
-unfolding printedLines answerFor readSheet readFrom frameFaults after bit bits isSet grow closure reach hyperEdgeVerdict lowest highest longJob rockLoad inner outer conflictSet construct activate openRound rounds explore follow settleFrom crowdedBench oneCycle peel start ownMinutes answerAt turns run members linesOf jobLines line spaced digits digitsWithin
+pub example-2 : printedLines sheet ≡ 112 ∷ 108 ∷ 97 ∷ 110 ∷ 32 ∷ 53 ∷ 32 ∷ 48 ∷ 10 ∷ 48 ∷ 32 ∷ 48 ∷ 10 ∷ []
+unfolding printedLines linesOf jobLines line spaced digits digitsWithin
+    answerFor readSheet readFrom frameFaults after hyperEdgeVerdict bit bits isSet members grow closure reach
+    lowest highest longJob rockLoad inner outer conflictSet construct activate openRound rounds explore
+    follow settleFrom crowdedBench oneCycle peel start ownMinutes answerAt turns run
 example-2 = refl

@@ -1,16 +1,17 @@
 -- What the bay program prints, from the bytes of the sheet alone (document 01, "Bay examples").
---     printedLines s      the text of the answer to the sheet s, with tables for 512 jobs and 64 benches
---     Prints s out r      the first r bytes of the buffer `out` are the whole text for s
+--     printedLines s          the text of the answer to the sheet s, with tables for 512 jobs and 64 benches
+--     Prints s out out′ r     `out′` is the buffer `out` after the whole text for s, of r bytes, was put at its front
 use Prim.Native.Nat.{ℕ}
 use mathlib.Core.Path.{_≡_}
 use mathlib.Core.List.{List}
-use lib.ListN.{length, take}
+use lib.ListN.{length, take, drop}
 use Rattle.algorithm.specs.Answer.{answerFor}
 use Rattle.lines.specs.Lines.{linesOf}
 
 unfoldable pub printedLines : List ℕ → List ℕ
 printedLines s = linesOf (answerFor s 512 64 .answer) (answerFor s 512 64 .places)
 
-pub record Prints (s out : List ℕ) (r : ℕ) : Type 0 where
+pub record Prints (s out out′ : List ℕ) (r : ℕ) : Type 0 where
   pub end : r ≡ length (printedLines s)
-  pub bytes : take r out ≡ printedLines s
+  pub bytes : take r out′ ≡ printedLines s
+  pub behind : drop r out′ ≡ drop r out

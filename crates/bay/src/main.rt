@@ -20,10 +20,10 @@ fn main() {
 }
 
 // Writes the text for the whole input s to the front of `out`, and returns its length,
-// if the buffer's first n bytes are those of s, as far as the buffer has room.
+// if the buffer's first n bytes are those of s, as far as the buffer has room. The bytes behind the text are kept.
 fn printed(n: usize, buffer: &[u8; SHEET_ROOM], out: &mut [u8; TEXT_ROOM]) -> usize
     ensures { λ r. ⌜ ((s : List ℕ) → take n (now (buffer .entry)) ≡ take (length (now (buffer .entry))) s
-        → Prints s (now (out .exit)) r) ⌝ }
+        → Prints s (now (out .entry)) (now (out .exit)) r) ⌝ }
 {
     let whole: &[u8] = buffer;
     if n < whole.len() {
@@ -32,9 +32,9 @@ fn printed(n: usize, buffer: &[u8; SHEET_ROOM], out: &mut [u8; TEXT_ROOM]) -> us
     text_of(whole, out)
 }
 
-// Writes the text of the answer to a sheet to the front of `out`, and returns its length.
+// Writes the text of the answer to a sheet to the front of `out`, and returns its length. The bytes behind it are kept.
 fn text_of(s: &[u8], out: &mut [u8; TEXT_ROOM]) -> usize
-    ensures { λ r. ⌜ Prints (now (s .entry)) (now (out .exit)) r ⌝ }
+    ensures { λ r. ⌜ Prints (now (s .entry)) (now (out .entry)) (now (out .exit)) r ⌝ }
 {
     let mut places = [0u64; 512];
     let mut loads = [0u64; 64];

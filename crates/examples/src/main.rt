@@ -3,25 +3,23 @@
 use frame::Head;
 use frame::Written;
 ghost use mathlib.Core.Path.{_≡_};
-ghost use Prim.Native.Nat.{_-_, min};
+ghost use Prim.Native.Nat.{_-_};
 
 fn main() {
     io::write_all(1, b"11 empty sheet: ");
-    show_answer(b"", 0);
+    show_answer(b"");
     io::write_all(1, b", expected fault 2 0\n");
 
     // Head, three jobs, end; then the same with 21 00 01 FF after the head.
     io::write_all(1, b"12 read: ");
     show_answer(
         b"\x11\x00\x07\x04\x10\x38\x00\x00\x01\x20\x12\x00\x0B\x00\x00\x5C\x00\x00\x00\x00\x00\x00\x00\x00\x12\x00\x0B\x00\x00\x5C\x00\x00\x00\x00\x00\x00\x00\x00\x12\x00\x0B\x00\x00\x5C\x00\x00\x00\x00\x00\x00\x00\x00\x13\x00\x00",
-        3,
     );
     io::write_all(1, b", expected plan 15 0;0 0;1 0;2 0\n");
 
     io::write_all(1, b"12 with a foreign frame: ");
     show_answer(
         b"\x11\x00\x07\x04\x10\x38\x00\x00\x01\x20\x21\x00\x01\xFF\x12\x00\x0B\x00\x00\x5C\x00\x00\x00\x00\x00\x00\x00\x00\x12\x00\x0B\x00\x00\x5C\x00\x00\x00\x00\x00\x00\x00\x00\x12\x00\x0B\x00\x00\x5C\x00\x00\x00\x00\x00\x00\x00\x00\x13\x00\x00",
-        3,
     );
     io::write_all(1, b", expected plan 15 0;0 0;1 0;2 0\n");
 
@@ -29,12 +27,14 @@ fn main() {
 }
 
 // Plans a sheet of at most 8 jobs and benches, and prints the answer in one line.
-fn show_answer(s: &[u8], jobs: usize) {
+fn show_answer(s: &[u8]) {
     let mut places = [0u64; 8];
     let mut loads = [0u64; 8];
-    let answer = blocking::plan(s, &mut places, &mut loads);
+    let filled = blocking::plan(s, &mut places, &mut loads);
+    let jobs = filled.places;
+    let answer = filled.answer;
     let mut out = [0u8; 256];
-    let n = lines::text(answer, &places[..least(jobs, 8)], &mut out);
+    let n = lines::text(answer, &places[..jobs], &mut out);
     join(&mut out);
     // Without the last line end.
     io::write_all(1, &out[..one_less(n)]);
@@ -51,12 +51,6 @@ fn join(out: &mut [u8]) {
 
 fn joined(b: u8) -> u8 {
     if b == b'\n' { b';' } else { b }
-}
-
-fn least(a: usize, b: usize) -> usize
-    ensures { λ r. ⌜ r ≡ min a b ⌝ }
-{
-    if a < b { a } else { b }
 }
 
 fn one_less(n: usize) -> usize

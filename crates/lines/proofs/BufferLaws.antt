@@ -14,7 +14,7 @@ use native.Mathlib.Omega.{arith}
 use mathlib.Core.Path.{_≡_, refl, sym, ap, _∙_}
 use mathlib.Core.List.{List, [], _∷_, _++_, append-nil}
 use mathlib.Core.Logic.{inl, inr}
-use lib.ListN.{length, take, drop, set, length-append, length-take, length-drop, take-append-drop}
+use lib.ListN.{length, take, drop, set, length-append, length-drop, take-append-drop}
 use lib.Seq.{sets, sets-eq, set-out, length-sets, take-all, take-append-le, drop-length, length-take-le}
 use Rattle.bools.proofs.OrderLaws.{lt-or-le}
 use Rattle.lines.specs.Buffer.{Puts, Front}

@@ -1,5 +1,6 @@
 pub mod BufferLaws
 pub mod DigitLaws
+pub mod FilledLaws
 pub mod LineExamples
 pub mod LineSteps
 pub mod TextSize

@@ -8,19 +8,21 @@ use mathlib.Core.List.{[], _∷_}
 use Rattle.sums.specs.Members.{members}
 use Rattle.bits.specs.Bits.{isSet}
 use Rattle.fields.specs.declared.fault.Fault.the-variants.{Truncated}
-use Rattle.planning.specs.declared.answer.Answer.the-variants.{Plan, Long, None, Fault}
+use Rattle.answers.specs.declared.answer.Answer.the-variants.{Plan, Long, None, Fault}
 use Rattle.lines.specs.Lines.{digitsWithin, digits, spaced, line, jobLines, linesOf}
 
-pub example-2 : linesOf (Plan 5 0) (0 ∷ []) ≡ 112 ∷ 108 ∷ 97 ∷ 110 ∷ 32 ∷ 53 ∷ 32 ∷ 48 ∷ 10 ∷ 48 ∷ 32 ∷ 48 ∷ 10 ∷ []
+pub example-2 : linesOf (Plan (record { largest = 5; moves = 0 })) (0 ∷ [])
+    ≡ 112 ∷ 108 ∷ 97 ∷ 110 ∷ 32 ∷ 53 ∷ 32 ∷ 48 ∷ 10 ∷ 48 ∷ 32 ∷ 48 ∷ 10 ∷ []
 unfolding linesOf jobLines line spaced digits digitsWithin
 example-2 = refl
 
-pub example-3 : linesOf (Long 0) [] ≡ 108 ∷ 111 ∷ 110 ∷ 103 ∷ 32 ∷ 48 ∷ 10 ∷ []
+pub example-3 : linesOf (Long (record { job = 0 })) [] ≡ 108 ∷ 111 ∷ 110 ∷ 103 ∷ 32 ∷ 48 ∷ 10 ∷ []
 unfolding linesOf line spaced digits digitsWithin
 example-3 = refl
 
 -- Benches 0 and 1 are the bits of weight 2 ^ 63 and 2 ^ 62.
-pub example-4 : linesOf (None (3 * 2 ^ 62) 0) [] ≡ 110 ∷ 111 ∷ 110 ∷ 101 ∷ 32 ∷ 48 ∷ 32 ∷ 48 ∷ 32 ∷ 49 ∷ 10 ∷ []
+pub example-4 : linesOf (None (record { set = 3 * 2 ^ 62; moves = 0 })) []
+    ≡ 110 ∷ 111 ∷ 110 ∷ 101 ∷ 32 ∷ 48 ∷ 32 ∷ 48 ∷ 32 ∷ 49 ∷ 10 ∷ []
 unfolding linesOf line spaced digits digitsWithin members isSet
 example-4 = refl
 

@@ -21,10 +21,14 @@ use Rattle.bits.specs.Bits.{isSet}
 use Rattle.bits.proofs.SetBits.{isSet-digit, isSet-past}
 use Rattle.fields.specs.declared.fault.Fault.{Fault as AnyFault}
 use Rattle.fields.specs.Numbers.{numberOf, placeOf}
-use Rattle.planning.specs.declared.answer.Answer.{Answer}
-use Rattle.planning.specs.declared.answer.Answer.the-variants.{Plan, Long, None, Fault}
+use Rattle.answers.specs.declared.answer.Answer.{Answer}
+use Rattle.answers.specs.declared.answer.Answer.the-variants.{Plan, Long, None, Fault}
+use Rattle.answers.specs.declared.answer.PlanAnswer.{PlanAnswer}
+use Rattle.answers.specs.declared.answer.LongAnswer.{LongAnswer}
+use Rattle.answers.specs.declared.answer.NoneAnswer.{NoneAnswer}
 use Rattle.lines.specs.Buffer.{Puts, Front}
-use Rattle.lines.specs.Lines.{digits, space, newline, spaced, line, jobLines, planLetters, longLetters, noneLetters, faultLetters, linesOf}
+use Rattle.lines.specs.Lines.{digits, space, newline, spaced, line, jobLines, linesOf}
+use Rattle.lines.specs.Lines.{planLetters, longLetters, noneLetters, faultLetters}
 use Rattle.lines.proofs.BufferLaws.{puts-then, puts-as, puts-text}
 
 -- ── words and lines ──
@@ -93,24 +97,34 @@ bench-out set b n =
 -- ── the text of an answer ──
 
 module _ {answer : Answer} (places : List ℕ) {out one two : List ℕ} {a b : ℕ} {after : List ℕ} {r : ℕ} where
-  pub plan-text : {largest moves : ℕ} → answer ≡ Plan largest moves → Puts out 0 (planLetters ++ space ∷ []) one a
-      → Puts one a (line (digits largest ∷ digits moves ∷ [])) two b → Puts two b (jobLines (length places) places) after r → Front out (linesOf answer places) after r
+  pub plan-text : {g : PlanAnswer} → answer ≡ Plan g → Puts out 0 (planLetters ++ space ∷ []) one a
+      → Puts one a (line (digits (g .largest) ∷ digits (g .moves) ∷ [])) two b
+      → Puts two b (jobLines (length places) places) after r → Front out (linesOf answer places) after r
   unfolding linesOf
-  plan-text {largest} {moves} e p q s =
-      puts-text (puts-as (ap (λ (l : List ℕ). l ++ jobLines (length places) places) (line-word planLetters (digits largest) (digits moves ∷ [])) ∙ rw e) (puts-then (puts-then p q) s))
+  plan-text {g} e p q s =
+      let first = line-word planLetters (digits (g .largest)) (digits (g .moves) ∷ []) in
+      puts-text
+      (puts-as (ap (λ (l : List ℕ). l ++ jobLines (length places) places) first ∙ rw e) (puts-then (puts-then p q) s))
 
-  pub long-text : {job : ℕ} → answer ≡ Long job → Puts out 0 longLetters one a → Puts one a (space ∷ digits job) two b → Puts two b (newline ∷ []) after r → Front out (linesOf answer places) after r
+  pub long-text : {g : LongAnswer} → answer ≡ Long g → Puts out 0 longLetters one a
+      → Puts one a (space ∷ digits (g .job)) two b → Puts two b (newline ∷ []) after r
+      → Front out (linesOf answer places) after r
   unfolding linesOf
-  long-text {job} e p q s = puts-text (puts-as (line-pair longLetters (digits job) ∙ rw e) (puts-then (puts-then p q) s))
+  long-text {g} e p q s =
+      puts-text (puts-as (line-pair longLetters (digits (g .job)) ∙ rw e) (puts-then (puts-then p q) s))
 
-  pub none-text : {set moves : ℕ} {three : List ℕ} {c : ℕ} → answer ≡ None set moves → Puts out 0 noneLetters one a → Puts one a (space ∷ digits moves) two b
-      → Puts two b (benchesBelow set 64) three c → Puts three c (newline ∷ []) after r → Front out (linesOf answer places) after r
+  pub none-text : {g : NoneAnswer} {three : List ℕ} {c : ℕ} → answer ≡ None g → Puts out 0 noneLetters one a
+      → Puts one a (space ∷ digits (g .moves)) two b → Puts two b (benchesBelow (g .set) 64) three c
+      → Puts three c (newline ∷ []) after r → Front out (linesOf answer places) after r
   unfolding linesOf
-  none-text {set} {moves} e p q s t =
-      puts-text (puts-as (line-words noneLetters (digits moves) (map digits (members 64 (isSet 64 set))) ∙ rw e) (puts-then (puts-then (puts-then p q) s) t))
+  none-text {g} e p q s t =
+      let words = line-words noneLetters (digits (g .moves)) (map digits (members 64 (isSet 64 (g .set)))) in
+      puts-text (puts-as (words ∙ rw e) (puts-then (puts-then (puts-then p q) s) t))
 
-pub fault-text : {answer : Answer} (places : List ℕ) {out one : List ℕ} {a : ℕ} {after : List ℕ} {r : ℕ} {f : AnyFault} {n m : ℕ} → answer ≡ Fault f → n ≡ numberOf f → m ≡ placeOf f → Puts out 0 (faultLetters ++ space ∷ []) one a
-    → Puts one a (line (digits n ∷ digits m ∷ [])) after r → Front out (linesOf answer places) after r
+pub fault-text : {answer : Answer} (places : List ℕ) {out one : List ℕ} {a : ℕ} {after : List ℕ} {r : ℕ}
+    {f : AnyFault} {n m : ℕ} → answer ≡ Fault f → n ≡ numberOf f → m ≡ placeOf f
+    → Puts out 0 (faultLetters ++ space ∷ []) one a → Puts one a (line (digits n ∷ digits m ∷ [])) after r
+    → Front out (linesOf answer places) after r
 unfolding linesOf
 fault-text places {f = f} {n = n} {m = m} e x y p q =
     puts-text (puts-as (line-word faultLetters (digits n) (digits m ∷ []) ∙ rw (e, x, y)) (puts-then p q))

@@ -15,9 +15,10 @@ use Rattle.sums.specs.Members.{members}
 use Rattle.sums.proofs.MembersLaws.{members-snoc-true, members-snoc-false}
 use Rattle.bits.specs.Bits.{isSet}
 use Rattle.fields.specs.Numbers.{numberOf, placeOf}
-use Rattle.planning.specs.declared.answer.Answer.{Answer}
-use Rattle.planning.specs.declared.answer.Answer.the-variants.{Plan, Long, None, Fault}
-use Rattle.lines.specs.Lines.{digits, newline, spaced, line, jobLines, planLetters, longLetters, noneLetters, faultLetters, linesOf}
+use Rattle.answers.specs.declared.answer.Answer.{Answer}
+use Rattle.answers.specs.declared.answer.Answer.the-variants.{Plan, Long, None, Fault}
+use Rattle.lines.specs.Lines.{digits, newline, spaced, line, jobLines, linesOf}
+use Rattle.lines.specs.Lines.{planLetters, longLetters, noneLetters, faultLetters}
 use Rattle.lines.proofs.DigitLaws.{digits-small, digits-more}
 use Rattle.lines.proofs.LineSteps.{spaced-append}
 
@@ -81,33 +82,37 @@ benches-size f (suc n) h = elim (split (f n)) [
 
 -- All numbers that an answer shows, but for those of benches.
 abbrev pub Narrow : Answer → Type 0
-Narrow (Plan largest moves) = (largest < 10 ^ 20) × (moves < 10 ^ 20)
-Narrow (Long job) = job < 10 ^ 20
-Narrow (None set moves) = moves < 10 ^ 20
+Narrow (Plan a) = (a .largest < 10 ^ 20) × (a .moves < 10 ^ 20)
+Narrow (Long a) = a .job < 10 ^ 20
+Narrow (None a) = a .moves < 10 ^ 20
 Narrow (Fault f) = (numberOf f < 10 ^ 20) × (placeOf f < 10 ^ 20)
 
-pub text-size : (a : Answer) (places : List ℕ) → Narrow a → length places ≤ 512 → ((j : ℕ) → j < length places → getD places j 0 < 10 ^ 20)
-    → length (linesOf a places) ≤ 32768
+pub text-size : (a : Answer) (places : List ℕ) → Narrow a → length places ≤ 512
+    → ((j : ℕ) → j < length places → getD places j 0 < 10 ^ 20) → length (linesOf a places) ≤ 32768
 unfolding linesOf
-text-size (Plan largest moves) places (l, m) h narrow =
+text-size (Plan a) places (l, m) h narrow =
+    let largest = digits (a .largest) in
+    let moves = digits (a .moves) in
     omega (
       arith,
-      length-append (line (planLetters ∷ digits largest ∷ digits moves ∷ [])) (jobLines (length places) places),
+      length-append (line (planLetters ∷ largest ∷ moves ∷ [])) (jobLines (length places) places),
       jobs-size (length places) places h narrow,
-      length-line planLetters (digits largest ∷ digits moves ∷ []),
-      length-spaced (digits largest) (digits moves ∷ []),
-      length-one (digits moves),
-      length-digits 19 largest l,
-      length-digits 19 moves m,
+      length-line planLetters (largest ∷ moves ∷ []),
+      length-spaced largest (moves ∷ []),
+      length-one moves,
+      length-digits 19 (a .largest) l,
+      length-digits 19 (a .moves) m,
     )
-text-size (Long job) places l h narrow = omega (arith, length-two longLetters (digits job), length-digits 19 job l)
-text-size (None set moves) places l h narrow =
+text-size (Long a) places l h narrow =
+    omega (arith, length-two longLetters (digits (a .job)), length-digits 19 (a .job) l)
+text-size (None a) places l h narrow =
+    let benches = map digits (members 64 (isSet 64 (a .set))) in
     omega (
       arith,
-      length-line noneLetters (digits moves ∷ map digits (members 64 (isSet 64 set))),
-      length-spaced (digits moves) (map digits (members 64 (isSet 64 set))),
-      benches-size (isSet 64 set) 64 (omega arith),
-      length-digits 19 moves l,
+      length-line noneLetters (digits (a .moves) ∷ benches),
+      length-spaced (digits (a .moves)) benches,
+      benches-size (isSet 64 (a .set)) 64 (omega arith),
+      length-digits 19 (a .moves) l,
     )
 text-size (Fault f) places (l, m) h narrow =
     omega (

@@ -1,5 +1,6 @@
 -- Bytes put into a buffer; those that do not fit are cut off.
---     Puts out at xs after r      `after` is the buffer `out` with xs put from place at on, and r is where they end, or the buffer's end
+--     Puts out at xs after r      `after` is the buffer `out` with xs put from place at on, and r is where they end, or
+--                                 the buffer's end
 --     Front out xs after r        the same at the front of the buffer, said without stores
 use Prim.Native.Nat.{ℕ, _+_, min}
 use mathlib.Core.Path.{_≡_}

@@ -64,7 +64,8 @@ fn end_line(out: &mut [u8], at: usize) -> usize
 
 // Puts the line of each job.
 fn jobs(out: &mut [u8], at: usize, places: &[u64]) -> usize
-    ensures { λ r. ⌜ Puts (now (out .entry)) at (jobLines (length (now (places .entry))) (now (places .entry))) (now (out .exit)) r ⌝ }
+    ensures { λ r. ⌜ Puts (now (out .entry)) at (jobLines (length (now (places .entry))) (now (places .entry)))
+        (now (out .exit)) r ⌝ }
 {
     let mut end = buffer::within(at, out.len());
     let mut j = 0;
@@ -77,7 +78,8 @@ fn jobs(out: &mut [u8], at: usize, places: &[u64]) -> usize
 
 // Puts the benches of a set, rising, each behind a space.
 fn benches(out: &mut [u8], at: usize, set: u64) -> usize
-    ensures { λ r. ⌜ Puts (now (out .entry)) at (spaced (map digits (members 64 (isSet 64 set)))) (now (out .exit)) r ⌝ }
+    ensures { λ r. ⌜ Puts (now (out .entry)) at (spaced (map digits (members 64 (isSet 64 set))))
+        (now (out .exit)) r ⌝ }
 {
     let mut end = buffer::within(at, out.len());
     let mut b: u64 = 0;

@@ -26,7 +26,8 @@ slice-aggregate-write-all : tie.Need-slice-aggregate-write-all
 slice-aggregate-write-all c =
     let read = c .before .before .before .before .before .read-full in
     let text = c .before .printed in
-    sym (length-take-le (text .result) (text .last .1 .1 .0) (printed-within (read .last .1 .0) (read .result) (text .ensures)))
+    let within = printed-within (read .last .1 .0) (read .result) (text .ensures) in
+    sym (length-take-le (text .result) (text .last .1 .1 .0) within)
 
 write-all-requires : tie.Need-write-all-requires
 write-all-requires c κs = search needs

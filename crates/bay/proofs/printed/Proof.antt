@@ -1,4 +1,4 @@
--- The buffer has more than 65,536 bytes, so what it holds of the input is read as the whole input (ReadPrefix of frame).
+-- The buffer has more than 65,536 bytes, so what it holds of the input is read as the whole input (frame ReadPrefix).
 use Prim.Native.Nat.{_≤_}
 use native.Mathlib.Omega.{arith}
 use mathlib.Core.Path.{sym}
@@ -24,7 +24,8 @@ returns : tie.Need-returns
 returns c s held =
     let whole = c .before .before .before .before .whole in
     let args = c .before .before .before .before .before .args in
-    prints-read (buffer-read (now (args .buffer)) s (args .n) (omega (arith, whole .given)) held) (c .text-of .ensures)
+    let alike = buffer-read (now (args .buffer)) s (args .n) (omega (arith, whole .given)) held in
+    prints-read alike (c .text-of .ensures)
 
 text-of-requires-2 : tie.Need-text-of-requires-2
 text-of-requires-2 c κs = search needs
@@ -34,7 +35,8 @@ returns-2 c s held =
     let whole = c .before .before .before .whole in
     let args = c .before .before .before .before .args in
     let full : length (now (args .buffer)) ≤ args .n = omega (arith, c .before .before .if1 .left, whole .given) in
-    prints-read (full-buffer-read (now (args .buffer)) s (args .n) (omega (arith, whole .given)) held full) (c .text-of2 .ensures)
+    let alike = full-buffer-read (now (args .buffer)) s (args .n) (omega (arith, whole .given)) held full in
+    prints-read alike (c .text-of2 .ensures)
 
 pub printed-spec : {M : Type 1} → statement M
 printed-spec =

@@ -1,8 +1,9 @@
--- The lines of the answer and of the places in the table are those of the sheet, and they fit (PrintedLaws).
+-- The lines of what is answered and of the places written are those of the sheet, and they fit (PrintedLaws).
 use native.Mathlib.Omega.{arith}
 use mathlib.Core.Path.{sym}
 use lib.Seq.{length-take-le}
 use denote.Ref.{now}
+use Rattle.lines.proofs.FilledLaws.{written-fit}
 use Rattle.bay.proofs.PrintedLaws.{printed-text, text-printed}
 use borrow.Author.Needs.{needs}
 use Rattle.bay.proofs.text_of.Statement.{statement}
@@ -17,27 +18,22 @@ slice-aggregate-plan-2 c = search needs
 plan-requires : tie.Need-plan-requires
 plan-requires c κs = search needs
 
-job-count-requires : tie.Need-job-count-requires
-job-count-requires c κs = search needs
-
 array-share-prefix-places : tie.Need-array-share-prefix-places
-array-share-prefix-places c = search needs
+array-share-prefix-places c = written-fit (c .before .before .plan .ensures .0)
 
 slice-aggregate-text : tie.Need-slice-aggregate-text
 slice-aggregate-text c =
-    let count = c .before .job-count in
-    let plan = c .before .before .before .before .plan in
-    sym (length-take-le (count .result) (plan .last .1 .0) (omega (arith, count .ensures, plan .kept .1 .0)))
+    let plan = c .before .before .before .plan in
+    sym (length-take-le (plan .result .places) (plan .last .1 .0) (written-fit (plan .ensures .0)))
 
 text-requires : tie.Need-text-requires
 text-requires c κs = search needs
 
 returns : tie.Need-returns
 returns c =
-    let count = c .before .before .before .job-count in
-    let plan = c .before .before .before .before .before .before .plan in
-    let s = now (c .before .before .before .before .before .before .before .before .before .before .args .s) in
-    text-printed s (printed-text s _ (count .result) (count .ensures) (plan .ensures .0) (search needs) (search needs)) (c .text .ensures)
+    let plan = c .before .before .before .before .before .plan in
+    let s = now (c .before .before .before .before .before .before .before .before .before .args .s) in
+    text-printed s (printed-text s (plan .ensures .0) (search needs) (search needs)) (c .text .ensures)
     (omega (arith, c .before .text-arg .given))
 
 pub text-of-spec : {M : Type 1} → statement M
@@ -47,7 +43,6 @@ text-of-spec =
     slice-aggregate-plan
     slice-aggregate-plan-2
     plan-requires
-    job-count-requires
     array-share-prefix-places
     slice-aggregate-text
     text-requires

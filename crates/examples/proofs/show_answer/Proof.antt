@@ -1,7 +1,10 @@
--- The places shown are those of the table, and the text lies within its buffer.
+-- The places shown are those written to the table, and the text lies within its buffer.
+use Prim.Native.Nat.{_≤_}
 use native.Mathlib.Omega.{arith}
 use mathlib.Core.Path.{sym}
+use lib.ListN.{length}
 use lib.Seq.{length-take-le}
+use Rattle.lines.proofs.FilledLaws.{written-fit}
 use borrow.Author.Needs.{needs}
 use Rattle.examples.proofs.show_answer.Statement.{statement}
 use Rattle.examples.proofs.show_answer.Tie as tie
@@ -15,17 +18,13 @@ slice-aggregate-plan-2 c = search needs
 plan-requires : tie.Need-plan-requires
 plan-requires c κs = search needs
 
-least-requires : tie.Need-least-requires
-least-requires c κs = search needs
-
 array-share-prefix-places : tie.Need-array-share-prefix-places
-array-share-prefix-places c = search needs
+array-share-prefix-places c = written-fit (c .before .before .plan .ensures .0)
 
 slice-aggregate-text : tie.Need-slice-aggregate-text
 slice-aggregate-text c =
-    let shown = c .before .least in
-    let plan = c .before .before .before .before .plan in
-    sym (length-take-le (shown .result) (plan .last .1 .0) (omega (arith, shown .ensures, plan .kept .1 .0)))
+    let plan = c .before .before .before .plan in
+    sym (length-take-le (plan .result .places) (plan .last .1 .0) (written-fit (plan .ensures .0)))
 
 slice-aggregate-text-2 : tie.Need-slice-aggregate-text-2
 slice-aggregate-text-2 c = search needs
@@ -50,7 +49,9 @@ slice-aggregate-write-all c =
     let less = c .before .one-less in
     let join = c .before .before .before .join in
     let text = c .before .before .before .before .before .before .text in
-    sym (length-take-le (less .result) (join .last .0) (omega (arith, less .ensures, join .kept .0, text .ensures, text .kept .1 .1 .0)))
+    let within : less .result ≤ length (join .last .0) =
+    omega (arith, less .ensures, join .kept .0, text .ensures, text .kept .1 .1 .0) in
+    sym (length-take-le (less .result) (join .last .0) within)
 
 write-all-requires : tie.Need-write-all-requires
 write-all-requires c κs = search needs
@@ -65,7 +66,6 @@ show-answer-spec =
     slice-aggregate-plan
     slice-aggregate-plan-2
     plan-requires
-    least-requires
     array-share-prefix-places
     slice-aggregate-text
     slice-aggregate-text-2
