@@ -1,8 +1,8 @@
 -- The balances of the components, one component after another.
 --     where-more             one more entry, new where it is marked
 --     balance-same           all benches of a component have its balance
---     balance-none           and without a rock that is 0
---     balances-start         at first every entry is 3
+--     balance-none           and without a rock that is a tree
+--     balances-start         at first every entry is unknown
 --     balances-known         the entry is known already
 --     balances-alone         a bench without a rock
 --     balances-fill          the benches of a component get its balance

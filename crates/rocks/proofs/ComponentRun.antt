@@ -4,7 +4,7 @@
 --     component-shows        what spreads from a bench is its component
 --     component-rocks, component-balance     and its rocks and its balance are the day's
 --     component-found        so it is in a set of 64 entries that was empty
---     balance-cycle, balance-crowded     1 is one cycle, 2 is crowded
+--     balance-cycle, balance-crowded     the balance of one cycle, and of a crowded component
 --     cycles-are, crowded-bench-is       what the array of balances, and the search in it, say of the day
 use Prim.Native.Nat.{ℕ, _≤_, _<_}
 use mathlib.Core.Path.{_≡_, refl, sym, ap, ap₂, subst, _∙_}

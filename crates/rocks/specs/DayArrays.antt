@@ -1,8 +1,8 @@
 -- What the program's arrays hold of the rocks of a day, and of their components.
 --     dayRocks d, dayRock d r   how many rocks a day has, and the job of rock r
 --     DayRocks d n low high     the arrays hold the day's rocks, with their ends
---     balanceIn d v             0, 1 or 2 where the component of v has fewer rocks than benches, as many, or more
---     BalancesTo d v xs         entry u is the balance of u for u below v, and else that or 3
+--     balanceIn d v             the balance of the component of v
+--     BalancesTo d v xs         entry u is the balance of u for u below v, and else that or unknown
 --     Cycles d balance          the benches whose component has one cycle
 use Prim.Native.Nat.{ℕ, _≤_, _<_}
 use mathlib.Core.Path.{_≡_}
@@ -16,7 +16,7 @@ use Rattle.day.specs.Day.{Day}
 use Rattle.algorithm.specs.Rocks.{rock, lowest, highest}
 use Rattle.algorithm.specs.Start.{component, rocksIn, oneCycle}
 use Rattle.algorithm.specs.SoundDay.{SoundDay}
-use Rattle.rocks.specs.SpreadArrays.{balanceOf}
+use Rattle.rocks.specs.SpreadArrays.{cycleBalance, unknownBalance, balanceOf}
 
 -- Rock r is the one with the r-th lowest job.
 abbrev pub dayRocks : Day → ℕ
@@ -39,12 +39,12 @@ pub record DayRocks (d : Day) (n : Limits) (low high : List ℕ) : Type 0 where
 abbrev pub balanceIn : Day → ℕ → ℕ
 balanceIn d v = balanceOf (rocksIn d v) (count (d .benches) (component d v))
 
--- An entry is 3 until it is known; those below v are known.
+-- Those below v are known.
 pub record BalancesTo (d : Day) (v : ℕ) (xs : List ℕ) : Type 0 where
   pub room : d .benches ≤ length xs
   pub known : (u : ℕ) → u < v → u < d .benches → getD xs u 0 ≡ balanceIn d u
-  pub others : (u : ℕ) → u < d .benches → (getD xs u 0 ≡ 3 → ⊥) → getD xs u 0 ≡ balanceIn d u
+  pub others : (u : ℕ) → u < d .benches → (getD xs u 0 ≡ unknownBalance → ⊥) → getD xs u 0 ≡ balanceIn d u
 
--- Entry v is 1 where the component of v has one cycle.
+-- Entry v says where the component of v has one cycle.
 abbrev pub Cycles : Day → List ℕ → Type 0
-Cycles d balance = (v : ℕ) → v < d .benches → eqb (getD balance v 0) 1 ≡ oneCycle d v
+Cycles d balance = (v : ℕ) → v < d .benches → eqb (getD balance v 0) cycleBalance ≡ oneCycle d v

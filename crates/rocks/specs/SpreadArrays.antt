@@ -4,7 +4,8 @@
 --     crossesAt                   and one of its ends is in the set, the other is not
 --     joinOf, widenOf, changedOf  the set after one rock, after the first k rocks; whether any of them added a bench
 --     linksAt, linkedAt           two benches joined by rock r, which is neutral; by some neutral rock
---     balanceOf rocks size        0, 1 or 2 where there are fewer rocks than benches, as many, or more
+--     treeBalance, cycleBalance, crowdedBalance, unknownBalance     the four numbers of a balance
+--     balanceOf rocks size        a tree where there are fewer rocks than benches, one cycle where as many, crowded where more
 --     Within m k low high         the ends of the first k rocks are below m
 --     Shows m S xs                the array shows the set S of numbers below m
 use Prim.Native.Nat.{ℕ, zero, suc, _≤_, _<_}
@@ -48,8 +49,25 @@ linksAt low high dir u v r = touchesAt low high r u && neutralRock dir r && eqb 
 abbrev pub linkedAt : ℕ → List ℕ → List ℕ → List ℕ → ℕ → ℕ → Bool
 linkedAt rocks low high dir u v = any rocks (linksAt low high dir u v)
 
+-- ── the balance of rocks and benches ──
+
+abbrev pub treeBalance : ℕ
+treeBalance = 0
+
+abbrev pub cycleBalance : ℕ
+cycleBalance = 1
+
+abbrev pub crowdedBalance : ℕ
+crowdedBalance = 2
+
+-- Of a bench that was not looked at yet.
+abbrev pub unknownBalance : ℕ
+unknownBalance = 3
+
 abbrev pub balanceOf : ℕ → ℕ → ℕ
-balanceOf rocks size = cond (ltb rocks size) 0 (cond (eqb rocks size) 1 2)
+balanceOf rocks size = cond (ltb rocks size) treeBalance (cond (eqb rocks size) cycleBalance crowdedBalance)
+
+-- ── arrays ──
 
 abbrev pub Within : ℕ → ℕ → List ℕ → List ℕ → Type 0
 Within m k low high = (r : ℕ) → r < k → (getD low r 0 < m) × (getD high r 0 < m)

@@ -10,6 +10,7 @@ ghost use Rattle.sums.specs.Search.{least};
 ghost use Rattle.day.specs.Day.{Day};
 ghost use Rattle.algorithm.specs.Start.{component as componentOf};
 ghost use Rattle.arrays.specs.Arrays.{filled};
+ghost use Rattle.rocks.specs.SpreadArrays.{crowdedBalance, unknownBalance};
 ghost use Rattle.rocks.specs.DayArrays.{DayRocks, balanceIn, BalancesTo};
 
 // component d v, in a set that was empty.
@@ -43,23 +44,23 @@ fn balance_from<'a>(
 )
     ensures { λ _. ⌜ ((d : Day) → DayRocks d n (now (low .entry)) (now (high .entry)) → ((i : ℕ) → getD (now (neutral .entry)) i 0 ≡ 0) → v < d .benches → BalancesTo d v (now (balance .entry)) → BalancesTo d (v + 1) (now (balance .exit))) ⌝ }
 {
-    if arrays::at(balance, v) != 3 {
+    if arrays::at(balance, v) != spreading::UNKNOWN {
         return;
     }
     let mut set = [false; 64];
     arrays::mark(&mut set, v, true);
     spreading::spread(n, low, high, neutral, &mut set);
     if spreading::rocks_in(n, low, neutral, &set) == 0 {
-        arrays::put(balance, v, 0);
+        arrays::put(balance, v, spreading::TREE);
         return;
     }
     let b = spreading::balance(n, low, neutral, &set);
     put_where(n.benches, &set, b, balance);
 }
 
-// Entry v: 0, 1 or 2: neither, oneCycle d v, crowded d v. An entry is 3 until it is known.
+// Entry v: the balance of the component of v. Every entry is unknown before.
 pub fn balances<'a>(n: Limits, low: &'a [usize], high: &'a [usize], balance: &mut [usize])
-    ensures { λ _. ⌜ ((d : Day) → DayRocks d n (now (low .entry)) (now (high .entry)) → d .benches ≤ length (now (balance .entry)) → ((v : ℕ) → v < d .benches → getD (now (balance .entry)) v 0 ≡ 3) → (v : ℕ) → v < d .benches → getD (now (balance .exit)) v 0 ≡ balanceIn d v) ⌝ }
+    ensures { λ _. ⌜ ((d : Day) → DayRocks d n (now (low .entry)) (now (high .entry)) → d .benches ≤ length (now (balance .entry)) → ((v : ℕ) → v < d .benches → getD (now (balance .entry)) v 0 ≡ unknownBalance) → (v : ℕ) → v < d .benches → getD (now (balance .exit)) v 0 ≡ balanceIn d v) ⌝ }
 {
     let neutral = [0usize; 512];
     let mut v = 0;
@@ -71,11 +72,11 @@ pub fn balances<'a>(n: Limits, low: &'a [usize], high: &'a [usize], balance: &mu
 
 // crowdedBench d.
 pub fn crowded_bench(benches: usize, balance: &[usize]) -> usize
-    ensures { λ r. ⌜ r ≡ least benches (λ v. eqb (getD (now (balance .entry)) v 0) 2) ⌝ }
+    ensures { λ r. ⌜ r ≡ least benches (λ v. eqb (getD (now (balance .entry)) v 0) crowdedBalance) ⌝ }
 {
     let mut v = 0;
     while v < benches {
-        if arrays::at(balance, v) == 2 {
+        if arrays::at(balance, v) == spreading::CROWDED {
             return v;
         }
         v += 1;

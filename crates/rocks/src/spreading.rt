@@ -9,6 +9,16 @@ ghost use Rattle.sums.specs.Search.{least};
 ghost use Rattle.closure.specs.Closure.{closure};
 ghost use Rattle.rocks.specs.SpreadArrays.{insideAt, crossesAt, joinOf, widenOf, changedOf, linkedAt, balanceOf, Within, Shows};
 
+// The balance of a set of benches: a tree has fewer rocks than benches, one cycle as many, a crowded set more.
+pub const TREE: usize = 0;
+
+pub const ONE_CYCLE: usize = 1;
+
+pub const CROWDED: usize = 2;
+
+// And of a bench that was not looked at yet.
+pub const UNKNOWN: usize = 3;
+
 // Whether rock r is neutral with one end in the set and one outside.
 fn crosses<'a>(
     low: &'a [usize],
@@ -123,17 +133,17 @@ pub fn first_inside<'a>(n: Limits, low: &'a [usize], dir: &'a [usize], chosen: &
     r
 }
 
-// 0 where the set has fewer rocks than benches (isTree), 1 where as many (oneCycle), 2 where more (crowded).
+// The balance of the set: isTree, oneCycle or crowded.
 pub fn balance<'a>(n: Limits, low: &'a [usize], dir: &'a [usize], chosen: &'a [bool]) -> usize
     ensures { λ k. ⌜ k ≡ balanceOf (count (n .rocks) (insideAt (now (low .entry)) (now (dir .entry)) (now (chosen .entry)))) (count (n .benches) (λ v. getD (now (chosen .entry)) v false)) ⌝ }
 {
     let rocks = rocks_in(n, low, dir, chosen);
     let size = arrays::count(n.benches, chosen);
     if rocks < size {
-        return 0;
+        return TREE;
     }
     if rocks == size {
-        return 1;
+        return ONE_CYCLE;
     }
-    2
+    CROWDED
 }

@@ -123,7 +123,7 @@ fn settle_system<'a>(n: Limits, low: &'a [usize], high: &'a [usize], dir: &mut [
     rocks::spread(n, low, high, dir, &mut system);
     let kind = rocks::balance(n, low, dir, &system);
     let mut marked = [false; 64];
-    if kind == 0 {
+    if kind == rocks::TREE {
         arrays::mark(&mut marked, v, true);
         follow(n, low, high, dir, &mut marked);
         return;

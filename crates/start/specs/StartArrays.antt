@@ -20,6 +20,7 @@ use Rattle.algorithm.specs.Rocks.{rock}
 use Rattle.algorithm.specs.Start.{State}
 use Rattle.arrays.specs.Arrays.{plusOf, timesOf}
 use Rattle.rocks.specs.RockArrays.{touchesAt}
+use Rattle.rocks.specs.SpreadArrays.{cycleBalance}
 use Rattle.sets.specs.Sets.{choicesOf}
 use Rattle.rocks.specs.DayArrays.{dayRocks, dayRock}
 
@@ -79,7 +80,7 @@ abbrev pub leftCount : ℕ → List ℕ → List ℕ → List ℕ → List Bool 
 leftCount rocks job low high left v = count rocks (leftRock job low high left v)
 
 abbrev pub hangingOf : ℕ → List ℕ → List ℕ → List ℕ → List ℕ → List Bool → ℕ → Bool
-hangingOf rocks job low high balance left v = eqb (getD balance v 0) 1 && eqb (leftCount rocks job low high left v) 1
+hangingOf rocks job low high balance left v = eqb (getD balance v 0) cycleBalance && eqb (leftCount rocks job low high left v) 1
 
 -- One entry for each job. Only rocks are left.
 pub record Placed (d : Day) (s : State) (left : List Bool) (place : List ℕ) : Type 0 where

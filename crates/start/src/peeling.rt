@@ -58,7 +58,7 @@ fn hanging_at<'a>(
 ) -> bool
     ensures { λ t. ⌜ t ≡ hangingOf (n .rocks) (now (job .entry)) (now (low .entry)) (now (high .entry)) (now (balance .entry)) (now (left .entry)) v ⌝ }
 {
-    if arrays::at(balance, v) != 1 {
+    if arrays::at(balance, v) != rocks::ONE_CYCLE {
         return false;
     }
     count_left(n, job, low, high, left, v) == 1
