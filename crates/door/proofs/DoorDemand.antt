@@ -3,11 +3,11 @@
 --     door-claim            the claim holds of what a call returns and leaves in the three tables
 --     with-claim            the equation, and the claim with it
 --     answered-room         who gets the word 1, 2 or 3 had an accepted sheet and tables with room
-use Prim.Native.Nat.{ℕ, _*_, _<_}
+use Prim.Native.Nat.{ℕ, _+_, _*_, _≤_, _<_}
 use native.Mathlib.Omega.{arith}
 use mathlib.Core.Path.{_≡_, refl, sym, ap, subst, _∙_}
 use mathlib.Core.Logic.{_⊎_, inl, inr}
-use mathlib.Core.Bool.{true, false, _||_}
+use mathlib.Core.Bool.{Bool, true, false, _||_}
 use mathlib.Core.List.{List, [], _∷_}
 use lib.ListN.{length, getD, drop}
 use lib.Dec.{ltb}
@@ -17,18 +17,24 @@ use Rattle.bools.proofs.OrderLaws.{lt-or-le}
 use Rattle.sums.proofs.SumLaws.{sum-cong}
 use Rattle.fields.specs.declared.fault.Fault.{Fault}
 use Rattle.fields.specs.declared.fault.Fault.the-variants.{Table}
-use Rattle.fields.specs.declared.sheet.Head.{Head}
-use Rattle.fields.specs.declared.sheet.Job.{Job}
+use Rattle.fields.specs.Contents.{Contents}
 use Rattle.frame.specs.Reading.{accepted, readSheet}
 use Rattle.frame.proofs.AcceptedLaws.{accepted-sound}
-use Rattle.algorithm.specs.Answer.{Answer, plan, tooLong, none, fault}
-use Rattle.planning.specs.Planner.{setOf, shortTables, placesIn, loadsIn}
-use Rattle.demand.specs.Demand.{loadOf}
-use Rattle.blocking.specs.Answers.{placeIn, SoundPlan, SoundLong, SoundAnswer, plan-sound, long-sound, none-sound, isPlan, isLong, WholeClaim}
-use Rattle.blocking.specs.Claim.{SheetRefused, OneCase, Untouched, NamedSet}
 use Rattle.frame.proofs.Stored.{read-cases, not-both-read, same-read}
+use Rattle.day.specs.Day.{Day, dayOf, placeIn, loadOf}
+use Rattle.demand.specs.Demand.{SoundLong}
+use Rattle.answers.specs.declared.answer.Answer.{Answer}
+use Rattle.answers.specs.declared.answer.Answer.the-variants.{Plan, Long, None, Fault as Faulty}
+use Rattle.answers.specs.declared.answer.PlanAnswer.{PlanAnswer}
+use Rattle.answers.specs.Answers.{setOf, Reply, faultReply, planReply}
+use Rattle.algorithm.specs.Answer.{shortTables}
+use Rattle.algorithm.specs.SoundDay.{AcceptedDay}
+use Rattle.algorithm.proofs.SheetDay.{accepted-day}
+use Rattle.argument.specs.Answers.{SoundPlan, SoundAnswer, plan-sound, long-sound, none-sound}
+use Rattle.argument.specs.Answers.{isPlan, isLong, WholeClaim}
+use Rattle.argument.proofs.Theorems.{whole-claim}
+use Rattle.blocking.specs.Claim.{SheetRefused, OneCase, Untouched, NamedSet}
 use Rattle.blocking.proofs.Claim.{named-set}
-use Rattle.blocking.proofs.Theorems.{whole-claim}
 use Rattle.tables.specs.Tables.{entryOf, roomOf, putNumbers}
 use Rattle.tables.specs.Words.{faultWord}
 use Rattle.tables.proofs.WordLaws.{fault-word-large}
@@ -36,233 +42,265 @@ use Rattle.tables.proofs.EntryLaws.{entry-put, later-kept}
 use Rattle.tables.proofs.NumberSteps.{length-putNumbers, put-nothing}
 use Rattle.door.specs.DoorClaim.{NoRoomFor, TablesShort, RoomFor, CanAnswer, AllKept, PlanInBytes, DoorClaim}
 use Rattle.door.specs.PlanDoor.{doorAnswer, planWord, answerNumbers, Called}
-use Rattle.door.proofs.PlanLaws.{AnswerFits, answer-fits}
-use Rattle.door.proofs.AnswerLaws.{door-refused, door-read, verdictOn}
+use Rattle.door.proofs.PlanLaws.{ReplyFits, reply-fits}
+use Rattle.door.proofs.AnswerLaws.{replyOn, door-refused, door-read}
 
 -- ── the three kinds of calls ──
 
 module _ (s places loads numbers : List ℕ) where
-  room-or-not : (h : Head) (js : List Job) → readSheet s ≡ accepted h js
+  room-or-not : (c : Contents) → readSheet s ≡ accepted c
       → TablesShort s places loads numbers ⊎ CanAnswer s places loads numbers
-  room-or-not h js e = elim (lt-or-le (length places) (8 * length js)) [
-    | inl p ↦ inl (h, js, e, inl (omega arith))
-    | inr p ↦ elim (lt-or-le (length loads) (8 * h .benches)) [
-      | inl l ↦ inl (h, js, e, inr (inl (omega arith)))
+  room-or-not c e = elim (lt-or-le (length places) (8 * length (c .jobs))) [
+    | inl p ↦ inl (c, e, inl (omega arith))
+    | inr p ↦ elim (lt-or-le (length loads) (8 * c .head .benches)) [
+      | inl l ↦ inl (c, e, inr (inl (omega arith)))
       | inr l ↦ elim (lt-or-le (length numbers) 16) [
-        | inl n ↦ inl (h, js, e, inr (inr (omega arith)))
+        | inl n ↦ inl (c, e, inr (inr (omega arith)))
         | inr n ↦ inr (
-          h,
-          js,
-          record { sheet-accepted = e; place-to-a-job = omega arith; load-to-a-bench = omega arith; two-numbers = omega arith },
+          c,
+          record {
+            sheet-accepted = e;
+            place-to-a-job = omega arith;
+            load-to-a-bench = omega arith;
+            two-numbers = omega arith;
+          },
         )
       ]
     ]
   ]
 
   short-or-not : TablesShort s places loads numbers → CanAnswer s places loads numbers → ⊥
-  short-or-not (h, js, e, short) (k, is, t) =
+  short-or-not (c, e, short) (k, t) =
       let same = same-read e (t .sheet-accepted) in
       elim short [
-        | inl l ↦ omega (arith, t .place-to-a-job, ap length (same .1))
-        | inr (inl l) ↦ omega (arith, t .load-to-a-bench, ap (λ (x : Head). x .benches) (same .0))
+        | inl l ↦ omega (arith, t .place-to-a-job, ap (λ (x : Contents). length (x .jobs)) same)
+        | inr (inl l) ↦ omega (arith, t .load-to-a-bench, ap (λ (x : Contents). x .head .benches) same)
         | inr (inr l) ↦ omega (arith, t .two-numbers)
       ]
 
   pub one-case : OneCase (SheetRefused s) (TablesShort s places loads numbers) (CanAnswer s places loads numbers)
   one-case = record {
-    some = elim (read-cases (readSheet s)) [ inl faulty ↦ inl faulty | inr (h, js, e) ↦ inr (room-or-not h js e) ];
-    not-first-second = λ (f, p) (h, js, q, short). not-both-read p q;
-    not-first-third = λ (f, p) (h, js, t). not-both-read p (t .sheet-accepted);
+    some = elim (read-cases (readSheet s)) [ inl faulty ↦ inl faulty | inr (c, e) ↦ inr (room-or-not c e) ];
+    not-first-second = λ (f, p) (c, q, short). not-both-read p q;
+    not-first-third = λ (f, p) (c, t). not-both-read p (t .sheet-accepted);
     not-second-third = short-or-not;
   }
 
 -- ── the three answers, with the tables after them ──
 
-module _ (s places loads numbers : List ℕ) (h : Head) (js : List Job) (t : RoomFor s places loads numbers h js) where
-  abbrev placesThen : Answer → List ℕ
-  placesThen a = putNumbers (placesIn a) places
-
-  abbrev loadsThen : Answer → List ℕ
-  loadsThen a = putNumbers (loadsIn a) loads
-
-  abbrev numbersThen : Answer → List ℕ
-  numbersThen a = putNumbers (answerNumbers a) numbers
-
-  three : {a : Answer} → SoundAnswer h js a → (planWord a ≡ 1) ⊎ ((planWord a ≡ 2) ⊎ (planWord a ≡ 3))
+module _ (d : Day) (places loads numbers : List ℕ) where
+  three : {a : Reply} → SoundAnswer d a
+      → (planWord (a .answer) ≡ 1) ⊎ ((planWord (a .answer) ≡ 2) ⊎ (planWord (a .answer) ≡ 3))
   three (plan-sound p) = inl refl
   three (long-sound l) = inr (inl refl)
   three (none-sound n) = inr (inr refl)
 
-  plan-bytes : (largest moves : ℕ) (ps ls : List ℕ) → AnswerFits (plan largest moves ps ls) → SoundPlan h js largest moves ps ls
-      → PlanInBytes h js places loads (putNumbers ps places) (putNumbers ls loads) (putNumbers (largest ∷ moves ∷ []) numbers)
-  plan-bytes largest moves ps ls fits p =
+  plan-bytes : 8 * d .jobs ≤ length places → 8 * d .benches ≤ length loads → (p : PlanAnswer) (ps ls : List ℕ)
+      → ReplyFits (planReply p ps ls) → SoundPlan d p ps ls
+      → PlanInBytes d places loads
+      (putNumbers ps places) (putNumbers ls loads) (putNumbers (p .largest ∷ p .moves ∷ []) numbers)
+  plan-bytes lp ll p ps ls fits right =
       record {
-        assignment = record { on-allowed = λ j l. rw (place j l) (p .assignment .on-allowed j l) };
-        its-loads = λ v l. load v l ∙ p .its-loads v l ∙ sym (same-load v);
-        within-bound = λ v l. rw (load v l) (p .within-bound v l);
-        greatest = λ v l. rw (load v l, first) (p .greatest v l);
-        one-of-them = let (v, l, e) = p .one-of-them in (v, l, load v l ∙ e ∙ sym first);
-        few-moves = rw second (p .few-moves);
-        later-places-kept = later-kept ps places (length js) (p .one-to-a-job);
-        later-loads-kept = later-kept ls loads (h .benches) (p .one-to-a-bench);
-        as-many-places = length-putNumbers ps places (omega (arith, t .place-to-a-job, p .one-to-a-job));
-        as-many-loads = length-putNumbers ls loads (omega (arith, t .load-to-a-bench, p .one-to-a-bench));
+        assignment = record { on-allowed = λ j l. rw (place j l) (right .assignment .on-allowed j l) };
+        its-loads = λ v l. load v l ∙ right .its-loads v l ∙ sym (same-load v);
+        within-bound = λ v l. rw (load v l) (right .within-bound v l);
+        greatest = λ v l. rw (load v l, first) (right .greatest v l);
+        one-of-them = let (v, l, e) = right .one-of-them in (v, l, load v l ∙ e ∙ sym first);
+        few-moves = rw second (right .few-moves);
+        later-places-kept = later-kept ps places (d .jobs) (right .one-to-a-job);
+        later-loads-kept = later-kept ls loads (d .benches) (right .one-to-a-bench);
+        as-many-places = length-putNumbers ps places (omega (arith, right .one-to-a-job));
+        as-many-loads = length-putNumbers ls loads (omega (arith, right .one-to-a-bench));
       }
     where
-      place : (j : ℕ) → j < length js → entryOf (putNumbers ps places) j ≡ placeIn ps j
-      place j l = entry-put ps places j (fits .places-fit) (omega (arith, p .one-to-a-job))
+      place : (j : ℕ) → j < d .jobs → entryOf (putNumbers ps places) j ≡ placeIn ps j
+      place j l = entry-put ps places j (fits .places-fit) (omega (arith, right .one-to-a-job))
 
-      load : (v : ℕ) → v < h .benches → entryOf (putNumbers ls loads) v ≡ getD ls v 0
-      load v l = entry-put ls loads v (fits .loads-fit) (omega (arith, p .one-to-a-bench))
+      load : (v : ℕ) → v < d .benches → entryOf (putNumbers ls loads) v ≡ getD ls v 0
+      load v l = entry-put ls loads v (fits .loads-fit) (omega (arith, right .one-to-a-bench))
 
-      first : entryOf (putNumbers (largest ∷ moves ∷ []) numbers) 0 ≡ largest
-      first = entry-put (largest ∷ moves ∷ []) numbers 0 (fits .numbers-fit) (omega arith)
+      first : entryOf (putNumbers (p .largest ∷ p .moves ∷ []) numbers) 0 ≡ p .largest
+      first = entry-put (p .largest ∷ p .moves ∷ []) numbers 0 (fits .numbers-fit) (omega arith)
 
-      second : entryOf (putNumbers (largest ∷ moves ∷ []) numbers) 1 ≡ moves
-      second = entry-put (largest ∷ moves ∷ []) numbers 1 (fits .numbers-fit) (omega arith)
+      second : entryOf (putNumbers (p .largest ∷ p .moves ∷ []) numbers) 1 ≡ p .moves
+      second = entry-put (p .largest ∷ p .moves ∷ []) numbers 1 (fits .numbers-fit) (omega arith)
 
-      same-load : (v : ℕ) → loadOf js (entryOf (putNumbers ps places)) v ≡ loadOf js (placeIn ps) v
-      same-load v = sum-cong (length js) _ _ (λ j l. rw (place j l))
+      same-load : (v : ℕ) → loadOf d (entryOf (putNumbers ps places)) v ≡ loadOf d (placeIn ps) v
+      same-load v = ap (λ (k : ℕ). d .booked v + k) (sum-cong (d .jobs) _ _ (λ j l. rw (place j l)))
 
-  plan-after : {a : Answer} → AnswerFits a → SoundAnswer h js a → planWord a ≡ 1
-      → PlanInBytes h js places loads (placesThen a) (loadsThen a) (numbersThen a)
-  plan-after fits (plan-sound {largest = largest} {moves = moves} {places = ps} {loads = ls} p) e = plan-bytes largest moves ps ls fits p
-  plan-after fits (long-sound l) e = absurd (omega arith)
-  plan-after fits (none-sound n) e = absurd (omega arith)
+  abbrev placesThen : Reply → List ℕ
+  placesThen a = putNumbers (a .places) places
+
+  abbrev loadsThen : Reply → List ℕ
+  loadsThen a = putNumbers (a .loads) loads
+
+  abbrev numbersThen : Reply → List ℕ
+  numbersThen a = putNumbers (answerNumbers (a .answer)) numbers
+
+  plan-after : 8 * d .jobs ≤ length places → 8 * d .benches ≤ length loads → {a : Reply} → ReplyFits a → SoundAnswer d a
+      → planWord (a .answer) ≡ 1 → PlanInBytes d places loads (placesThen a) (loadsThen a) (numbersThen a)
+  plan-after lp ll fits (plan-sound {p = p} {places = ps} {loads = ls} right) e = plan-bytes lp ll p ps ls fits right
+  plan-after lp ll fits (long-sound right) e = absurd (omega arith)
+  plan-after lp ll fits (none-sound right) e = absurd (omega arith)
 
   nothing-put : Untouched places loads (putNumbers [] places) (putNumbers [] loads)
   nothing-put = record { same-places = put-nothing places; same-loads = put-nothing loads }
 
-  long-after : {a : Answer} → AnswerFits a → SoundAnswer h js a → planWord a ≡ 2
-      → SoundLong h js (entryOf (numbersThen a) 0) × (entryOf (numbersThen a) 1 ≡ 0) × Untouched places loads (placesThen a) (loadsThen a)
-  long-after fits (plan-sound p) e = absurd (omega arith)
-  long-after fits (long-sound {j = j} l) e =
+  long-after : {a : Reply} → ReplyFits a → SoundAnswer d a → planWord (a .answer) ≡ 2
+      → SoundLong d (entryOf (numbersThen a) 0) × (entryOf (numbersThen a) 1 ≡ 0)
+      × Untouched places loads (placesThen a) (loadsThen a)
+  long-after fits (plan-sound right) e = absurd (omega arith)
+  long-after fits (long-sound {j = j} right) e =
       let first = entry-put (j ∷ 0 ∷ []) numbers 0 (fits .numbers-fit) (omega arith) in
-      (subst (SoundLong h js) (sym first) l, entry-put (j ∷ 0 ∷ []) numbers 1 (fits .numbers-fit) (omega arith), nothing-put)
-  long-after fits (none-sound n) e = absurd (omega arith)
+      let second = entry-put (j ∷ 0 ∷ []) numbers 1 (fits .numbers-fit) (omega arith) in
+      (subst (SoundLong d) (sym first) right, second, nothing-put)
+  long-after fits (none-sound right) e = absurd (omega arith)
 
-  none-after : {a : Answer} → AnswerFits a → SoundAnswer h js a → planWord a ≡ 3
-      → NamedSet h js (entryOf (numbersThen a) 0) (entryOf (numbersThen a) 1) × Untouched places loads (placesThen a) (loadsThen a)
-  none-after fits (plan-sound p) e = absurd (omega arith)
-  none-after fits (long-sound l) e = absurd (omega arith)
-  none-after fits (none-sound {benches = bs} {moves = moves} n) e =
+  none-after : AcceptedDay d → d .benches ≤ 64 → {a : Reply} → ReplyFits a → SoundAnswer d a → planWord (a .answer) ≡ 3
+      → NamedSet d (record { set = entryOf (numbersThen a) 0; moves = entryOf (numbersThen a) 1 })
+      × Untouched places loads (placesThen a) (loadsThen a)
+  none-after day-ok few fits (plan-sound right) e = absurd (omega arith)
+  none-after day-ok few fits (long-sound right) e = absurd (omega arith)
+  none-after day-ok few fits (none-sound {benches = bs} {moves = moves} right) e =
       let first = entry-put (setOf bs ∷ moves ∷ []) numbers 0 (fits .numbers-fit) (omega arith) in
       let second = entry-put (setOf bs ∷ moves ∷ []) numbers 1 (fits .numbers-fit) (omega arith) in
-      (rw (first, second) (named-set h js (accepted-sound s h js (t .sheet-accepted) .head .at-most-64-benches) bs moves n), nothing-put)
+      (rw (first, second) (named-set d day-ok few bs moves right), nothing-put)
 
-  pair-kept : (a b : ℕ)
-      → (drop 16 (putNumbers (a ∷ b ∷ []) numbers) ≡ drop 16 numbers) × (length (putNumbers (a ∷ b ∷ []) numbers) ≡ length numbers)
-  pair-kept a b = (later-kept (a ∷ b ∷ []) numbers 2 refl, length-putNumbers (a ∷ b ∷ []) numbers (omega (arith, t .two-numbers)))
+  pair-kept : 16 ≤ length numbers → (a b : ℕ)
+      → (drop 16 (putNumbers (a ∷ b ∷ []) numbers) ≡ drop 16 numbers)
+      × (length (putNumbers (a ∷ b ∷ []) numbers) ≡ length numbers)
+  pair-kept room a b = (later-kept (a ∷ b ∷ []) numbers 2 refl, length-putNumbers (a ∷ b ∷ []) numbers (omega arith))
 
-  numbers-after : {a : Answer} → SoundAnswer h js a → (drop 16 (numbersThen a) ≡ drop 16 numbers) × (length (numbersThen a) ≡ length numbers)
-  numbers-after (plan-sound {largest = largest} {moves = moves} p) = pair-kept largest moves
-  numbers-after (long-sound {j = j} l) = pair-kept j 0
-  numbers-after (none-sound {benches = bs} {moves = moves} n) = pair-kept (setOf bs) moves
+  numbers-after : 16 ≤ length numbers → {a : Reply} → SoundAnswer d a
+      → (drop 16 (numbersThen a) ≡ drop 16 numbers) × (length (numbersThen a) ≡ length numbers)
+  numbers-after room (plan-sound {p = p} right) = pair-kept room (p .largest) (p .moves)
+  numbers-after room (long-sound {j = j} right) = pair-kept room j 0
+  numbers-after room (none-sound {benches = bs} {moves = moves} right) = pair-kept room (setOf bs) moves
 
 plan-word : (a : Answer) → isPlan a ≡ true → planWord a ≡ 1
-plan-word (plan largest moves places loads) e = refl
-plan-word (tooLong j) e = clash {b = false} e refl
-plan-word (none benches moves) e = clash {b = false} e refl
-plan-word (fault f) e = clash {b = false} e refl
+plan-word (Plan p) e = refl
+plan-word (Long l) e = clash {b = false} e refl
+plan-word (None n) e = clash {b = false} e refl
+plan-word (Faulty f) e = clash {b = false} e refl
 
 no-plan : (a : Answer) → 1 < planWord a → isPlan a ≡ false
-no-plan (plan largest moves places loads) l = absurd (omega arith)
-no-plan (tooLong j) l = refl
-no-plan (none benches moves) l = refl
-no-plan (fault f) l = refl
+no-plan (Plan p) l = absurd (omega arith)
+no-plan (Long j) l = refl
+no-plan (None n) l = refl
+no-plan (Faulty f) l = refl
 
 long-word : (a : Answer) → isLong a ≡ true → planWord a ≡ 2
-long-word (plan largest moves places loads) e = clash {b = false} e refl
-long-word (tooLong j) e = refl
-long-word (none benches moves) e = clash {b = false} e refl
-long-word (fault f) e = clash {b = false} e refl
+long-word (Plan p) e = clash {b = false} e refl
+long-word (Long l) e = refl
+long-word (None n) e = clash {b = false} e refl
+long-word (Faulty f) e = clash {b = false} e refl
 
 no-long : (a : Answer) → (planWord a ≡ 1) ⊎ (planWord a ≡ 3) → isLong a ≡ false
-no-long (plan largest moves places loads) e = refl
-no-long (tooLong j) e = elim e [ inl p ↦ absurd (omega arith) | inr p ↦ absurd (omega arith) ]
-no-long (none benches moves) e = refl
-no-long (fault f) e = refl
+no-long (Plan p) e = refl
+no-long (Long l) e = elim e [ inl p ↦ absurd (omega arith) | inr p ↦ absurd (omega arith) ]
+no-long (None n) e = refl
+no-long (Faulty f) e = refl
 
 -- ── the claim ──
 
 module _ (s places loads numbers : List ℕ) where
-  abbrev answer : Answer
-  answer = doorAnswer s (roomOf places) (roomOf loads) (roomOf numbers)
+  abbrev reply : Reply
+  reply = doorAnswer s (roomOf places) (roomOf loads) (roomOf numbers)
 
-  fault-after : (f : Fault) → answer ≡ fault f
-      → (planWord answer ≡ faultWord f)
-      × AllKept places loads numbers (putNumbers (placesIn answer) places) (putNumbers (loadsIn answer) loads) (putNumbers (answerNumbers answer) numbers)
+  fault-after : (f : Fault) → reply ≡ faultReply f
+      → (planWord (reply .answer) ≡ faultWord f)
+      × AllKept places loads numbers
+      (putNumbers (reply .places) places) (putNumbers (reply .loads) loads)
+      (putNumbers (answerNumbers (reply .answer)) numbers)
   fault-after f e = (
-    ap planWord e,
+    ap (λ (a : Reply). planWord (a .answer)) e,
     record {
       both-tables =
           record {
-            same-places = ap (λ (a : Answer). putNumbers (placesIn a) places) e ∙ put-nothing places;
-            same-loads = ap (λ (a : Answer). putNumbers (loadsIn a) loads) e ∙ put-nothing loads;
+            same-places = ap (λ (a : Reply). putNumbers (a .places) places) e ∙ put-nothing places;
+            same-loads = ap (λ (a : Reply). putNumbers (a .loads) loads) e ∙ put-nothing loads;
           };
-      same-numbers = ap (λ (a : Answer). putNumbers (answerNumbers a) numbers) e ∙ put-nothing numbers;
+      same-numbers = ap (λ (a : Reply). putNumbers (answerNumbers (a .answer)) numbers) e ∙ put-nothing numbers;
     },
   )
 
-  answer-short : (h : Head) (js : List Job) → readSheet s ≡ accepted h js → NoRoomFor h js places loads numbers → answer ≡ fault (Table 0)
-  answer-short h js e short =
-      let tested : (shortTables h js (roomOf places) (roomOf loads) || ltb (roomOf numbers) 2) ≡ true = elim short [
-        | inl l ↦ or-left (ltb (roomOf numbers) 2) (or-left (ltb (roomOf loads) (h .benches)) (lt-ltb (roomOf places) (length js) (omega arith)))
-        | inr (inl l) ↦ or-left (ltb (roomOf numbers) 2) (or-right (ltb (roomOf places) (length js)) (lt-ltb (roomOf loads) (h .benches) (omega arith)))
-        | inr (inr l) ↦ or-right (shortTables h js (roomOf places) (roomOf loads)) (lt-ltb (roomOf numbers) 2 (omega arith))
+  reply-short : (c : Contents) → readSheet s ≡ accepted c → NoRoomFor c places loads numbers
+      → reply ≡ faultReply (Table 0)
+  reply-short c e short =
+      let few-places : Bool = ltb (roomOf places) (length (c .jobs)) in
+      let few-loads : Bool = ltb (roomOf loads) (c .head .benches) in
+      let few-numbers : Bool = ltb (roomOf numbers) 2 in
+      let tested : ((few-places || few-loads) || few-numbers) ≡ true = elim short [
+        | inl l ↦ or-left few-numbers (or-left few-loads (lt-ltb (roomOf places) (length (c .jobs)) (omega arith)))
+        | inr (inl l) ↦
+            or-left few-numbers (or-right few-places (lt-ltb (roomOf loads) (c .head .benches) (omega arith)))
+        | inr (inr l) ↦ or-right (few-places || few-loads) (lt-ltb (roomOf numbers) 2 (omega arith))
       ] in
-      door-read s (roomOf places) (roomOf loads) (roomOf numbers) h js e ∙ ap (verdictOn h js) tested
+      door-read s (roomOf places) (roomOf loads) (roomOf numbers) c e ∙ ap (replyOn c) tested
 
-  whole : (h : Head) (js : List Job) → RoomFor s places loads numbers h js → WholeClaim h js answer
-  whole h js t =
-      let enough : (shortTables h js (roomOf places) (roomOf loads) || ltb (roomOf numbers) 2) ≡ false =
-      or-false
-      (or-false
-      (le-ltb (roomOf places) (length js) (omega (arith, t .place-to-a-job)))
-      (le-ltb (roomOf loads) (h .benches) (omega (arith, t .load-to-a-bench))))
-      (le-ltb (roomOf numbers) 2 (omega (arith, t .two-numbers))) in
-      subst (WholeClaim h js)
-      (sym (door-read s (roomOf places) (roomOf loads) (roomOf numbers) h js (t .sheet-accepted) ∙ ap (verdictOn h js) enough))
-      (whole-claim s h js (t .sheet-accepted))
+  module _ (c : Contents) (t : RoomFor s places loads numbers c) where
+    day-accepted : AcceptedDay (dayOf c)
+    day-accepted = accepted-day c (accepted-sound s c (t .sheet-accepted))
 
-  fits : AnswerFits answer
-  fits = answer-fits s (roomOf places) (roomOf loads) (roomOf numbers)
+    few-benches : c .head .benches ≤ 64
+    few-benches = accepted-sound s c (t .sheet-accepted) .head .at-most-64-benches
 
-  given-claim : DoorClaim s places loads numbers (planWord answer)
-      (putNumbers (placesIn answer) places) (putNumbers (loadsIn answer) loads) (putNumbers (answerNumbers answer) numbers)
+    whole : WholeClaim (dayOf c) reply
+    whole =
+        let enough : (shortTables c (roomOf places) (roomOf loads) || ltb (roomOf numbers) 2) ≡ false =
+        or-false
+        (or-false
+        (le-ltb (roomOf places) (length (c .jobs)) (omega (arith, t .place-to-a-job)))
+        (le-ltb (roomOf loads) (c .head .benches) (omega (arith, t .load-to-a-bench))))
+        (le-ltb (roomOf numbers) 2 (omega (arith, t .two-numbers))) in
+        let read = door-read s (roomOf places) (roomOf loads) (roomOf numbers) c (t .sheet-accepted) in
+        subst (WholeClaim (dayOf c)) (sym (read ∙ ap (replyOn c) enough)) (whole-claim (dayOf c) day-accepted)
+
+  fits : ReplyFits reply
+  fits = reply-fits s (roomOf places) (roomOf loads) (roomOf numbers)
+
+  given-claim : DoorClaim s places loads numbers (planWord (reply .answer))
+      (putNumbers (reply .places) places) (putNumbers (reply .loads) loads)
+      (putNumbers (answerNumbers (reply .answer)) numbers)
   given-claim =
       record {
         one-case = one-case s places loads numbers;
         sheet-refused = λ f e. fault-after f (door-refused s (roomOf places) (roomOf loads) (roomOf numbers) f e);
-        tables-short = λ h js e short. fault-after (Table 0) (answer-short h js e short);
-        one-of-three = λ h js t. three s places loads numbers h js t (whole h js t .sound);
-        plan-right = λ h js t. plan-after s places loads numbers h js t fits (whole h js t .sound);
-        long-right = λ h js t. long-after s places loads numbers h js t fits (whole h js t .sound);
-        long-given = λ h js t j l. long-word answer (whole h js t .long-given j l);
-        plan-fits = λ h js t e. whole h js t .else-fits (no-long answer (inl e));
-        none-fits = λ h js t e. whole h js t .else-fits (no-long answer (inr e));
-        none-right = λ h js t. none-after s places loads numbers h js t fits (whole h js t .sound);
-        later-numbers-kept = λ h js t. numbers-after s places loads numbers h js t (whole h js t .sound);
-        rival-planned = λ h js t a x keeps. plan-word answer (whole h js t .rival-planned a x keeps);
-        over-after-long = λ h js t e. whole h js t .else-over (no-plan answer (omega arith));
-        over-after-none = λ h js t e. whole h js t .else-over (no-plan answer (omega arith));
+        tables-short = λ c e short. fault-after (Table 0) (reply-short c e short);
+        one-of-three = λ c t. three (dayOf c) places loads numbers (whole c t .sound);
+        plan-right = λ c t.
+            plan-after (dayOf c) places loads numbers (t .place-to-a-job) (t .load-to-a-bench) fits (whole c t .sound);
+        long-right = λ c t. long-after (dayOf c) places loads numbers fits (whole c t .sound);
+        long-given = λ c t j l. long-word (reply .answer) (whole c t .long-given j l);
+        plan-fits = λ c t e. whole c t .else-fits (no-long (reply .answer) (inl e));
+        none-fits = λ c t e. whole c t .else-fits (no-long (reply .answer) (inr e));
+        none-right = λ c t.
+            none-after (dayOf c) places loads numbers (day-accepted c t) (few-benches c t) fits (whole c t .sound);
+        later-numbers-kept = λ c t. numbers-after (dayOf c) places loads numbers (t .two-numbers) (whole c t .sound);
+        rival-planned = λ c t a x keeps. plan-word (reply .answer) (whole c t .rival-planned a x keeps);
+        over-after-long = λ c t e. whole c t .else-over (no-plan (reply .answer) (omega arith));
+        over-after-none = λ c t e. whole c t .else-over (no-plan (reply .answer) (omega arith));
       }
 
-  pub door-claim : {r : ℕ} {places′ loads′ numbers′ : List ℕ} → Called answer r places loads numbers places′ loads′ numbers′
+  pub door-claim : {r : ℕ} {places′ loads′ numbers′ : List ℕ}
+      → Called reply r places loads numbers places′ loads′ numbers′
       → DoorClaim s places loads numbers r places′ loads′ numbers′
   door-claim called = rw (called .word, called .new-places, called .new-loads, called .new-numbers) given-claim
 
-  pub with-claim : {r : ℕ} {places′ loads′ numbers′ : List ℕ} → Called answer r places loads numbers places′ loads′ numbers′
-      → Called answer r places loads numbers places′ loads′ numbers′ × DoorClaim s places loads numbers r places′ loads′ numbers′
+  pub with-claim : {r : ℕ} {places′ loads′ numbers′ : List ℕ}
+      → Called reply r places loads numbers places′ loads′ numbers′
+      → Called reply r places loads numbers places′ loads′ numbers′
+      × DoorClaim s places loads numbers r places′ loads′ numbers′
   with-claim called = (called, door-claim called)
 
 -- The word of a fault is none of the three.
 pub answered-room : {s places loads numbers : List ℕ} {r : ℕ} {places′ loads′ numbers′ : List ℕ}
-    → DoorClaim s places loads numbers r places′ loads′ numbers′ → (r ≡ 1) ⊎ ((r ≡ 2) ⊎ (r ≡ 3)) → CanAnswer s places loads numbers
+    → DoorClaim s places loads numbers r places′ loads′ numbers′ → (r ≡ 1) ⊎ ((r ≡ 2) ⊎ (r ≡ 3))
+    → CanAnswer s places loads numbers
 answered-room {r = r} claim word =
     let small : r < 4 = elim word [ inl e ↦ omega arith | inr (inl e) ↦ omega arith | inr (inr e) ↦ omega arith ] in
     elim (claim .one-case .some) [
       | inl (f, e) ↦ absurd (omega (arith, claim .sheet-refused f e .0, fault-word-large f))
-      | inr (inl (h, js, e, short)) ↦ absurd (omega (arith, claim .tables-short h js e short .0, fault-word-large (Table 0)))
+      | inr (inl (c, e, short)) ↦ absurd (omega (arith, claim .tables-short c e short .0, fault-word-large (Table 0)))
       | inr (inr can) ↦ can
     ]

@@ -1,5 +1,5 @@
--- Example 8 of document 01 through the C door, from the bytes of its sheet to the word and the bytes of the three tables: places for 4 jobs,
--- loads for 2 benches, two numbers, so that each table has exactly the needed size.
+-- Example 8 of document 01 through the C door, from the bytes of its sheet to the word and the bytes of the three
+-- tables: places for 4 jobs, loads for 2 benches, two numbers, so that each table has exactly the needed size.
 --     room-exact          these tables are large enough
 --     answer-8            the answer to it
 --     called-exact        what a call returns, and every byte that it leaves in the tables
@@ -12,9 +12,8 @@ use native.Mathlib.Omega.{arith}
 use lib.ListN.{replicate}
 use Rattle.bits.specs.Little.{littleOf, littleAll}
 use Rattle.fields.specs.declared.fault.Fault.the-variants.{Table}
-use Rattle.algorithm.specs.Answer.{Answer, plan}
-use Rattle.planning.specs.Planner.{placesIn, loadsIn}
-use Rattle.blocking.proofs.ClaimExamples.{head8, jobs8, sheet8, read-8, run-8}
+use Rattle.answers.specs.Answers.{Reply}
+use Rattle.blocking.proofs.ClaimExamples.{contents8, sheet8, reply8, read-8, run-8}
 use Rattle.tables.specs.Tables.{putNumbers}
 use Rattle.tables.specs.Words.{faultWord}
 use Rattle.door.specs.DoorClaim.{RoomFor, AllKept}
@@ -47,25 +46,31 @@ numbersBytes =
     ∷ 1 ∷ 0 ∷ 0 ∷ 0 ∷ 0 ∷ 0 ∷ 0 ∷ 0
     ∷ []
 
-pub room-exact : RoomFor sheet8 (filled 32) (filled 16) (filled 16) head8 jobs8
-room-exact = record { sheet-accepted = read-8; place-to-a-job = omega arith; load-to-a-bench = omega arith; two-numbers = omega arith }
+pub room-exact : RoomFor sheet8 (filled 32) (filled 16) (filled 16) contents8
+room-exact = record {
+  sheet-accepted = read-8;
+  place-to-a-job = omega arith;
+  load-to-a-bench = omega arith;
+  two-numbers = omega arith;
+}
 
-pub answer-8 : doorAnswer sheet8 4 2 2 ≡ plan 6 1 (1 ∷ 0 ∷ 0 ∷ 0 ∷ []) (6 ∷ 2 ∷ [])
-answer-8 = door-read sheet8 4 2 2 head8 jobs8 read-8 ∙ run-8
+pub answer-8 : doorAnswer sheet8 4 2 2 ≡ reply8
+answer-8 = door-read sheet8 4 2 2 contents8 read-8 ∙ run-8
 
 pub called-exact : {r : ℕ} {places′ loads′ numbers′ : List ℕ}
     → Called (doorAnswer sheet8 4 2 2) r (filled 32) (filled 16) (filled 16) places′ loads′ numbers′
     → (r ≡ 1) × (places′ ≡ placesBytes) × (loads′ ≡ loadsBytes) × (numbers′ ≡ numbersBytes)
 unfolding putNumbers littleOf littleAll
 called-exact called = (
-  called .word ∙ ap planWord answer-8,
-  called .new-places ∙ ap (λ (a : Answer). putNumbers (placesIn a) (filled 32)) answer-8,
-  called .new-loads ∙ ap (λ (a : Answer). putNumbers (loadsIn a) (filled 16)) answer-8,
-  called .new-numbers ∙ ap (λ (a : Answer). putNumbers (answerNumbers a) (filled 16)) answer-8,
+  called .word ∙ ap (λ (a : Reply). planWord (a .answer)) answer-8,
+  called .new-places ∙ ap (λ (a : Reply). putNumbers (a .places) (filled 32)) answer-8,
+  called .new-loads ∙ ap (λ (a : Reply). putNumbers (a .loads) (filled 16)) answer-8,
+  called .new-numbers ∙ ap (λ (a : Reply). putNumbers (answerNumbers (a .answer)) (filled 16)) answer-8,
 )
 
 pub numbers-short : {r : ℕ} {places′ loads′ numbers′ : List ℕ}
     → Called (doorAnswer sheet8 4 2 1) r (filled 32) (filled 16) (filled 15) places′ loads′ numbers′
     → (r ≡ faultWord (Table 0)) × AllKept (filled 32) (filled 16) (filled 15) places′ loads′ numbers′
 numbers-short called =
-    door-claim sheet8 (filled 32) (filled 16) (filled 15) called .tables-short head8 jobs8 read-8 (inr (inr (omega arith)))
+    let claim = door-claim sheet8 (filled 32) (filled 16) (filled 15) called in
+    claim .tables-short contents8 read-8 (inr (inr (omega arith)))

@@ -1,43 +1,44 @@
 -- What a caller of planning reads: the entries of the tables are the answer's numbers, none of them cut to its 8 bytes.
---     AnswerFits, answer-fits     the numbers of every answer have at most 8 bytes
---     entries-read          so after a call the entries of the three tables are the answer's places, loads and two numbers
---     plan-word-value       the word of a plan, of long and of none is below 2 ^ 32
---     plan-word-fault       the word of a fault has its number and its place
+--     ReplyFits, reply-fits     the numbers of every reply have at most 8 bytes
+--     entries-read              so after a call the entries of the three tables are the reply's places and loads, and
+--                               the answer's two numbers
+--     isFault                   the answer is a fault
+--     plan-word-value           the word of a plan, of long and of none is below 2 ^ 32
+--     plan-word-fault           the word of a fault has its number and its place
 use Prim.Native.Nat.{ℕ, zero, suc, _*_, _/_, _%_, _^_, _≤_, _<_}
 use native.Mathlib.Nat.{le-trans, mul-le-mul-left}
 use native.Mathlib.Omega.{arith}
 use mathlib.Core.Path.{_≡_, refl, sym, ap, subst, _∙_}
 use mathlib.Core.Logic.{inl, inr}
-use mathlib.Core.Bool.{true, false, _&&_, _||_}
+use mathlib.Core.Bool.{Bool, true, false}
 use mathlib.Core.List.{List, [], _∷_}
 use lib.ListN.{length, getD}
-use lib.Dec.{ltb, leb}
-use Rattle.bools.proofs.BoolLaws.{split, clash}
-use Rattle.sums.specs.Sum.{count}
+use lib.Dec.{eqb, ltb}
+use borrow.Author.Tests.{ltb-true}
+use Rattle.bools.proofs.BoolLaws.{clash, and-left}
+use Rattle.sums.specs.Sum.{on, count}
+use Rattle.sums.proofs.SumLaws.{on-le, sum-bound}
 use Rattle.sums.proofs.CountLaws.{count-le}
 use Rattle.fields.specs.declared.fault.Fault.{Fault}
-use Rattle.fields.specs.declared.fault.Fault.the-variants.{Table}
-use Rattle.fields.specs.declared.sheet.Head.{Head}
-use Rattle.fields.specs.declared.sheet.Job.{Job}
+use Rattle.fields.specs.Contents.{Contents}
+use Rattle.fields.specs.Format.{allows as allowsBench}
 use Rattle.fields.specs.Numbers.{numberOf, placeOf}
-use Rattle.frame.specs.Reading.{readSheet}
+use Rattle.fields.specs.Tests.{jobAt}
 use Rattle.frame.specs.Sound.{SoundSheet}
-use Rattle.frame.proofs.AcceptedLaws.{accepted-sound}
-use Rattle.frame.proofs.Places.{read-place}
-use Rattle.algorithm.specs.Answer.{Answer, plan, tooLong, none, fault}
-use Rattle.planning.specs.Planner.{shortTables, placesIn, loadsIn}
-use Rattle.demand.specs.Demand.{lightJob, allowed, moveBound}
-use Rattle.blocking.specs.Answers.{SoundPlan, SoundAnswer, plan-sound, long-sound, none-sound}
-use Rattle.blocking.proofs.SetLaws.{setOf-lt}
-use Rattle.blocking.proofs.Theorems.{whole-claim}
+use Rattle.day.specs.Day.{dayOf, pebble, placeIn, moveBound}
+use Rattle.answers.specs.declared.answer.Answer.{Answer}
+use Rattle.answers.specs.declared.answer.Answer.the-variants.{Plan, Long, None, Fault as Faulty}
+use Rattle.answers.specs.declared.answer.PlanAnswer.{PlanAnswer}
+use Rattle.answers.specs.Answers.{Reply}
+use Rattle.argument.specs.Answers.{SoundPlan, SoundAnswer, plan-sound, long-sound, none-sound}
+use Rattle.argument.proofs.SetLaws.{setOf-lt}
 use Rattle.tables.specs.Tables.{entryOf}
 use Rattle.tables.proofs.EntryLaws.{Fit, entry-put}
 use Rattle.tables.proofs.WordLaws.{fault-word-number, fault-word-place}
 use Rattle.door.specs.PlanDoor.{doorAnswer, planWord, answerNumbers, Called}
-use Rattle.frame.proofs.Stored.{read-cases}
-use Rattle.door.proofs.AnswerLaws.{door-refused, door-read, verdictOn, isFault, roomy, places-used, loads-used}
+use Rattle.door.proofs.AnswerLaws.{fault-or-room}
 
--- ── the numbers of an answer ──
+-- ── the numbers of a reply ──
 
 two-fit : {a b : ℕ} → a < 2 ^ 64 → b < 2 ^ 64 → Fit (a ∷ b ∷ [])
 two-fit p q zero l = p
@@ -47,100 +48,119 @@ two-fit p q (suc (suc i)) l = absurd (omega arith)
 none-fit : Fit []
 none-fit i l = absurd (omega arith)
 
-pub record AnswerFits (a : Answer) : Type 0 where
-  pub places-fit : Fit (placesIn a)
-  pub loads-fit : Fit (loadsIn a)
-  pub numbers-fit : Fit (answerNumbers a)
+pub record ReplyFits (a : Reply) : Type 0 where
+  pub places-fit : Fit (a .places)
+  pub loads-fit : Fit (a .loads)
+  pub numbers-fit : Fit (answerNumbers (a .answer))
 
-module _ (h : Head) (js : List Job) (sound : SoundSheet h js) where
-  moves-fit : (moves : ℕ) → moves ≤ moveBound h js → moves < 2 ^ 64
+module _ (c : Contents) (sound : SoundSheet c) where
+  moves-fit : (moves : ℕ) → moves ≤ moveBound (dayOf c) → moves < 2 ^ 64
   moves-fit moves few =
-      let light = count (length js) (λ j. lightJob h js j && leb 2 (count (h .benches) (allowed h js j))) in
-      let one : light ≤ 512 = le-trans (count-le (length js) (λ j. lightJob h js j && leb 2 (count (h .benches) (allowed h js j)))) (sound .at-most-512-jobs) in
-      let two : h .benches * light ≤ h .benches * 512 = mul-le-mul-left (h .benches) one in
+      let pebbles : ℕ = count (length (c .jobs)) (pebble (dayOf c)) in
+      let one : pebbles ≤ 512 = le-trans (count-le (length (c .jobs)) (pebble (dayOf c))) (sound .at-most-512-jobs) in
+      let two : c .head .benches * pebbles ≤ c .head .benches * 512 = mul-le-mul-left (c .head .benches) one in
       omega (arith, sound .head .at-most-64-benches)
 
-  plan-fits : (largest moves : ℕ) (ps ls : List ℕ) → SoundPlan h js largest moves ps ls → AnswerFits (plan largest moves ps ls)
-  plan-fits largest moves ps ls p =
-      let (v, l, e) = p .one-of-them in
+  module _ (p : PlanAnswer) (ps ls : List ℕ) (right : SoundPlan (dayOf c) p ps ls) where
+    -- A bench of the head, and there are at most 64.
+    place-fits : Fit ps
+    place-fits j l =
+        let here = right .assignment .on-allowed j (omega (arith, right .one-to-a-job)) in
+        let below : getD ps j 0 < c .head .benches =
+        ltb-true (getD ps j 0) (c .head .benches)
+        (and-left (ltb (getD ps j 0) (c .head .benches)) (allowsBench (jobAt (c .jobs) j) (getD ps j 0)) here) in
+        omega (arith, sound .head .at-most-64-benches)
+
+    -- Each job has fewer than 2 ^ 20 minutes, and there are at most 512.
+    load-fits : Fit ls
+    load-fits v l =
+        let there : ℕ → ℕ = λ j. on (eqb (placeIn ps j) v) (jobAt (c .jobs) j .minutes) in
+        let short : (j : ℕ) → j < length (c .jobs) → there j ≤ 1048576 =
+        λ j h. omega (arith, on-le (eqb (placeIn ps j) v) (jobAt (c .jobs) j .minutes), sound .jobs j h .minutes-fit) in
+        let placed = sum-bound (length (c .jobs)) 1048576 there short in
+        omega (arith, right .its-loads v (omega (arith, right .one-to-a-bench)), sound .at-most-512-jobs)
+
+    largest-fits : p .largest < 2 ^ 64
+    largest-fits =
+        let (v, l, e) = right .one-of-them in
+        omega (arith, e, load-fits v (omega (arith, right .one-to-a-bench)))
+
+  sound-fits : {a : Reply} → SoundAnswer (dayOf c) a → ReplyFits a
+  sound-fits (plan-sound {p = p} {places = ps} {loads = ls} right) =
       record {
-        places-fit = λ j l. omega (arith, places-used h js sound p j l);
-        loads-fit = λ b l. omega (arith, loads-used h js sound p b l);
-        numbers-fit = two-fit (omega (arith, e, loads-used h js sound p v (omega (arith, p .one-to-a-bench)))) (moves-fit moves (p .few-moves));
+        places-fit = place-fits p ps ls right;
+        loads-fit = load-fits p ps ls right;
+        numbers-fit = two-fit (largest-fits p ps ls right) (moves-fit (p .moves) (right .few-moves));
       }
+  sound-fits (long-sound {j = j} right) =
+      let job = right .is-long .is-job in
+      let numbers : Fit (j ∷ 0 ∷ []) = two-fit (omega (arith, sound .at-most-512-jobs)) (omega arith) in
+      record { places-fit = none-fit; loads-fit = none-fit; numbers-fit = numbers }
+  sound-fits (none-sound {benches = bs} {moves = moves} right) =
+      let below : (i : ℕ) → i < length bs → getD bs i 0 < 64 =
+      λ i l. omega (arith, right .of-the-day i l, sound .head .at-most-64-benches) in
+      let set-fits = setOf-lt 0 bs (right .rising) (λ i l. omega arith) below in
+      let numbers = two-fit set-fits (moves-fit moves (right .few-moves)) in
+      record { places-fit = none-fit; loads-fit = none-fit; numbers-fit = numbers }
 
-  sound-fits : {a : Answer} → SoundAnswer h js a → AnswerFits a
-  sound-fits (plan-sound {largest = largest} {moves = moves} {places = ps} {loads = ls} p) = plan-fits largest moves ps ls p
-  sound-fits (long-sound {j = j} x) =
-      let job = x .is-long .is-job in
-      record { places-fit = none-fit; loads-fit = none-fit; numbers-fit = two-fit (omega (arith, sound .at-most-512-jobs)) (omega arith) }
-  sound-fits (none-sound {benches = bs} {moves = moves} x) =
-      let below : (i : ℕ) → i < length bs → getD bs i 0 < 64 = λ i l. omega (arith, x .of-the-head i l, sound .head .at-most-64-benches) in
-      record {
-        places-fit = none-fit;
-        loads-fit = none-fit;
-        numbers-fit = two-fit (setOf-lt 0 bs (x .rising) (λ i l. omega arith) below) (moves-fit moves (x .few-moves));
-      }
+-- ── the three answers and the faults ──
 
-no-fault : (h : Head) (js : List Job) {a : Answer} → SoundAnswer h js a → isFault a ≡ false
-no-fault h js (plan-sound p) = refl
-no-fault h js (long-sound l) = refl
-no-fault h js (none-sound n) = refl
+abbrev pub isFault : Answer → Bool
+isFault (Plan p) = false
+isFault (Long l) = false
+isFault (None n) = false
+isFault (Faulty f) = true
 
-fault-fits : (a : Answer) → isFault a ≡ true → AnswerFits a
-fault-fits (plan largest moves places loads) e = clash e refl
-fault-fits (tooLong j) e = clash e refl
-fault-fits (none benches moves) e = clash e refl
-fault-fits (fault f) e = record { places-fit = none-fit; loads-fit = none-fit; numbers-fit = none-fit }
+no-fault : (c : Contents) {a : Reply} → SoundAnswer (dayOf c) a → isFault (a .answer) ≡ false
+no-fault c (plan-sound p) = refl
+no-fault c (long-sound l) = refl
+no-fault c (none-sound n) = refl
 
 module _ (s : List ℕ) (np nl na : ℕ) where
-  pub answer-fits : AnswerFits (doorAnswer s np nl na)
-  answer-fits = elim (split (isFault (doorAnswer s np nl na))) [
-    | inl p ↦ fault-fits (doorAnswer s np nl na) p
-    | inr p ↦
-        let R = roomy s np nl na p in
-        subst AnswerFits (sym (R .answers))
-        (sound-fits (R .head) (R .jobs) (accepted-sound s (R .head) (R .jobs) (R .sheet-read)) (whole-claim s (R .head) (R .jobs) (R .sheet-read) .sound))
+  abbrev reply : Reply
+  reply = doorAnswer s np nl na
+
+  pub reply-fits : ReplyFits (doorAnswer s np nl na)
+  reply-fits = elim (fault-or-room s np nl na) [
+    | inl f ↦ rw (f .replies) (record { places-fit = none-fit; loads-fit = none-fit; numbers-fit = none-fit })
+    | inr r ↦ sound-fits (r .contents) (r .sound-sheet) (r .sound-answer)
   ]
 
   -- ── what a caller reads ──
 
   pub entries-read : {r : ℕ} (places loads numbers : List ℕ) {places′ loads′ numbers′ : List ℕ}
-      → Called (doorAnswer s np nl na) r places loads numbers places′ loads′ numbers′
-      → ((j : ℕ) → j < length (placesIn (doorAnswer s np nl na)) → entryOf places′ j ≡ getD (placesIn (doorAnswer s np nl na)) j 0)
-      × ((b : ℕ) → b < length (loadsIn (doorAnswer s np nl na)) → entryOf loads′ b ≡ getD (loadsIn (doorAnswer s np nl na)) b 0)
-      × ((k : ℕ) → k < length (answerNumbers (doorAnswer s np nl na)) → entryOf numbers′ k ≡ getD (answerNumbers (doorAnswer s np nl na)) k 0)
+      → Called reply r places loads numbers places′ loads′ numbers′
+      → ((j : ℕ) → j < length (reply .places) → entryOf places′ j ≡ getD (reply .places) j 0)
+      × ((b : ℕ) → b < length (reply .loads) → entryOf loads′ b ≡ getD (reply .loads) b 0)
+      × ((k : ℕ) → k < length (answerNumbers (reply .answer))
+      → entryOf numbers′ k ≡ getD (answerNumbers (reply .answer)) k 0)
   entries-read places loads numbers called =
-      let a : Answer = doorAnswer s np nl na in (
-        λ j l. ap (λ (t : List ℕ). entryOf t j) (called .new-places) ∙ entry-put (placesIn a) places j (answer-fits .places-fit) l,
-        λ b l. ap (λ (t : List ℕ). entryOf t b) (called .new-loads) ∙ entry-put (loadsIn a) loads b (answer-fits .loads-fit) l,
-        λ k l. ap (λ (t : List ℕ). entryOf t k) (called .new-numbers) ∙ entry-put (answerNumbers a) numbers k (answer-fits .numbers-fit) l,
+      let values : List ℕ = answerNumbers (reply .answer) in (
+        λ j l. ap (entry j) (called .new-places) ∙ entry-put (reply .places) places j (reply-fits .places-fit) l,
+        λ b l. ap (entry b) (called .new-loads) ∙ entry-put (reply .loads) loads b (reply-fits .loads-fit) l,
+        λ k l. ap (entry k) (called .new-numbers) ∙ entry-put values numbers k (reply-fits .numbers-fit) l,
       )
+    where
+      entry : ℕ → List ℕ → ℕ
+      entry n t = entryOf t n
 
-  same-fault : {f g : Fault} → fault g ≡ fault f → g ≡ f
+  same-fault : {f g : Fault} → Faulty g ≡ Faulty f → g ≡ f
   same-fault e = cc
 
-  fault-place : (f : Fault) → doorAnswer s np nl na ≡ fault f → placeOf f ≤ 65536
-  fault-place f e = elim (read-cases (readSheet s)) [
-    | inl (g, read) ↦
-        let same : g ≡ f = same-fault (sym (door-refused s np nl na g read) ∙ e) in
-        subst (λ (x : Fault). placeOf x ≤ 65536) same (read-place s g read)
-    | inr (h, js, read) ↦ elim (split (shortTables h js np nl || ltb na 2)) [
-      | inl b ↦
-          let same : Table 0 ≡ f = same-fault (sym (door-read s np nl na h js read ∙ ap (verdictOn h js) b) ∙ e) in
-          subst (λ (x : Fault). placeOf x ≤ 65536) same (omega arith)
-      | inr b ↦
-          let given-fault = sym (door-read s np nl na h js read ∙ ap (verdictOn h js) b) ∙ e in
-          clash (ap isFault given-fault) (no-fault h js (whole-claim s h js read .sound))
-    ]
+  fault-place : (f : Fault) → reply .answer ≡ Faulty f → placeOf f ≤ 65536
+  fault-place f e = elim (fault-or-room s np nl na) [
+    | inl g ↦
+        let same = same-fault (sym (ap (λ (a : Reply). a .answer) (g .replies)) ∙ e) in
+        subst (λ (x : Fault). placeOf x ≤ 65536) same (g .near)
+    | inr r ↦ clash (ap isFault e) (no-fault (r .contents) (r .sound-answer))
   ]
 
-  pub plan-word-fault : (f : Fault) → doorAnswer s np nl na ≡ fault f
-      → (planWord (doorAnswer s np nl na) / 2 ^ 32 ≡ numberOf f) × (planWord (doorAnswer s np nl na) % 2 ^ 32 ≡ placeOf f)
+  pub plan-word-fault : (f : Fault) → reply .answer ≡ Faulty f
+      → (planWord (reply .answer) / 2 ^ 32 ≡ numberOf f) × (planWord (reply .answer) % 2 ^ 32 ≡ placeOf f)
   plan-word-fault f e = rw e (fault-word-number f, fault-word-place f (omega (arith, fault-place f e)))
 
 pub plan-word-value : (a : Answer) → isFault a ≡ false → planWord a < 2 ^ 32
-plan-word-value (plan largest moves places loads) e = omega arith
-plan-word-value (tooLong j) e = omega arith
-plan-word-value (none benches moves) e = omega arith
-plan-word-value (fault f) e = clash {b = true} refl e
+plan-word-value (Plan p) e = omega arith
+plan-word-value (Long l) e = omega arith
+plan-word-value (None n) e = omega arith
+plan-word-value (Faulty f) e = clash {b = true} refl e

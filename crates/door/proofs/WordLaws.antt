@@ -1,4 +1,5 @@
--- Laws of the words that the door returns: a value is below 2 ^ 32, and a fault is not (tables' WordLaws), so a caller can tell them apart.
+-- Laws of the words that the door returns: a value is below 2 ^ 32, and a fault is not (tables' WordLaws), so a caller
+-- can tell them apart.
 --     written-word-value  the word of a length that the writer returns is that length, and is below 2 ^ 32
 --     written-word-fault  the word of a fault that the writer returns has its number and its place
 --     read-word-fault     so has the word of a fault of a sheet
@@ -6,8 +7,7 @@ use Prim.Native.Nat.{ℕ, _/_, _%_, _^_, _<_}
 use native.Mathlib.Omega.{arith}
 use mathlib.Core.Path.{_≡_, ap}
 use mathlib.Core.List.{List}
-use Rattle.fields.specs.declared.sheet.Head.{Head}
-use Rattle.fields.specs.declared.sheet.Job.{Job}
+use Rattle.fields.specs.Contents.{Contents}
 use Rattle.fields.specs.declared.fault.Fault.{Fault}
 use Rattle.frame.specs.declared.writer.Written.the-variants.{Length, Refusal}
 use Rattle.fields.specs.Numbers.{numberOf, placeOf}
@@ -18,13 +18,13 @@ use Rattle.tables.specs.Words.{faultWord}
 use Rattle.tables.proofs.WordLaws.{fault-word-number, fault-word-place}
 use Rattle.door.specs.Door.{writtenWord}
 
-pub written-word-value : (h : Head) (js : List Job) (room n : ℕ) → writeSheet h js room ≡ Length n
-    → (writtenWord (writeSheet h js room) ≡ n) × (n < 2 ^ 32)
-written-word-value h js room n e = (ap writtenWord e, omega (arith, written-length h js room n e))
+module _ (c : Contents) (room : ℕ) where
+  pub written-word-value : (n : ℕ) → writeSheet c room ≡ Length n → (writtenWord (writeSheet c room) ≡ n) × (n < 2 ^ 32)
+  written-word-value n e = (ap writtenWord e, omega (arith, written-length c room n e))
 
-pub written-word-fault : (h : Head) (js : List Job) (room : ℕ) (f : Fault) → writeSheet h js room ≡ Refusal f
-    → (writtenWord (writeSheet h js room) / 2 ^ 32 ≡ numberOf f) × (writtenWord (writeSheet h js room) % 2 ^ 32 ≡ placeOf f)
-written-word-fault h js room f e = rw e (fault-word-number f, fault-word-place f (omega (arith, written-place h js room f e)))
+  pub written-word-fault : (f : Fault) → writeSheet c room ≡ Refusal f
+      → (writtenWord (writeSheet c room) / 2 ^ 32 ≡ numberOf f) × (writtenWord (writeSheet c room) % 2 ^ 32 ≡ placeOf f)
+  written-word-fault f e = rw e (fault-word-number f, fault-word-place f (omega (arith, written-place c room f e)))
 
 pub read-word-fault : (s : List ℕ) (f : Fault) → readSheet s ≡ refused f
     → (faultWord f / 2 ^ 32 ≡ numberOf f) × (faultWord f % 2 ^ 32 ≡ placeOf f)

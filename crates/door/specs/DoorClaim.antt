@@ -65,7 +65,7 @@ pub record PlanInBytes (d : Day) (places loads places′ loads′ numbers′ : L
   pub greatest : (v : ℕ) → v < d .benches → entryOf loads′ v ≤ entryOf numbers′ 0
   pub one-of-them : (v : ℕ) × (v < d .benches) × (entryOf loads′ v ≡ entryOf numbers′ 0)
   pub few-moves : entryOf numbers′ 1 ≤ moveBound d
-  pub later-places-kept : drop (8 * lengtd) places′ ≡ drop (8 * lengtd) places
+  pub later-places-kept : drop (8 * d .jobs) places′ ≡ drop (8 * d .jobs) places
   pub later-loads-kept : drop (8 * d .benches) loads′ ≡ drop (8 * d .benches) loads
   pub as-many-places : length places′ ≡ length places
   pub as-many-loads : length loads′ ≡ length loads
@@ -86,7 +86,8 @@ pub record DoorClaim (s places loads numbers : List ℕ) (r : ℕ) (places′ lo
       → r ≡ 1 → PlanInBytes (dayOf c) places loads places′ loads′ numbers′
   -- Long names the lowest job with more than T minutes.
   pub long-right : (c : Contents) → RoomFor s places loads numbers c
-      → r ≡ 2 → SoundLong (dayOf c) (entryOf numbers′ 0) × (entryOf numbers′ 1 ≡ 0) × Untouched places loads places′ loads′
+      → r ≡ 2 → SoundLong (dayOf c) (entryOf numbers′ 0) × (entryOf numbers′ 1 ≡ 0)
+      × Untouched places loads places′ loads′
   -- A job above T gives long; after a plan or a none every job is at most T.
   pub long-given : (c : Contents) → RoomFor s places loads numbers c
       → (j : ℕ) → LongJob (dayOf c) j → r ≡ 2
@@ -94,7 +95,8 @@ pub record DoorClaim (s places loads numbers : List ℕ) (r : ℕ) (places′ lo
   pub none-fits : (c : Contents) → RoomFor s places loads numbers c → r ≡ 3 → EachFits (dayOf c)
   -- None names a blocking set.
   pub none-right : (c : Contents) → RoomFor s places loads numbers c
-      → r ≡ 3 → NamedSet (dayOf c) (record { set = entryOf numbers′ 0; moves = entryOf numbers′ 1 }) × Untouched places loads places′ loads′
+      → r ≡ 3 → NamedSet (dayOf c) (record { set = entryOf numbers′ 0; moves = entryOf numbers′ 1 })
+      × Untouched places loads places′ loads′
   -- The answer's table keeps what is after its two entries.
   pub later-numbers-kept : (c : Contents) → RoomFor s places loads numbers c
       → (drop 16 numbers′ ≡ drop 16 numbers) × (length numbers′ ≡ length numbers)

@@ -1,9 +1,9 @@
 -- Planning and comparing for C (the header yinqocha.h says the same in words).
 --     doorAnswer s np nl na     the reply to the bytes s, with room for np places, nl loads and na answer numbers
---     planWord a            what planning returns: the answer's number, or the word of a fault
---     answerNumbers a       the numbers of the answer table: the answer's values; none after a fault
---     Called                what a call returns, and what it leaves in the three tables
---     comparedWord c        what comparing returns: 1 same, 0 different, or the fault
+--     planWord a                what planning returns: the answer's number, or the word of a fault
+--     answerNumbers a           the numbers of the answer table: the answer's values; none after a fault
+--     Called                    what a call returns, and what it leaves in the three tables
+--     comparedWord c            what comparing returns: 1 same, 0 different, or the fault
 use Prim.Native.Nat.{ℕ}
 use mathlib.Core.Path.{_≡_}
 use mathlib.Core.Bool.{cond, _||_}

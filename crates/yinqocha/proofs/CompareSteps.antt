@@ -1,5 +1,6 @@
 -- Comparing through the door, from what the two loads and the comparison ensure: 513 entries of each list are enough.
---     list-needed           all of a list is among its first 513 entries, or neither the list nor these give each job one bench
+--     list-needed           all of a list is among its first 513 entries, or neither the list nor these give each job
+--                           one bench
 --     lists-enough          the comparison gives the same for the first 513 entries as for all
 --     same-word, different-word, fault-word     what is returned
 use Prim.Native.Nat.{ℕ, _≤_}
@@ -17,7 +18,7 @@ use Rattle.fields.specs.declared.fault.Fault.{Fault}
 use Rattle.frame.specs.Reading.{readSheet}
 use Rattle.frame.proofs.AcceptedLaws.{accepted-sound}
 use Rattle.frame.proofs.Stored.{read-cases}
-use Rattle.algorithm.specs.Day.{Day, dayOf}
+use Rattle.day.specs.Day.{Day, dayOf}
 use Rattle.comparison.specs.declared.compared.Compared.{Compared}
 use Rattle.comparison.specs.declared.compared.Compared.the-variants.{Same, Different, Fault as ComparedFault}
 use Rattle.comparison.specs.Comparison.{givesEach, comparedOf, comparePlans}
@@ -49,8 +50,8 @@ module _ (d : Day) (few : d .jobs ≤ 512) where
 pub lists-enough : (s xs ys : List ℕ) → comparePlans s (take 513 xs) (take 513 ys) ≡ comparePlans s xs ys
 unfolding comparePlans
 lists-enough s xs ys = elim (read-cases (readSheet s)) [
-  | inl a ↦ rw (a .1, comparePlans)
-  | inr a ↦ rw (a .2, comparePlans) (compared-enough (dayOf (a .0) (a .1)) (accepted-sound s (a .0) (a .1) (a .2) .at-most-512-jobs) xs ys)
+  | inl (f, e) ↦ rw (e, comparePlans)
+  | inr (c, e) ↦ rw (e, comparePlans) (compared-enough (dayOf c) (accepted-sound s c e .at-most-512-jobs) xs ys)
 ]
 
 -- ── what is returned ──

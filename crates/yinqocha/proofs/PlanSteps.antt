@@ -1,58 +1,65 @@
 -- Planning through the door, from what the planner and the functions that put numbers ensure.
 -- The arrays that the planner gets:
---     front-length, whole-length     the lengths of an array's front and of the array after a call that got its front
+--     front-length          the length of an array's front
+--     still-inside          what lies inside an array does so after a call that got its front
 --     loads-room            the room for loads that is handed on: none where the answer's two numbers do not fit
---     answer-capped         with room for at most 512 places and 64 loads the answer is the same, and fault 13 without room for loads
+--     answer-capped         with room for at most 512 places and 64 loads the reply is the same, and fault 13 without
+--                           room for loads
+-- What the planner leaves in them:
+--     jobs-fit, benches-fit         it has written at most 512 places and 64 loads
+--     places-there, loads-there     these are the places and the loads of the reply
 -- What is returned, and the tables after it:
---     fault-called, long-called, none-called, plan-called     by the planner's answer
+--     answer-called, fault-called   after one of the three answers; after a fault
 use Prim.Native.Nat.{ℕ, _/_, _≤_, _<_, min}
 use native.Mathlib.Omega.{arith}
-use mathlib.Core.Path.{_≡_, refl, sym, ap, ap₂, subst, _∙_}
+use mathlib.Core.Path.{_≡_, sym, ap, ap₂, _∙_}
 use mathlib.Core.Logic.{_⊎_, inl, inr}
 use mathlib.Core.Bool.{Bool, true, false, cond, _||_}
-use mathlib.Core.List.{List, [], _∷_, _++_}
-use lib.ListN.{length, take, drop, replicate, length-append, length-drop}
-use lib.Seq.{length-take-le}
+use mathlib.Core.List.{List, _++_, append-assoc}
+use lib.ListN.{length, take, drop, length-append, length-drop}
+use lib.Seq.{length-take-le, take-at}
 use lib.Dec.{ltb}
 use borrow.Author.Tests.{lt-ltb, le-ltb}
 use Rattle.bools.proofs.BoolLaws.{split, clash, or-right, or-nothing}
 use Rattle.bools.proofs.OrderLaws.{lt-or-le}
 use Rattle.fields.specs.declared.fault.Fault.{Fault}
-use Rattle.fields.specs.declared.sheet.Head.{Head}
-use Rattle.fields.specs.declared.sheet.Job.{Job}
+use Rattle.fields.specs.Contents.{Contents}
 use Rattle.frame.specs.Reading.{accepted, readSheet}
 use Rattle.frame.proofs.AcceptedLaws.{accepted-sound}
-use Rattle.algorithm.specs.Answer.{Answer, plan, tooLong, none, fault}
-use Rattle.planning.specs.declared.answer.Answer.{Answer as Given}
-use Rattle.planning.specs.declared.answer.Answer.the-variants.{Plan, Long, None, Fault as GivenFault}
-use Rattle.planning.specs.Planner.{setOf, given, shortTables, answerFor, placesAfter, loadsAfter, Answered}
-use Rattle.blocking.proofs.Theorems.{whole-claim}
-use Rattle.tables.specs.Tables.{roomOf, putFitting}
-use Rattle.tables.specs.Unused.{unused, usedOf}
+use Rattle.frame.proofs.Stored.{read-cases}
+use Rattle.answers.specs.declared.answer.Answer.{Answer}
+use Rattle.answers.specs.declared.answer.Answer.the-variants.{Plan, Long, None, Fault as Faulty}
+use Rattle.answers.specs.declared.answer.Filled.{Filled}
+use Rattle.answers.specs.Answers.{Reply, Answered}
+use Rattle.algorithm.specs.Answer.{shortTables, answerFor}
+use Rattle.tables.specs.Tables.{roomOf, putNumbers, putFitting}
 use Rattle.tables.specs.Words.{faultWord}
 use Rattle.tables.proofs.FrontSteps.{front-put}
 use Rattle.tables.proofs.NumberSteps.{put-nothing, fitting-all}
-use Rattle.door.specs.PlanDoor.{doorAnswer, Called}
-use Rattle.frame.proofs.Stored.{read-cases}
-use Rattle.door.proofs.AnswerLaws.{verdictOn, door-refused, door-read, answer-refused, answer-read}
-use Rattle.door.proofs.AnswerLaws.{isFault, roomy, sound-plan, places-used, loads-used}
+use Rattle.door.specs.PlanDoor.{doorAnswer, planWord, answerNumbers, Called}
+use Rattle.door.proofs.AnswerLaws.{replyOn, door-refused, door-read, answer-refused, answer-read}
+use Rattle.door.proofs.AnswerLaws.{fault-or-room, places-few, loads-few}
+use Rattle.door.proofs.PlanLaws.{isFault}
 
 -- ── the arrays ──
 
 pub front-length : (n : ℕ) (xs : List ℕ) → n ≤ length xs → n ≡ length (take n xs)
 front-length n xs h = sym (length-take-le n xs h)
 
-pub whole-length : (n : ℕ) (xs front : List ℕ) → n ≤ length xs → length front ≡ length (take n xs) → length xs ≡ length (front ++ drop n xs)
-whole-length n xs front h e = sym (length-append front (drop n xs) ∙ omega (arith, length-take-le n xs h, length-drop n xs))
+pub still-inside : (n : ℕ) (xs front : List ℕ) {k : ℕ} → n ≤ length xs → length front ≡ length (take n xs)
+    → k ≤ length xs → k ≤ length (front ++ drop n xs)
+still-inside n xs front h e inside =
+    omega (arith, length-append front (drop n xs), length-take-le n xs h, length-drop n xs)
 
-pub loads-room : (loads numbers : List ℕ) {n : ℕ} → ((length numbers < 16) × (n ≡ 0)) ⊎ ((16 ≤ length numbers) × (n ≡ min (length loads / 8) 64))
+pub loads-room : (loads numbers : List ℕ) {n : ℕ}
+    → ((length numbers < 16) × (n ≡ 0)) ⊎ ((16 ≤ length numbers) × (n ≡ min (length loads / 8) 64))
     → n ≡ cond (ltb (roomOf numbers) 2) 0 (min (roomOf loads) 64)
 loads-room loads numbers came = elim came [
   | inl a ↦ rw (lt-ltb (roomOf numbers) 2 (omega arith)) (a .1)
   | inr a ↦ rw (le-ltb (roomOf numbers) 2 (omega arith)) (a .1)
 ]
 
--- ── the answer ──
+-- ── the reply ──
 
 ltb-min : (m k n : ℕ) → n ≤ k → ltb (min m k) n ≡ ltb m n
 ltb-min m k n h = elim (lt-or-le m n) [
@@ -61,130 +68,134 @@ ltb-min m k n h = elim (lt-or-le m n) [
 ]
 
 -- An accepted sheet has at most 512 jobs, and 1 to 64 benches.
-short-capped : (s : List ℕ) (h : Head) (js : List Job) → readSheet s ≡ accepted h js → (np nl na : ℕ)
-    → shortTables h js (min np 512) (cond (ltb na 2) 0 (min nl 64)) ≡ (shortTables h js np nl || ltb na 2)
-short-capped s h js e np nl na =
-    let sound = accepted-sound s h js e in
-    let jobs-short : ltb (min np 512) (length js) ≡ ltb np (length js) = ltb-min np 512 (length js) (sound .at-most-512-jobs) in
+short-capped : (s : List ℕ) (c : Contents) → readSheet s ≡ accepted c → (np nl na : ℕ)
+    → shortTables c (min np 512) (cond (ltb na 2) 0 (min nl 64)) ≡ (shortTables c np nl || ltb na 2)
+short-capped s c e np nl na =
+    let sound = accepted-sound s c e in
+    let jobs : ℕ = length (c .jobs) in
+    let benches : ℕ = c .head .benches in
+    let jobs-short : ltb (min np 512) jobs ≡ ltb np jobs = ltb-min np 512 jobs (sound .at-most-512-jobs) in
     elim (split (ltb na 2)) [
       | inl a ↦
-          let benches-short : ltb 0 (h .benches) ≡ true = lt-ltb 0 (h .benches) (sound .head .some-bench) in
-          ap (λ (b : Bool). ltb (min np 512) (length js) || ltb (cond b 0 (min nl 64)) (h .benches)) a
-          ∙ or-right (ltb (min np 512) (length js)) benches-short
-          ∙ sym (or-right (shortTables h js np nl) a)
+          let benches-short : ltb 0 benches ≡ true = lt-ltb 0 benches (sound .head .some-bench) in
+          ap (λ (b : Bool). ltb (min np 512) jobs || ltb (cond b 0 (min nl 64)) benches) a
+          ∙ or-right (ltb (min np 512) jobs) benches-short
+          ∙ sym (or-right (shortTables c np nl) a)
       | inr a ↦
-          let benches-short : ltb (min nl 64) (h .benches) ≡ ltb nl (h .benches) = ltb-min nl 64 (h .benches) (sound .head .at-most-64-benches) in
-          ap (λ (b : Bool). ltb (min np 512) (length js) || ltb (cond b 0 (min nl 64)) (h .benches)) a
+          let benches-short = ltb-min nl 64 benches (sound .head .at-most-64-benches) in
+          ap (λ (b : Bool). ltb (min np 512) jobs || ltb (cond b 0 (min nl 64)) benches) a
           ∙ ap₂ _||_ jobs-short benches-short
-          ∙ sym (ap (λ (b : Bool). shortTables h js np nl || b) a ∙ or-nothing (shortTables h js np nl))
+          ∙ sym (ap (λ (b : Bool). shortTables c np nl || b) a ∙ or-nothing (shortTables c np nl))
     ]
 
-pub answer-capped : (s : List ℕ) (np nl na : ℕ) → answerFor s (min np 512) (cond (ltb na 2) 0 (min nl 64)) ≡ doorAnswer s np nl na
-answer-capped s np nl na = elim (read-cases (readSheet s)) [
-  | inl a ↦ answer-refused s (min np 512) (cond (ltb na 2) 0 (min nl 64)) na (a .0) (a .1) ∙ sym (door-refused s np nl na (a .0) (a .1))
-  | inr a ↦
-      answer-read s (min np 512) (cond (ltb na 2) 0 (min nl 64)) na (a .0) (a .1) (a .2)
-      ∙ ap (verdictOn (a .0) (a .1)) (short-capped s (a .0) (a .1) (a .2) np nl na)
-      ∙ sym (door-read s np nl na (a .0) (a .1) (a .2))
-]
+pub answer-capped : (s : List ℕ) (np nl na : ℕ)
+    → answerFor s (min np 512) (cond (ltb na 2) 0 (min nl 64)) ≡ doorAnswer s np nl na
+answer-capped s np nl na =
+    let loads-handed : ℕ = cond (ltb na 2) 0 (min nl 64) in
+    elim (read-cases (readSheet s)) [
+      | inl (f, e) ↦ answer-refused s (min np 512) loads-handed f e ∙ sym (door-refused s np nl na f e)
+      | inr (c, e) ↦
+          answer-read s (min np 512) loads-handed c e
+          ∙ ap (replyOn c) (short-capped s c e np nl na)
+          ∙ sym (door-read s np nl na c e)
+    ]
 
--- ── the program's answer, by cases ──
+at-most-two : (a : Answer) → length (answerNumbers a) ≤ 2
+at-most-two (Plan p) = omega arith
+at-most-two (Long j) = omega arith
+at-most-two (None n) = omega arith
+at-most-two (Faulty f) = omega arith
 
-fault-is : (a : Answer) (f : Fault) → given a ≡ GivenFault f → a ≡ fault f
-fault-is (plan largest moves places loads) f e = clash {b = true} refl cc
-fault-is (tooLong j) f e = clash {b = true} refl cc
-fault-is (none benches moves) f e = clash {b = true} refl cc
-fault-is (fault g) f e = let same : g ≡ f = cc in ap fault same
+-- ── what the planner leaves in the arrays ──
 
-long-is : (a : Answer) (j : ℕ) → given a ≡ Long j → a ≡ tooLong j
-long-is (plan largest moves places loads) j e = clash {b = true} refl cc
-long-is (tooLong i) j e = let same : i ≡ j = cc in ap tooLong same
-long-is (none benches moves) j e = clash {b = true} refl cc
-long-is (fault f) j e = clash {b = true} refl cc
-
-none-is : (a : Answer) (set moves : ℕ) → given a ≡ None set moves → (bs : List ℕ) × (setOf bs ≡ set) × (a ≡ none bs moves)
-none-is (plan largest y places loads) set moves e = clash {b = true} refl cc
-none-is (tooLong j) set moves e = clash {b = true} refl cc
-none-is (none bs y) set moves e =
-    let set-same : setOf bs ≡ set = cc in
-    let moves-same : y ≡ moves = cc in
-    (bs, set-same, ap (none bs) moves-same)
-none-is (fault f) set moves e = clash {b = true} refl cc
-
-plan-is : (a : Answer) (largest moves : ℕ) → given a ≡ Plan largest moves → (ps : List ℕ) × (ls : List ℕ) × (a ≡ plan largest moves ps ls)
-plan-is (plan x y ps ls) largest moves e =
-    let largest-same : x ≡ largest = cc in
-    let moves-same : y ≡ moves = cc in
-    (ps, ls, ap₂ (λ (u v : ℕ). plan u v ps ls) largest-same moves-same)
-plan-is (tooLong j) largest moves e = clash {b = true} refl cc
-plan-is (none benches y) largest moves e = clash {b = true} refl cc
-plan-is (fault f) largest moves e = clash {b = true} refl cc
-
--- ── what is returned, and the tables after it ──
+-- The numbers at the front of what was lent, and what stands behind it.
+front-taken : (ns lent rest : List ℕ) {after : List ℕ} {k : ℕ} → after ≡ ns ++ lent → k ≡ length ns
+    → take k (after ++ rest) ≡ ns
+front-taken ns lent rest {k = k} e count =
+    ap (λ (xs : List ℕ). take k (xs ++ rest)) e
+    ∙ ap (take k) (append-assoc ns lent rest)
+    ∙ take-at ns (lent ++ rest) k (sym count)
 
 module _ (s places loads numbers : List ℕ) {np nl : ℕ}
     (ep : np ≡ min (roomOf places) 512) (el : nl ≡ cond (ltb (roomOf numbers) 2) 0 (min (roomOf loads) 64))
-    {r : Given} {p₀ l₀ p l : List ℕ} (answered : Answered (answerFor s np nl) r p₀ l₀ p l) where
-  abbrev door : Answer
+    {r : Filled} {p₀ l₀ p l : List ℕ} (answered : Answered (answerFor s np nl) r p₀ l₀ p l) where
+  abbrev door : Reply
   door = doorAnswer s (roomOf places) (roomOf loads) (roomOf numbers)
 
-  answer-is : answerFor s np nl ≡ door
-  answer-is = ap₂ (answerFor s) ep el ∙ answer-capped s (roomOf places) (roomOf loads) (roomOf numbers)
+  reply-is : answerFor s np nl ≡ door
+  reply-is = ap₂ (answerFor s) ep el ∙ answer-capped s (roomOf places) (roomOf loads) (roomOf numbers)
 
-  numbers-room : isFault door ≡ false → 16 ≤ length numbers
-  numbers-room e = let few = roomy s (roomOf places) (roomOf loads) (roomOf numbers) e .numbers-fit in omega arith
+  same-answer : r .answer ≡ door .answer
+  same-answer = answered .answer ∙ ap (λ (a : Reply). a .answer) reply-is
 
-  pub fault-called : {f : Fault} {word : ℕ} → r ≡ GivenFault f → word ≡ faultWord f → Called door word places loads numbers places loads numbers
-  fault-called {f} {word} e w =
-      let is : door ≡ fault f = sym answer-is ∙ fault-is (answerFor s np nl) f (sym (answered .answer) ∙ e) in
-      subst (λ (a : Answer). Called a word places loads numbers places loads numbers) (sym is)
-      (record { word = w; new-places = sym (put-nothing places); new-loads = sym (put-nothing loads); new-numbers = sym (put-nothing numbers) })
+  places-count : r .places ≡ length (door .places)
+  places-count = answered .places-written ∙ ap (λ (a : Reply). length (a .places)) reply-is
 
-  pub long-called : {j : ℕ} {numbers′ : List ℕ} → r ≡ Long j → numbers′ ≡ putFitting (j ∷ 0 ∷ []) numbers
-      → Called door 2 places loads numbers places loads numbers′
-  long-called {j} {numbers′} e put =
-      let is : door ≡ tooLong j = sym answer-is ∙ long-is (answerFor s np nl) j (sym (answered .answer) ∙ e) in
-      subst (λ (a : Answer). Called a 2 places loads numbers places loads numbers′) (sym is)
-      (record { word = refl; new-places = sym (put-nothing places); new-loads = sym (put-nothing loads); new-numbers = put ∙ fitting-all (j ∷ 0 ∷ []) numbers (numbers-room (ap isFault is)) })
+  loads-count : r .loads ≡ length (door .loads)
+  loads-count = answered .loads-written ∙ ap (λ (a : Reply). length (a .loads)) reply-is
 
-  pub none-called : {set moves : ℕ} {numbers′ : List ℕ} → r ≡ None set moves → numbers′ ≡ putFitting (set ∷ moves ∷ []) numbers
-      → Called door 3 places loads numbers places loads numbers′
-  none-called {set} {moves} {numbers′} e put =
-      let (bs, set-is, named) = none-is (answerFor s np nl) set moves (sym (answered .answer) ∙ e) in
-      let is : door ≡ none bs moves = sym answer-is ∙ named in
-      subst (λ (a : Answer). Called a 3 places loads numbers places loads numbers′) (sym is)
-      (record {
-        word = refl;
-        new-places = sym (put-nothing places);
-        new-loads = sym (put-nothing loads);
-        new-numbers = rw set-is (put ∙ fitting-all (set ∷ moves ∷ []) numbers (numbers-room (ap isFault is)));
-      })
+  pub jobs-fit : r .places ≤ 512
+  jobs-fit = omega (arith, places-count, places-few s (roomOf places) (roomOf loads) (roomOf numbers) .1)
 
-  -- The planner's arrays are parts of two arrays of unused entries.
-  pub plan-called : {largest moves : ℕ} (kp kl m n : ℕ) {places′ loads′ numbers′ : List ℕ}
-      → p₀ ≡ take kp (replicate m unused) → l₀ ≡ take kl (replicate n unused) → r ≡ Plan largest moves
-      → places′ ≡ putFitting (usedOf (p ++ drop kp (replicate m unused))) places
-      → loads′ ≡ putFitting (usedOf (l ++ drop kl (replicate n unused))) loads
-      → numbers′ ≡ putFitting (largest ∷ moves ∷ []) numbers
-      → Called door 1 places loads numbers places′ loads′ numbers′
-  plan-called {largest} {moves} kp kl m n {places′} {loads′} {numbers′} from-p from-l e put-p put-l put =
-      let (ps, ls, planned) = plan-is (answerFor s np nl) largest moves (sym (answered .answer) ∙ e) in
-      let is : door ≡ plan largest moves ps ls = sym answer-is ∙ planned in
-      let R = roomy s (roomOf places) (roomOf loads) (roomOf numbers) (ap isFault is) in
-      let h : Head = R .head in
-      let js : List Job = R .jobs in
-      let sheet = accepted-sound s h js (R .sheet-read) in
-      let right = sound-plan h js (whole-claim s h js (R .sheet-read) .sound) largest moves ps ls (sym (R .answers) ∙ is) in
-      let jobs-fit = R .jobs-fit in
-      let benches-fit = R .benches-fit in
-      let new-p : p ≡ ps ++ drop (length ps) (take kp (replicate m unused)) =
-      answered .new-places ∙ ap (λ (a : Answer). placesAfter a p₀) planned ∙ ap (λ (xs : List ℕ). ps ++ drop (length ps) xs) from-p in
-      let new-l : l ≡ ls ++ drop (length ls) (take kl (replicate n unused)) =
-      answered .new-loads ∙ ap (λ (a : Answer). loadsAfter a l₀) planned ∙ ap (λ (xs : List ℕ). ls ++ drop (length ls) xs) from-l in
-      subst (λ (a : Answer). Called a 1 places loads numbers places′ loads′ numbers′) (sym is)
-      (record {
-        word = refl;
-        new-places = front-put ps places kp m (places-used h js sheet right) (omega (arith, right .one-to-a-job)) new-p put-p;
-        new-loads = front-put ls loads kl n (loads-used h js sheet right) (omega (arith, right .one-to-a-bench)) new-l put-l;
-        new-numbers = put ∙ fitting-all (largest ∷ moves ∷ []) numbers (numbers-room (ap isFault is));
-      })
+  pub benches-fit : r .loads ≤ 64
+  benches-fit = omega (arith, loads-count, loads-few s (roomOf places) (roomOf loads) (roomOf numbers) .1)
+
+  pub places-there : (rest : List ℕ) → take (r .places) (p ++ rest) ≡ door .places
+  places-there rest =
+      let ns : List ℕ = answerFor s np nl .places in
+      front-taken ns (drop (length ns) p₀) rest (answered .new-places) (answered .places-written)
+      ∙ ap (λ (a : Reply). a .places) reply-is
+
+  pub loads-there : (rest : List ℕ) → take (r .loads) (l ++ rest) ≡ door .loads
+  loads-there rest =
+      let ns : List ℕ = answerFor s np nl .loads in
+      front-taken ns (drop (length ns) l₀) rest (answered .new-loads) (answered .loads-written)
+      ∙ ap (λ (a : Reply). a .loads) reply-is
+
+  -- ── what is returned ──
+
+  -- What stands behind the parts that were lent, and both tables after what was written is put there.
+  module _ (places-rest loads-rest : List ℕ) {places′ loads′ : List ℕ}
+      (put-places : places′ ≡ putFitting (take (r .places) (p ++ places-rest)) places)
+      (put-loads : loads′ ≡ putFitting (take (r .loads) (l ++ loads-rest)) loads) where
+    places-put : places′ ≡ putNumbers (door .places) places
+    places-put =
+        let few = places-few s (roomOf places) (roomOf loads) (roomOf numbers) .0 in
+        front-put (door .places) places (omega arith) (places-there places-rest) put-places
+
+    loads-put : loads′ ≡ putNumbers (door .loads) loads
+    loads-put =
+        let few = loads-few s (roomOf places) (roomOf loads) (roomOf numbers) .0 in
+        front-put (door .loads) loads (omega arith) (loads-there loads-rest) put-loads
+
+    called : {a : Answer} {word : ℕ} {numbers′ : List ℕ} → r .answer ≡ a → word ≡ planWord a
+        → numbers′ ≡ putNumbers (answerNumbers a) numbers
+        → Called door word places loads numbers places′ loads′ numbers′
+    called {a} e w put =
+        let is : a ≡ door .answer = sym e ∙ same-answer in
+        record {
+          word = w ∙ ap planWord is;
+          new-places = places-put;
+          new-loads = loads-put;
+          new-numbers = put ∙ ap (λ (x : Answer). putNumbers (answerNumbers x) numbers) is;
+        }
+
+    -- No fault: then there is room for two numbers.
+    numbers-room : {a : Answer} → r .answer ≡ a → isFault a ≡ false → 16 ≤ length numbers
+    numbers-room e fine = elim (fault-or-room s (roomOf places) (roomOf loads) (roomOf numbers)) [
+      | inl f ↦
+          let faulty = ap (λ (a : Reply). a .answer) (f .replies) in
+          clash (ap isFault faulty) (ap isFault (sym same-answer ∙ e) ∙ fine)
+      | inr room ↦ let two = room .numbers-fit in omega arith
+    ]
+
+    pub answer-called : (a : Answer) {word : ℕ} {numbers′ : List ℕ} → r .answer ≡ a → isFault a ≡ false
+        → word ≡ planWord a → numbers′ ≡ putFitting (answerNumbers a) numbers
+        → Called door word places loads numbers places′ loads′ numbers′
+    answer-called a e fine w put =
+        let two = at-most-two a in
+        called e w (put ∙ fitting-all (answerNumbers a) numbers (omega (arith, numbers-room e fine)))
+
+    pub fault-called : {f : Fault} {word : ℕ} → r .answer ≡ Faulty f → word ≡ faultWord f
+        → Called door word places loads numbers places′ loads′ numbers
+    fault-called e w = called e w (sym (put-nothing numbers))

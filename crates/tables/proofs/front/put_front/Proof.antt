@@ -1,11 +1,11 @@
--- The loop keeps that the entries before i stand at the front of the table (FrontSteps).
+-- The loop keeps that the numbers before i stand at the front of the table (FrontSteps).
 use Prim.Native.Nat.{_-_, _≤_}
 use native.Mathlib.Omega.{arith}
 use mathlib.Core.Path.{_≡_, refl, _∙_}
 use lib.ListN.{length}
 use denote.Ref.{now}
 use borrow.Author.Needs.{needs}
-use Rattle.tables.proofs.FrontSteps.{FrontPut, front-starts, front-more, front-unused, front-over}
+use Rattle.tables.proofs.FrontSteps.{FrontPut, front-starts, front-more, front-over}
 use Rattle.tables.proofs.front.put_front.Statement.{statement}
 use Rattle.tables.proofs.front.put_front.Tie as tie
 
@@ -20,21 +20,11 @@ loop-holds c =
     let at-args = c .before .before .args in
     (omega arith, refl, front-starts (now (at-args .from)) (now (at-args .t)))
 
-mul-x : tie.Need-mul-x Inv-loop μ-loop
-mul-x c = omega arith
+mul-put : tie.Need-mul-put Inv-loop μ-loop
+mul-put c = omega arith
 
-shared-slice-read-x : tie.Need-shared-slice-read-x Inv-loop μ-loop
-shared-slice-read-x c = omega arith
-
-same-length : tie.Need-same-length Inv-loop μ-loop
-same-length c = c .before .before .before .loop .inv .1
-
-returns : tie.Need-returns Inv-loop μ-loop
-returns c =
-    let at-test = c .before .before in
-    let at-loop = at-test .before .loop in
-    let at-args = at-test .before .before .before .before .args in
-    front-unused (now (at-args .from)) (now (at-args .t)) (at-loop .t) (at-loop .i) (at-loop .inv .2) (at-test .loop-test .taken) refl (c .if1 .taken)
+shared-slice-read-put : tie.Need-shared-slice-read-put Inv-loop μ-loop
+shared-slice-read-put c = omega arith
 
 put-requires : tie.Need-put-requires Inv-loop μ-loop
 put-requires c κs = search needs
@@ -47,20 +37,19 @@ loop-less c = omega arith
 
 loop-again : tie.Need-loop-again Inv-loop μ-loop
 loop-again c =
-    let at-put = c .before .before in
-    let at-if = at-put .before .before in
-    let at-test = at-if .before .before in
-    let at-loop = at-test .before .loop in
-    let at-args = at-test .before .before .before .before .args in
-    let more = front-more (now (at-args .from)) (now (at-args .t)) (at-loop .t) (at-loop .i) (at-loop .inv .2) (at-test .loop-test .taken)
-    refl (at-if .if1 .left) (at-put .put .ensures) in
-    (omega arith, at-put .put .kept .0 ∙ at-loop .inv .1, more)
+    let at-put = c .before .before .put in
+    let at-loop = c .before .before .before .before .before .before .loop in
+    let at-args = c .before .before .before .before .before .before .before .before .before .args in
+    let more =
+    front-more (now (at-args .from)) (now (at-args .t)) (at-loop .t) (at-loop .i) (at-loop .inv .2)
+    (c .before .before .before .before .before .loop-test .taken) refl (at-put .ensures) in
+    (omega arith, at-put .kept .0 ∙ at-loop .inv .1, more)
 
-same-length-2 : tie.Need-same-length-2 Inv-loop μ-loop
-same-length-2 c = c .before .loop .inv .1
+same-length : tie.Need-same-length Inv-loop μ-loop
+same-length c = c .before .loop .inv .1
 
-returns-2 : tie.Need-returns-2 Inv-loop μ-loop
-returns-2 c =
+returns : tie.Need-returns Inv-loop μ-loop
+returns c =
     let at-loop = c .before .loop in
     let at-args = c .before .before .before .before .args in
     front-over (now (at-args .from)) (now (at-args .t)) (at-loop .t) (at-loop .i) (at-loop .inv .2) (c .loop-test .left)
@@ -72,13 +61,11 @@ put-front-spec =
     Inv-loop
     μ-loop
     loop-holds
-    mul-x
-    shared-slice-read-x
-    same-length
-    returns
+    mul-put
+    shared-slice-read-put
     put-requires
     add-i
     loop-less
     loop-again
-    same-length-2
-    returns-2)
+    same-length
+    returns)

@@ -1,4 +1,5 @@
--- The two lists that were loaded are the first 513 entries of each, and the comparison gives the same for them as for all.
+-- The two lists that were loaded are the first 513 entries of each, and the comparison gives the same for them as
+-- for all.
 use denote.Ref.{now}
 use borrow.Author.Needs.{needs}
 use Rattle.tables.proofs.TableSteps.{empty, room, loaded-front, loaded-length}
@@ -22,13 +23,17 @@ array-share-prefix-one : tie.Need-array-share-prefix-one
 array-share-prefix-one c = search needs
 
 slice-aggregate-compare : tie.Need-slice-aggregate-compare
-slice-aggregate-compare c = let x = c .before .before .before .before .before .load in loaded-length _ empty (x .result) room (x .ensures .0) (x .ensures .1)
+slice-aggregate-compare c =
+    let x = c .before .before .before .before .before .load in
+    loaded-length _ empty (x .result) room (x .ensures .0) (x .ensures .1)
 
 array-share-prefix-two : tie.Need-array-share-prefix-two
 array-share-prefix-two c = search needs
 
 slice-aggregate-compare-2 : tie.Need-slice-aggregate-compare-2
-slice-aggregate-compare-2 c = let x = c .before .before .before .load2 in loaded-length _ empty (x .result) room (x .ensures .0) (x .ensures .1)
+slice-aggregate-compare-2 c =
+    let x = c .before .before .before .load2 in
+    loaded-length _ empty (x .result) room (x .ensures .0) (x .ensures .1)
 
 compare-requires : tie.Need-compare-requires
 compare-requires c κs = search needs
@@ -52,7 +57,8 @@ returns c =
     let x = y .before .before .before in
     let a = x .before .before .before .before .before .args in
     let one = loaded-front (now (a .first)) empty (x .load .result) room (x .load .ensures .0) (x .load .ensures .1) in
-    let two = loaded-front (now (a .second)) empty (y .load2 .result) room (y .load2 .ensures .0) (y .load2 .ensures .1) in
+    let two =
+    loaded-front (now (a .second)) empty (y .load2 .result) room (y .load2 .ensures .0) (y .load2 .ensures .1) in
     same-word (now (a .sheet)) (now (a .first)) (now (a .second)) one two (m .compare .ensures) (c .enum-told .given .1)
 
 returns-2 : tie.Need-returns-2
@@ -62,8 +68,10 @@ returns-2 c =
     let x = y .before .before .before in
     let a = x .before .before .before .before .before .args in
     let one = loaded-front (now (a .first)) empty (x .load .result) room (x .load .ensures .0) (x .load .ensures .1) in
-    let two = loaded-front (now (a .second)) empty (y .load2 .result) room (y .load2 .ensures .0) (y .load2 .ensures .1) in
-    different-word (now (a .sheet)) (now (a .first)) (now (a .second)) one two (m .compare .ensures) (c .enum-told2 .given .1)
+    let two =
+    loaded-front (now (a .second)) empty (y .load2 .result) room (y .load2 .ensures .0) (y .load2 .ensures .1) in
+    different-word (now (a .sheet)) (now (a .first)) (now (a .second)) one two
+    (m .compare .ensures) (c .enum-told2 .given .1)
 
 returns-3 : tie.Need-returns-3
 returns-3 c =
@@ -72,7 +80,8 @@ returns-3 c =
     let x = y .before .before .before in
     let a = x .before .before .before .before .before .args in
     let one = loaded-front (now (a .first)) empty (x .load .result) room (x .load .ensures .0) (x .load .ensures .1) in
-    let two = loaded-front (now (a .second)) empty (y .load2 .result) room (y .load2 .ensures .0) (y .load2 .ensures .1) in
+    let two =
+    loaded-front (now (a .second)) empty (y .load2 .result) room (y .load2 .ensures .0) (y .load2 .ensures .1) in
     fault-word (now (a .sheet)) (now (a .first)) (now (a .second)) one two (m .compare .ensures)
     (c .before .before .f .given .1) (c .fault-word .ensures)
 

@@ -23,13 +23,17 @@ array-share-prefix-first : tie.Need-array-share-prefix-first
 array-share-prefix-first c = search needs
 
 slice-aggregate-write : tie.Need-slice-aggregate-write
-slice-aggregate-write c = let x = c .before .before .before .before .before .load in loaded-length _ empty (x .result) room (x .ensures .0) (x .ensures .1)
+slice-aggregate-write c =
+    let x = c .before .before .before .before .before .load in
+    loaded-length _ empty (x .result) room (x .ensures .0) (x .ensures .1)
 
 array-share-prefix-second : tie.Need-array-share-prefix-second
 array-share-prefix-second c = search needs
 
 slice-aggregate-write-2 : tie.Need-slice-aggregate-write-2
-slice-aggregate-write-2 c = let x = c .before .before .before .load2 in loaded-length _ empty (x .result) room (x .ensures .0) (x .ensures .1)
+slice-aggregate-write-2 c =
+    let x = c .before .before .before .load2 in
+    loaded-length _ empty (x .result) room (x .ensures .0) (x .ensures .1)
 
 write-requires : tie.Need-write-requires
 write-requires c κs = search needs
@@ -54,7 +58,8 @@ returns c =
     let a = x .before .before .before .before .before .args in
     let h = headOf (a .benches) (a .p) (a .q) (a .target) in
     let ms = loaded-front (now (a .minutes)) empty (x .load .result) room (x .load .ensures .0) (x .load .ensures .1) in
-    let bs = loaded-front (now (a .allowed)) empty (y .load2 .result) room (y .load2 .ensures .0) (y .load2 .ensures .1) in
+    let bs =
+    loaded-front (now (a .allowed)) empty (y .load2 .result) room (y .load2 .ensures .0) (y .load2 .ensures .1) in
     sheet-length h (now (a .minutes)) (now (a .allowed)) (now (a .out)) ms bs
     (w .write .ensures .0) (w .write .ensures .1) (c .before .k .given .1)
 
@@ -69,7 +74,8 @@ returns-2 c =
     let a = x .before .before .before .before .before .args in
     let h = headOf (a .benches) (a .p) (a .q) (a .target) in
     let ms = loaded-front (now (a .minutes)) empty (x .load .result) room (x .load .ensures .0) (x .load .ensures .1) in
-    let bs = loaded-front (now (a .allowed)) empty (y .load2 .result) room (y .load2 .ensures .0) (y .load2 .ensures .1) in
+    let bs =
+    loaded-front (now (a .allowed)) empty (y .load2 .result) room (y .load2 .ensures .0) (y .load2 .ensures .1) in
     sheet-fault h (now (a .minutes)) (now (a .allowed)) (now (a .out)) ms bs
     (w .write .ensures .0) (w .write .ensures .1) (c .before .before .f .given .1) (c .fault-word .ensures)
 
