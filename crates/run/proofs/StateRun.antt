@@ -114,11 +114,11 @@ module _ (d : Day) (n : Limits) (low high weights amount : List ℕ) (pebbles : 
 
   pub push-moves : (choice : List ℕ) → Chosen (n .jobs) pebbles allowed choice
       → (m : ℕ) (s : State) (before after : Kept) → Held d m s (before .left) (before .place) → before .moves ≡ m
-      → Owned (boardOf d s) (before .own) → Reaches (boardOf d s) (before .from) → length (before .own) ≡ 64 → length (before .from) ≡ 64
+      → Owned (boardOf d s) (before .own) → Reaches (boardOf d s) (before .reach) → length (before .own) ≡ 64 → length (before .reach) ≡ 64
       → (job bench : ℕ) → job ≡ pushJob (boardOf d s) (explored d s) → (job < d .jobs → bench ≡ pushBench (boardOf d s) (explored d s)) → job < n .jobs
       → after .left ≡ before .left → after .place ≡ set (before .place) job (bench % 256) → after .moves ≡ plusOf (before .moves) 1
       → {u : ℕ} → u ≡ getD (before .place) job 0 → after .own ≡ shiftedOf (before .own) u bench (getD amount job 0)
-      → ReachShifted (n .jobs) choice (after .place) (before .from) u bench job (after .from)
+      → ReachShifted (n .jobs) choice (after .place) (before .reach) u bench job (after .reach)
       → Pushed d m s before after
   push-moves choice C m s before after H made O F so sf job bench ej eb below l p₀ q {u} eu eo₁ S₁ =
       let b = boardOf d s in
@@ -152,12 +152,12 @@ module _ (d : Day) (n : Limits) (low high weights amount : List ℕ) (pebbles : 
       let H₂ : Held d (suc m) (nextState d s) (before .left) (after .place) = subst (λ (ls : List Bool). Held d (suc m) (nextState d s) ls (after .place)) l H₁ in
       let eo : after .own ≡ shiftedOf (before .own) (getD (before .place) job 0) bench (getD amount job 0) =
       eo₁ ∙ ap (λ (k : ℕ). shiftedOf (before .own) k bench (getD amount job 0)) eu in
-      let S : ReachShifted (n .jobs) choice (after .place) (before .from) (getD (before .place) job 0) bench job (after .from) =
-      subst (λ (k : ℕ). ReachShifted (n .jobs) choice (after .place) (before .from) k bench job (after .from)) eu S₁ in
+      let S : ReachShifted (n .jobs) choice (after .place) (before .reach) (getD (before .place) job 0) bench job (after .reach) =
+      subst (λ (k : ℕ). ReachShifted (n .jobs) choice (after .place) (before .reach) k bench job (after .reach)) eu S₁ in
       let at-bench : bench < d .benches = omega (arith, bench-is, benched) in
       a-move can H₁ (q ∙ ap (λ (k : ℕ). plusOf k 1) made ∙ plus-one m (omega (arith, few-moves m s (H .reached))))
       (moved-owned d n low high weights amount pebbles allowed R m s (before .left) (before .place) H job bench h at-bench is (after .place) p (suc m) (nextState d s) H₂ (before .own) (after .own) so O eo)
-      (moved-reach d n low high weights amount pebbles allowed R m s (before .left) (before .place) H job bench h at-bench is (after .place) p (suc m) (nextState d s) H₂ choice C (before .from) (after .from) sf F S)
+      (moved-reach d n low high weights amount pebbles allowed R m s (before .left) (before .place) H job bench h at-bench is (after .place) p (suc m) (nextState d s) H₂ choice C (before .reach) (after .reach) sf F S)
 
   pub push-stays : (m : ℕ) (s : State) (before after : Kept) → (job : ℕ) → job ≡ pushJob (boardOf d s) (explored d s) → n .jobs ≤ job → after ≡ before → Pushed d m s before after
   push-stays m s before after job e far same =
@@ -173,14 +173,14 @@ module _ (d : Day) (n : Limits) (low high weights amount : List ℕ) (pebbles : 
     pub held : Held d moves state (kept .left) (kept .place)
     pub made : kept .moves ≡ moves
     pub owned : Owned (boardOf d state) (kept .own)
-    pub reaches : Reaches (boardOf d state) (kept .from)
+    pub reaches : Reaches (boardOf d state) (kept .reach)
     pub in-all : k + moves ≡ suc (budget d)
     pub same : turns (budget d) d (start d) 0 ≡ turns (k - 1) d state moves
 
   abbrev pub Oriented : Kept → Kept → Type 0
   Oriented kept after =
-      (after .left ≡ kept .left) × (after .place ≡ kept .place) × (after .moves ≡ kept .moves) × (after .own ≡ kept .own) × (after .from ≡ kept .from)
-      × ((m : ℕ) (s : State) → Held d m s (kept .left) (kept .place) → Owned (boardOf d s) (kept .own) → Reaches (boardOf d s) (kept .from)
+      (after .left ≡ kept .left) × (after .place ≡ kept .place) × (after .moves ≡ kept .moves) × (after .own ≡ kept .own) × (after .reach ≡ kept .reach)
+      × ((m : ℕ) (s : State) → Held d m s (kept .left) (kept .place) → Owned (boardOf d s) (kept .own) → Reaches (boardOf d s) (kept .reach)
       → Shown (boardOf d s) (explored d s) (after .dir) (after .load) (after .joined) (after .level))
 
   held-after : {m : ℕ} {s : State} (kept after : Kept) → after .left ≡ kept .left → after .place ≡ kept .place → Held d m s (kept .left) (kept .place)
@@ -195,7 +195,7 @@ module _ (d : Day) (n : Limits) (low high weights amount : List ℕ) (pebbles : 
   -- What `weigh` makes of the first state.
   pub starts : (first kept : Kept) {k i : ℕ} → k ≡ budget d → i ≡ plusOf k 1 → Held d 0 (start d) (first .left) (first .place) → first .moves ≡ 0
       → (kept .left ≡ first .left) × (kept .place ≡ first .place) × (kept .moves ≡ first .moves)
-      → ((m : ℕ) (s : State) → Held d m s (first .left) (first .place) → Owned (boardOf d s) (kept .own) × Reaches (boardOf d s) (kept .from))
+      → ((m : ℕ) (s : State) → Held d m s (first .left) (first .place) → Owned (boardOf d s) (kept .own) × Reaches (boardOf d s) (kept .reach))
       → Turning i kept
   starts first kept {k} {i} e one H made same weighed =
       let full = weighed 0 (start d) H in
@@ -228,7 +228,7 @@ module _ (d : Day) (n : Limits) (low high weights amount : List ℕ) (pebbles : 
       owned : Owned (boardOf d (T .state)) (after .own)
       owned = subst (Owned (boardOf d (T .state))) (sym (O .3)) (T .owned)
 
-      reaches : Reaches (boardOf d (T .state)) (after .from)
+      reaches : Reaches (boardOf d (T .state)) (after .reach)
       reaches = subst (Reaches (boardOf d (T .state))) (sym (O .4)) (T .reaches)
 
       shown : Shown (boardOf d (T .state)) (explored d (T .state)) (after .dir) (after .load) (after .joined) (after .level)
@@ -252,7 +252,7 @@ module _ (d : Day) (n : Limits) (low high weights amount : List ℕ) (pebbles : 
 
       -- A push, from what its contract asks.
       pub pushes : {last : Kept}
-          → (Held d (T .moves) (T .state) (after .left) (after .place) → Owned (boardOf d (T .state)) (after .own) → Reaches (boardOf d (T .state)) (after .from)
+          → (Held d (T .moves) (T .state) (after .left) (after .place) → Owned (boardOf d (T .state)) (after .own) → Reaches (boardOf d (T .state)) (after .reach)
           → Shown (boardOf d (T .state)) (explored d (T .state)) (after .dir) (after .load) (after .joined) (after .level) → after .moves ≡ T .moves
           → Pushed d (T .moves) (T .state) after last)
           → Pushed d (T .moves) (T .state) after last

@@ -59,7 +59,7 @@ pub record Held (d : Day) (m : ℕ) (s : State) (left : List Bool) (place : List
 -- What a push makes of the program's state: the next state and one move more, or nothing where there is no move.
 pub data Pushed (d : Day) (m : ℕ) (s : State) (before after : Kept) : Type 0 where
   a-move : canMove d s ≡ true → Held d (suc m) (nextState d s) (after .left) (after .place) → after .moves ≡ suc m
-      → Owned (boardOf d (nextState d s)) (after .own) → Reaches (boardOf d (nextState d s)) (after .from) → Pushed d m s before after
+      → Owned (boardOf d (nextState d s)) (after .own) → Reaches (boardOf d (nextState d s)) (after .reach) → Pushed d m s before after
   no-move : pushJob (boardOf d s) (explored d s) ≡ d .jobs → after ≡ before → Pushed d m s before after
 
 -- The program's state at which the turns of the run end.

@@ -22,19 +22,19 @@ pub fn turns<'a>(
 ) -> State
     ensures { λ r. ⌜ ((d : Day) → Ready d n (now (low .entry)) (now (high .entry)) (now (weight .entry)) (now (amount .entry)) (now (pebble .entry)) (now (allowed .entry)) → Held d 0 (startOf d) (first .left) (first .place) → first .moves ≡ 0 → budget ≡ budgetOf d → Last d r) ⌝ }
 {
-    let mut here = [0usize; 64];
-    rocks::fill_here(n, low, high, &mut here);
-    let mut near = [0usize; 64];
-    rocks::fill_near(low, high, &here, &mut near);
+    let mut incident = [0usize; 64];
+    rocks::fill_incident(n, low, high, &mut incident);
+    let mut neighbours = [0usize; 64];
+    rocks::fill_neighbours(low, high, &incident, &mut neighbours);
     let all = sets::everywhere(n.benches);
-    let stony = sets::some(&here);
+    let touched = sets::some(&incident);
     let mut choice = [0usize; 512];
     start::choose(n.jobs, pebble, allowed, &mut choice);
     let mut s = first.weigh(n, amount, pebble, allowed);
     // One exploration more than there can be moves.
     let mut left = arrays::plus(budget, 1);
     while 0 < left {
-        s = s.orient(n, low, high, weight, &here, &near, all, stony);
+        s = s.orient(n, low, high, weight, &incident, &neighbours, all, touched);
         if !tables::congested(n.benches, &s.level) {
             return s;
         }

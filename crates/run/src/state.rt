@@ -23,7 +23,7 @@ pub struct State {
     pub moves: usize,
     // The load of each bench besides its rocks, and the benches that the pebbles on it allow.
     pub own: [usize; 64],
-    pub from: [usize; 64],
+    pub reach: [usize; 64],
     // Of the last exploration.
     pub dir: [usize; 64],
     pub load: [usize; 64],
@@ -56,7 +56,7 @@ impl State {
             place: places,
             moves: 0,
             own: none,
-            from: none,
+            reach: none,
             dir: none,
             load: none,
             joined: none,
@@ -72,16 +72,16 @@ impl State {
         pebble: &'a [bool],
         allowed: &'a [usize],
     ) -> State
-        ensures { λ r. ⌜ (r .left ≡ self .left) × (r .place ≡ self .place) × (r .moves ≡ self .moves) × ((d : Day) → (m : ℕ) → (s : RunState) → (low : List ℕ) → (high : List ℕ) → (weight : List ℕ) → Ready d n low high weight (now (amount .entry)) (now (pebble .entry)) (now (allowed .entry)) → Held d m s (self .left) (self .place) → Owned (boardOf d s) (r .own) × Reaches (boardOf d s) (r .from)) ⌝ }
+        ensures { λ r. ⌜ (r .left ≡ self .left) × (r .place ≡ self .place) × (r .moves ≡ self .moves) × ((d : Day) → (m : ℕ) → (s : RunState) → (low : List ℕ) → (high : List ℕ) → (weight : List ℕ) → Ready d n low high weight (now (amount .entry)) (now (pebble .entry)) (now (allowed .entry)) → Held d m s (self .left) (self .place) → Owned (boardOf d s) (r .own) × Reaches (boardOf d s) (r .reach)) ⌝ }
     {
         let mut place = [0usize; 512];
         arrays::from_bytes(n.jobs, &self.place, &mut place);
         let mut own = [0usize; 64];
         arrays::own_loads(n.jobs, amount, &self.left, &place, &mut own);
-        let mut from = [0usize; 64];
-        explore::fill_from(n, pebble, allowed, &place, &mut from);
+        let mut reach = [0usize; 64];
+        explore::fill_reach(n, pebble, allowed, &place, &mut reach);
         self.own = own;
-        self.from = from;
+        self.reach = reach;
         self
     }
 
@@ -92,12 +92,12 @@ impl State {
         low: &'a [usize],
         high: &'a [usize],
         weight: &'a [usize],
-        here: &'a [usize],
-        near: &'a [usize],
+        incident: &'a [usize],
+        neighbours: &'a [usize],
         all: usize,
-        stony: usize,
+        touched: usize,
     ) -> State
-        ensures { λ r. ⌜ (r .left ≡ self .left) × (r .place ≡ self .place) × (r .moves ≡ self .moves) × (r .own ≡ self .own) × (r .from ≡ self .from) × ((d : Day) → (m : ℕ) → (s : RunState) → (amount : List ℕ) → (pebble : List Bool) → (allowed : List ℕ) → Ready d n (now (low .entry)) (now (high .entry)) (now (weight .entry)) amount pebble allowed → Mapped n (now (low .entry)) (now (high .entry)) (now (here .entry)) (now (near .entry)) all stony → Held d m s (self .left) (self .place) → Owned (boardOf d s) (self .own) → Reaches (boardOf d s) (self .from) → Shown (boardOf d s) (explored d s) (r .dir) (r .load) (r .joined) (r .level)) ⌝ }
+        ensures { λ r. ⌜ (r .left ≡ self .left) × (r .place ≡ self .place) × (r .moves ≡ self .moves) × (r .own ≡ self .own) × (r .reach ≡ self .reach) × ((d : Day) → (m : ℕ) → (s : RunState) → (amount : List ℕ) → (pebble : List Bool) → (allowed : List ℕ) → Ready d n (now (low .entry)) (now (high .entry)) (now (weight .entry)) amount pebble allowed → Mapped n (now (low .entry)) (now (high .entry)) (now (incident .entry)) (now (neighbours .entry)) all touched → Held d m s (self .left) (self .place) → Owned (boardOf d s) (self .own) → Reaches (boardOf d s) (self .reach) → Shown (boardOf d s) (explored d s) (r .dir) (r .load) (r .joined) (r .level)) ⌝ }
     {
         let own = self.own;
         let never = arrays::plus(n.benches, 1);
@@ -110,12 +110,12 @@ impl State {
             low,
             high,
             weight,
-            here,
-            near,
+            incident,
+            neighbours,
             all,
-            stony,
+            touched,
             &own,
-            &self.from,
+            &self.reach,
             &mut dir,
             &mut load,
             &mut joined,
@@ -138,7 +138,7 @@ impl State {
         amount: &'a [usize],
         choice: &'a [usize],
     ) -> State
-        ensures { λ r. ⌜ ((d : Day) → (m : ℕ) → (s : RunState) → (pebble : List Bool) → (allowed : List ℕ) → Ready d n (now (low .entry)) (now (high .entry)) (now (weight .entry)) (now (amount .entry)) pebble allowed → Chosen (n .jobs) pebble allowed (now (choice .entry)) → Held d m s (self .left) (self .place) → Owned (boardOf d s) (self .own) → Reaches (boardOf d s) (self .from) → Shown (boardOf d s) (explored d s) (self .dir) (self .load) (self .joined) (self .level) → self .moves ≡ m → Pushed d m s self r) ⌝ }
+        ensures { λ r. ⌜ ((d : Day) → (m : ℕ) → (s : RunState) → (pebble : List Bool) → (allowed : List ℕ) → Ready d n (now (low .entry)) (now (high .entry)) (now (weight .entry)) (now (amount .entry)) pebble allowed → Chosen (n .jobs) pebble allowed (now (choice .entry)) → Held d m s (self .left) (self .place) → Owned (boardOf d s) (self .own) → Reaches (boardOf d s) (self .reach) → Shown (boardOf d s) (explored d s) (self .dir) (self .load) (self .joined) (self .level) → self .moves ≡ m → Pushed d m s self r) ⌝ }
     {
         let mut wanted = [0usize; 66];
         push::mark_levels(
@@ -163,10 +163,10 @@ impl State {
                 let before = arrays::byte(&self.place, job);
                 self.place[job] = (bench % 256) as u8;
                 let own = self.own;
-                let from = self.from;
+                let reach = self.reach;
                 let k = push::shifted(
                     own,
-                    from,
+                    reach,
                     n.jobs,
                     amount,
                     choice,
@@ -176,9 +176,9 @@ impl State {
                     job,
                 );
                 let next_own = k.own;
-                let next_from = k.from;
+                let next_reach = k.reach;
                 self.own = next_own;
-                self.from = next_from;
+                self.reach = next_reach;
                 self.moves = arrays::plus(self.moves, 1);
             }
         }
