@@ -22,7 +22,7 @@ use Rattle.algorithm.specs.Explore.{activate}
 use Rattle.rocks.specs.RockArrays.{withinAt}
 use Rattle.rocks.specs.BoardArrays.{rocksOf, Rocks, Directed, Owned, Rounds}
 use Rattle.explore.specs.ExploreArrays.{activatesAt, ruleOneAt, ruleTwoAt, Waits}
-use Rattle.rocks.specs.Neighbours.{Here}
+use Rattle.rocks.specs.Neighbours.{Incident}
 use Rattle.forced.specs.SetArrays.{Covers}
 use Rattle.forced.specs.CandidateArrays.{someRock, benchOf}
 use Rattle.forced.proofs.CandidateLaws.{candidate-lowest, candidate-none, candidate-below, end-below, rock-ends, few-rocks, few-benches}
@@ -81,7 +81,7 @@ module _ (wait i : ℕ) (level₀ : List ℕ) where
 
 -- ── the activation of a board's benches ──
 
-module _ (b : Board) (n : Limits) (low high weight own : List ℕ) (R : Rocks b n low high weight) (few : rocksOf b ≤ 64) (here : List ℕ) (H : Here n low high here)
+module _ (b : Board) (n : Limits) (low high weight own : List ℕ) (R : Rocks b n low high weight) (few : rocksOf b ≤ 64) (here : List ℕ) (H : Incident n low high here)
     (O : Owned b own) (dirs : Directions) (dir : List ℕ) (D : Directed b dirs dir) (xs joined : List ℕ) (X : Rounds b xs joined)
     (i wait : ℕ) (in-time : i ≤ n .benches) (level₀ : List ℕ) (ys : List ℕ) (Y : Rounds b ys level₀) (W : Waits n joined level₀ wait) where
   abbrev acts : List ℕ → ℕ → ℕ → Bool

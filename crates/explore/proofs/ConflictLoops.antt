@@ -26,7 +26,7 @@ use Rattle.sets.specs.Sets.{lowestOf}
 use Rattle.rocks.specs.RockArrays.{lowestEnd, touchesAt, otherAt, withinAt}
 use Rattle.rocks.specs.BoardArrays.{rocksOf, Rocks, Directed, Seen, Rounds}
 use Rattle.explore.specs.ExploreArrays.{joinsAt, fakeAt, Built, Grew}
-use Rattle.rocks.specs.Neighbours.{Here, Near}
+use Rattle.rocks.specs.Neighbours.{Incident, Neighbours}
 use Rattle.forced.specs.SetArrays.{Covers, Nowhere, forcesAt, Tails}
 use Rattle.forced.specs.CandidateArrays.{Neutral, benchOf, rockOf}
 use Rattle.sets.proofs.SetRun.{Searched, searched-starts}
@@ -45,7 +45,7 @@ module _ (here : List ℕ) (P : ℕ → ℕ → Bool) (v : ℕ) where
   pub rock-starts : (left : ℕ) → left ≡ getD here v 0 → Searched (getD here v 0) (λ r. P r v) left
   rock-starts left e = subst (Searched (getD here v 0) (λ r. P r v)) (sym e) (searched-starts (getD here v 0) (λ r. P r v))
 
-module _ (n : Limits) (low high dir here : List ℕ) (neutral : ℕ) (H : Here n low high here) (N : Neutral n dir neutral) (v : ℕ) (hv : v < 64) (set : ℕ)
+module _ (n : Limits) (low high dir here : List ℕ) (neutral : ℕ) (H : Incident n low high here) (N : Neutral n dir neutral) (v : ℕ) (hv : v < 64) (set : ℕ)
     (both : BothOf set (getD here v 0) neutral) where
   pub fake-lowest : (benches : ℕ) (joined : List ℕ) → withinAt benches joined v ≡ true → (r : ℕ) → r ≡ lowestOf set → r ≡ rockOf here (fakeAt benches dir joined) v
   unfolding rockOf lowestOf
@@ -53,7 +53,7 @@ module _ (n : Limits) (low high dir here : List ℕ) (neutral : ℕ) (H : Here n
       e ∙ least-cong 64 (isSet 64 set) (λ k. isSet 64 set k && withinAt benches joined v) (λ k l. sym (and-unit (isSet 64 set k) p))
       ∙ free-least n low high dir here neutral H N v hv set both (λ k. withinAt benches joined v)
 
-module _ (b : Board) (n : Limits) (low high weight : List ℕ) (R : Rocks b n low high weight) (few : rocksOf b ≤ 64) (here : List ℕ) (H : Here n low high here) where
+module _ (b : Board) (n : Limits) (low high weight : List ℕ) (R : Rocks b n low high weight) (few : rocksOf b ≤ 64) (here : List ℕ) (H : Incident n low high here) where
   rocks-fit : n .rocks ≤ 64
   rocks-fit = few-rocks b n low high weight R few
 
@@ -93,7 +93,7 @@ module _ (b : Board) (n : Limits) (low high weight : List ℕ) (R : Rocks b n lo
           let none = candidate-none n low high here H rocks-fit ends narrow P cand (C .growing .covers) v e past in
           ended C (closing-ends b n low high weight R D (C .closing) (n .benches) none refl)
 
-      pub closes-goes-on : (near : List ℕ) → Near n low high near → v < 64 → 0 < k → {joined′ : List ℕ} → joined′ ≡ set joined v i → (rest more grown′ : ℕ)
+      pub closes-goes-on : (near : List ℕ) → Neighbours n low high near → v < 64 → 0 < k → {joined′ : List ℕ} → joined′ ≡ set joined v i → (rest more grown′ : ℕ)
           → ((u : ℕ) → u < 64 → isSet 64 grown′ u ≡ (isSet 64 grown u || eqb u v))
           → ((u : ℕ) → u < 64 → isSet 64 rest u ≡ (isSet 64 cand u && ltb v u))
           → more ≡ getD near v 0 → Closes i dirs xs dir first (k - 1) (bitOr rest more) grown′ joined′

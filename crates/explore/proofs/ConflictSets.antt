@@ -32,7 +32,7 @@ use Rattle.arrays.specs.Arrays.{plusOf}
 use Rattle.rocks.specs.RockArrays.{lowestEnd, touchesAt, otherAt, withinAt}
 use Rattle.rocks.specs.BoardArrays.{rocksOf, rockAt, Rocks, Directed, Rounds}
 use Rattle.explore.specs.ExploreArrays.{joinsAt, fakeAt, Grew}
-use Rattle.rocks.specs.Neighbours.{Near}
+use Rattle.rocks.specs.Neighbours.{Neighbours}
 use Rattle.forced.specs.SetArrays.{Covers, Nowhere, forcesAt, Tails}
 use Rattle.algorithm.proofs.BoardLaws.{touches-below, other-below, other-touches, other-other}
 use Rattle.algorithm.proofs.GrowthLaws.{directed-towards}
@@ -147,7 +147,7 @@ module _ (b : Board) (n : Limits) (low high weight : List ℕ) (R : Rocks b n lo
   pub growing-starts : (dir joined : List ℕ) (cand none : ℕ) → Covers n low high (joinsAt (n .benches) low high dir joined) cand → Growing dir joined cand none joined
   growing-starts dir joined cand none C = record { covers = C; grew = grew-none n joined none }
 
-  module _ (few : rocksOf b ≤ 64) (near : List ℕ) (N : Near n low high near) where
+  module _ (few : rocksOf b ≤ 64) (near : List ℕ) (N : Neighbours n low high near) where
     -- v joins: its neighbours are new candidates.
     pub growing-goes-on : {dir first : List ℕ} {cand grown : ℕ} {joined : List ℕ} (i v : ℕ) → Growing dir first cand grown joined
         → b .benches ≤ length joined → i ≤ b .benches

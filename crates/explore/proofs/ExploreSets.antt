@@ -1,7 +1,7 @@
 -- The rounds of an exploration, with the sets that they keep.
 --     Exploration           what the loop over the rounds keeps
 --     mapped                the tables and sets that a run keeps
---     covers-stony          a rock that is forced has its ends among the benches with a rock
+--     covers-touched          a rock that is forced has its ends among the benches with a rock
 --     exploration-starts, exploration-goes-on, exploration-ends, exploration-spent     how it starts, goes on and ends
 use Prim.Native.Nat.{ℕ, _+_, _^_, _≤_, _<_}
 use mathlib.Core.Path.{_≡_, ap, _∙_}
@@ -25,7 +25,7 @@ use Rattle.algorithm.specs.Explore.{construct, activate, explore}
 use Rattle.arrays.specs.Arrays.{plusOf}
 use Rattle.rocks.specs.BoardArrays.{rocksOf, Rocks, Directed, Seen, Rounds}
 use Rattle.explore.specs.ExploreArrays.{joinsAt, fakeAt, Reaches, openedJoined, Built, Grew, Waits}
-use Rattle.rocks.specs.Neighbours.{Here, Near, Mapped}
+use Rattle.rocks.specs.Neighbours.{Incident, Neighbours, Mapped}
 use Rattle.forced.specs.SetArrays.{Covers, Nowhere, forcesAt}
 use Rattle.forced.specs.CandidateArrays.{Neutral}
 use Rattle.rocks.specs.Shown.{Shown, ShowsActive}
@@ -34,9 +34,9 @@ use Rattle.explore.proofs.RoundSets.{end-below, Raised, Sets, sets-star
 use Rattle.explore.proofs.RoundRun.{Exploring, exploring-starts, exploring-joined, exploring-goes-on, exploring-ends, exploring-spent}
 
 -- A bench at which there is a rock has a set of rocks that is not empty.
-pub mapped : (n : Limits) (low high : List ℕ) {here near : List ℕ} {all stony : ℕ} → Here n low high here → Near n low high near
-    → ((v : ℕ) → v < 64 → isSet 64 all v ≡ ltb v (n .benches)) → ((v : ℕ) → v < 64 → isSet 64 stony v ≡ not (eqb (getD here v 0) 0))
-    → Mapped n low high here near all stony
+pub mapped : (n : Limits) (low high : List ℕ) {here near : List ℕ} {all touched : ℕ} → Incident n low high here → Neighbours n low high near
+    → ((v : ℕ) → v < 64 → isSet 64 all v ≡ ltb v (n .benches)) → ((v : ℕ) → v < 64 → isSet 64 touched v ≡ not (eqb (getD here v 0) 0))
+    → Mapped n low high here near all touched
 mapped n low high {here} {near} H N alls stones =
     record {
       rocks = H;
@@ -50,8 +50,8 @@ positive : (a : ℕ) → a ≢ 0 → 0 < a
 positive a ne = elim (lt-or-le 0 a) [ inl h ↦ h | inr h ↦ absurd (ne (omega arith)) ]
 
 module _ (b : Board) (n : Limits) (low high weight : List ℕ) (R : Rocks b n low high weight) where
-  pub covers-stony : (P : ℕ → ℕ → Bool) (here near : List ℕ) (all stony : ℕ) → rocksOf b ≤ 64 → Mapped n low high here near all stony → Covers n low high P stony
-  covers-stony P here near all stony few M r v h t p =
+  pub covers-touched : (P : ℕ → ℕ → Bool) (here near : List ℕ) (all touched : ℕ) → rocksOf b ≤ 64 → Mapped n low high here near all touched → Covers n low high P touched
+  covers-touched P here near all touched few M r v h t p =
       let hv = end-below low high (n .benches) r v (rock-ends b n low high weight R r h) t in
       M .stones r v h (omega (arith, h, few-rocks b n low high weight R few)) (omega (arith, hv, few-benches b n low high weight R)) t
 
@@ -82,10 +82,10 @@ module _ (b : Board) (n : Limits) (low high weight : List ℕ) (R : Rocks b n lo
     pub exploration-ends : opened ≡ 0 → Shown b (explore b) dir load joined′ level′ × ShowsActive b (explore b) active
     exploration-ends shut = exploring-ends b n low high weight R idle T (E .exploring) in-time bound ei e (E .sets) O shut
 
-    module _ (few : rocksOf b ≤ 64) (here near : List ℕ) (stony cand fakes grown neutral′ rest asked left went fresh′ active′ : ℕ) (dir′ load′ joined″ level″ : List ℕ)
-        (M : Mapped n low high here near all stony)
-        (ec : (v : ℕ) → v < 64 → isSet 64 stony v ≡ true → isSet 64 cand v ≡ any 64 (λ u. isSet 64 opened u && isSet 64 (getD near u 0) v))
-        (ek : (v : ℕ) → isSet 64 fakes v ≡ (isSet 64 opened v && isSet 64 stony v))
+    module _ (few : rocksOf b ≤ 64) (here near : List ℕ) (touched cand fakes grown neutral′ rest asked left went fresh′ active′ : ℕ) (dir′ load′ joined″ level″ : List ℕ)
+        (M : Mapped n low high here near all touched)
+        (ec : (v : ℕ) → v < 64 → isSet 64 touched v ≡ true → isSet 64 cand v ≡ any 64 (λ u. isSet 64 opened u && isSet 64 (getD near u 0) v))
+        (ek : (v : ℕ) → isSet 64 fakes v ≡ (isSet 64 opened v && isSet 64 touched v))
         (build : (dirs : Directions) (xs : List ℕ) → i ≤ b .benches → Neutral n dir neutral → Covers n low high (joinsAt (n .benches) low high dir joined′) cand
         → Covers n low high (fakeAt (n .benches) dir joined′) fakes → Nowhere n low high (forcesAt (n .bound) weight dir load)
         → Seen b dirs dir load → Rounds b xs joined′
@@ -109,8 +109,8 @@ module _ (b : Board) (n : Limits) (low high weight : List ℕ) (R : Rocks b n lo
           × Nowhere n low high (fakeAt (n .benches) dir′ joined″) × Nowhere n low high (forcesAt (n .bound) weight dir′ load′) × Neutral n dir′ neutral′
       built dirs xs S X =
           build dirs xs board-time (E .free)
-          (joins-covered n low high weight (few-benches b n low high weight R) (rock-ends b n low high weight R) here-time (E .sets) O here near stony cand (few-rocks b n low high weight R few) M ec)
-          (fakes-covered n low high weight (few-benches b n low high weight R) (rock-ends b n low high weight R) here-time (E .sets) O here near stony fakes (few-rocks b n low high weight R few) M ek)
+          (joins-covered n low high weight (few-benches b n low high weight R) (rock-ends b n low high weight R) here-time (E .sets) O here near touched cand (few-rocks b n low high weight R few) M ec)
+          (fakes-covered n low high weight (few-benches b n low high weight R) (rock-ends b n low high weight R) here-time (E .sets) O here near touched fakes (few-rocks b n low high weight R few) M ek)
           (E .sets .forces) S X
 
       pub exploration-goes-on : opened ≢ 0 → opened < 2 ^ 64 → length joined″ ≡ length joined′ → length level″ ≡ length level′

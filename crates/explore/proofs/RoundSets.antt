@@ -179,10 +179,10 @@ module _ (n : Limits) (low high weight : List ℕ) where
             clash q (within-of (n .benches) joined′ joined v (entered-at v h ∙ cond-false i (getD joined v 0) out) ∙ p)
       ]
 
-      pub joins-covered : (here near : List ℕ) (stony cand : ℕ) → n .rocks ≤ 64 → Mapped n low high here near all stony
-          → ((w : ℕ) → w < 64 → isSet 64 stony w ≡ true → isSet 64 cand w ≡ any 64 (λ u. isSet 64 opened u && isSet 64 (getD near u 0) w))
+      pub joins-covered : (here near : List ℕ) (touched cand : ℕ) → n .rocks ≤ 64 → Mapped n low high here near all touched
+          → ((w : ℕ) → w < 64 → isSet 64 touched w ≡ true → isSet 64 cand w ≡ any 64 (λ u. isSet 64 opened u && isSet 64 (getD near u 0) w))
           → Covers n low high (joinsAt (n .benches) low high dir joined′) cand
-      joins-covered here near stony cand narrow M reached r v h t p =
+      joins-covered here near touched cand narrow M reached r v h t p =
           let u = otherAt low high r v in
           let (tu, back) = other-back low high r v t in
           let hv : v < n .benches = end-below low high (n .benches) r v (ends r h) t in
@@ -201,9 +201,9 @@ module _ (n : Limits) (low high weight : List ℕ) where
           reached v small (M .stones r v h (omega arith) small t)
           ∙ any-intro 64 (λ k. isSet 64 opened k && isSet 64 (getD near k 0) v) u (omega arith) (and-intro (came-in u hu before inside) close)
 
-      pub fakes-covered : (here near : List ℕ) (stony fakes : ℕ) → n .rocks ≤ 64 → Mapped n low high here near all stony
-          → ((w : ℕ) → isSet 64 fakes w ≡ (isSet 64 opened w && isSet 64 stony w)) → Covers n low high (fakeAt (n .benches) dir joined′) fakes
-      fakes-covered here near stony fakes narrow M both r v h t p =
+      pub fakes-covered : (here near : List ℕ) (touched fakes : ℕ) → n .rocks ≤ 64 → Mapped n low high here near all touched
+          → ((w : ℕ) → isSet 64 fakes w ≡ (isSet 64 opened w && isSet 64 touched w)) → Covers n low high (fakeAt (n .benches) dir joined′) fakes
+      fakes-covered here near touched fakes narrow M both r v h t p =
           let hv : v < n .benches = end-below low high (n .benches) r v (ends r h) t in
           let idle = and-left (eqb (getD dir r 0) 0) (withinAt (n .benches) joined′ v) p in
           let inside = and-right (eqb (getD dir r 0) 0) (withinAt (n .benches) joined′ v) p in

@@ -6,7 +6,7 @@
 --     opensAt                   bench v opens round i: all is the set of the benches, active that of the activated ones
 --     openedLevels, openedJoined     the two tables with which round i begins
 --     Built, Begun              the arrays show what CONFLICT SET CONSTRUCTION leaves behind, and how a round begins
---     Reaches b from            entry u of the array is the set of the benches that the pebbles on u allow
+--     Reaches b reach            entry u of the array is the set of the benches that the pebbles on u allow
 --     Grew                      the set has every bench that has come into the conflict set
 --     Waits                     the set has every bench of the conflict set that is not activated
 use Prim.Native.Nat.{ℕ, _+_, _<_}
@@ -51,17 +51,17 @@ activatesAt n low high weight own dir joined level r v =
 -- ── sets of benches ──
 
 abbrev pub addedAt : List Bool → List ℕ → List ℕ → List ℕ → ℕ → List ℕ
-addedAt pebble allowed place from j =
-    cond (getD pebble j false) (set from (getD place j 0) (bitOr (getD from (getD place j 0) 0) (getD allowed j 0))) from
+addedAt pebble allowed place reach j =
+    cond (getD pebble j false) (set reach (getD place j 0) (bitOr (getD reach (getD place j 0) 0) (getD allowed j 0))) reach
 
 abbrev pub opensAt : Limits → ℕ → ℕ → ℕ → ℕ → List ℕ → ℕ → Bool
-opensAt n i all active reach load v =
-    cond (eqb i 0) (ltb v (n .benches) && ltb (n .bound) (getD load v 0)) (isSet 64 all v && (isSet 64 reach v && not (isSet 64 active v)))
+opensAt n i all active reached load v =
+    cond (eqb i 0) (ltb v (n .benches) && ltb (n .bound) (getD load v 0)) (isSet 64 all v && (isSet 64 reached v && not (isSet 64 active v)))
 
 -- The sets of the benches that the pebbles on each bench allow.
-pub record Reaches (b : Board) (from : List ℕ) : Type 0 where
+pub record Reaches (b : Board) (reach : List ℕ) : Type 0 where
   pub entries : (u v : ℕ) → u < b .benches → v < b .benches
-      → isSet 64 (getD from u 0) v ≡ any (b .jobs) (λ j. b .pebble j && eqb (b .place j) u && b .allows j v)
+      → isSet 64 (getD reach u 0) v ≡ any (b .jobs) (λ j. b .pebble j && eqb (b .place j) u && b .allows j v)
 
 -- ── a round ──
 

@@ -10,7 +10,7 @@ ghost use Rattle.algorithm.specs.Board.{Board, Directions};
 ghost use Rattle.algorithm.specs.Explore.{activate as activated};
 ghost use Rattle.rocks.specs.BoardArrays.{rocksOf, Rocks, Directed, Owned, Rounds};
 ghost use Rattle.explore.specs.ExploreArrays.{ruleOneAt, ruleTwoAt, activatesAt, Waits};
-ghost use Rattle.rocks.specs.Neighbours.{Here};
+ghost use Rattle.rocks.specs.Neighbours.{Incident};
 ghost use Rattle.forced.specs.CandidateArrays.{someRock, benchOf};
 
 // rule1 b dir joined v, by the rock r.
@@ -92,16 +92,16 @@ fn active_by<'a>(
     low: &'a [usize],
     high: &'a [usize],
     weight: &'a [usize],
-    here: &'a [usize],
+    incident: &'a [usize],
     own: &'a [usize],
     dir: &'a [usize],
     joined: &'a [usize],
     level: &'a [usize],
     v: usize,
 ) -> bool
-    ensures { λ t. ⌜ t ≡ someRock (now (here .entry)) (activatesAt n (now (low .entry)) (now (high .entry)) (now (weight .entry)) (now (own .entry)) (now (dir .entry)) (now (joined .entry)) (now (level .entry))) v ⌝ }
+    ensures { λ t. ⌜ t ≡ someRock (now (incident .entry)) (activatesAt n (now (low .entry)) (now (high .entry)) (now (weight .entry)) (now (own .entry)) (now (dir .entry)) (now (joined .entry)) (now (level .entry))) v ⌝ }
 {
-    let mut left = arrays::at(here, v);
+    let mut left = arrays::at(incident, v);
     while 0 < left {
         let r = sets::lowest(left);
         if activates(n, low, high, weight, own, dir, joined, level, r, v) {
@@ -118,19 +118,19 @@ fn first_active<'a>(
     low: &'a [usize],
     high: &'a [usize],
     weight: &'a [usize],
-    here: &'a [usize],
+    incident: &'a [usize],
     wait: usize,
     own: &'a [usize],
     dir: &'a [usize],
     joined: &'a [usize],
     level: &'a [usize],
 ) -> usize
-    ensures { λ v. ⌜ v ≡ benchOf (now (here .entry)) (activatesAt n (now (low .entry)) (now (high .entry)) (now (weight .entry)) (now (own .entry)) (now (dir .entry)) (now (joined .entry)) (now (level .entry))) wait ⌝ }
+    ensures { λ v. ⌜ v ≡ benchOf (now (incident .entry)) (activatesAt n (now (low .entry)) (now (high .entry)) (now (weight .entry)) (now (own .entry)) (now (dir .entry)) (now (joined .entry)) (now (level .entry))) wait ⌝ }
 {
     let mut left = wait;
     while 0 < left {
         let v = sets::lowest(left);
-        if active_by(n, low, high, weight, here, own, dir, joined, level, v) {
+        if active_by(n, low, high, weight, incident, own, dir, joined, level, v) {
             return v;
         }
         left = sets::after(left, v);
@@ -145,19 +145,30 @@ pub fn activate<'a>(
     low: &'a [usize],
     high: &'a [usize],
     weight: &'a [usize],
-    here: &'a [usize],
+    incident: &'a [usize],
     wait: usize,
     own: &'a [usize],
     dir: &'a [usize],
     joined: &'a [usize],
     level: &mut [usize],
 ) -> usize
-    ensures { λ left. ⌜ ((v : ℕ) → v < length (now (level .entry)) → v < 64 → getD (now (level .exit)) v 0 ≡ cond (isSet 64 wait v && not (isSet 64 left v)) i (getD (now (level .entry)) v 0)) × ((b : Board) → (dirs : Directions) → (xs : List ℕ) → (ys : List ℕ) → Rocks b n (now (low .entry)) (now (high .entry)) (now (weight .entry)) → rocksOf b ≤ 64 → Here n (now (low .entry)) (now (high .entry)) (now (here .entry)) → i ≤ n .benches → Waits n (now (joined .entry)) (now (level .entry)) wait → Owned b (now (own .entry)) → Directed b dirs (now (dir .entry)) → Rounds b xs (now (joined .entry)) → Rounds b ys (now (level .entry)) → Rounds b (activated (b .benches) b i dirs xs ys) (now (level .exit))) ⌝ }
+    ensures { λ left. ⌜ ((v : ℕ) → v < length (now (level .entry)) → v < 64 → getD (now (level .exit)) v 0 ≡ cond (isSet 64 wait v && not (isSet 64 left v)) i (getD (now (level .entry)) v 0)) × ((b : Board) → (dirs : Directions) → (xs : List ℕ) → (ys : List ℕ) → Rocks b n (now (low .entry)) (now (high .entry)) (now (weight .entry)) → rocksOf b ≤ 64 → Incident n (now (low .entry)) (now (high .entry)) (now (incident .entry)) → i ≤ n .benches → Waits n (now (joined .entry)) (now (level .entry)) wait → Owned b (now (own .entry)) → Directed b dirs (now (dir .entry)) → Rounds b xs (now (joined .entry)) → Rounds b ys (now (level .entry)) → Rounds b (activated (b .benches) b i dirs xs ys) (now (level .exit))) ⌝ }
 {
     let mut left = wait;
     let mut turns = n.benches;
     while 0 < turns {
-        let v = first_active(n, low, high, weight, here, left, own, dir, joined, level);
+        let v = first_active(
+            n,
+            low,
+            high,
+            weight,
+            incident,
+            left,
+            own,
+            dir,
+            joined,
+            level,
+        );
         if 63 < v {
             return left;
         }

@@ -7,7 +7,7 @@ ghost use Rattle.algorithm.specs.Board.{Board, Directions};
 ghost use Rattle.algorithm.specs.Explore.{conflictSet, construct as constructed};
 ghost use Rattle.rocks.specs.BoardArrays.{rocksOf, Rocks, Directed, Seen, Rounds};
 ghost use Rattle.explore.specs.ExploreArrays.{joinsAt, fakeAt, Built, Grew};
-ghost use Rattle.rocks.specs.Neighbours.{Here, Near};
+ghost use Rattle.rocks.specs.Neighbours.{Incident, Neighbours};
 ghost use Rattle.forced.specs.SetArrays.{Covers, Nowhere, forcesAt};
 ghost use Rattle.forced.specs.CandidateArrays.{Neutral, rockOf, benchOf};
 
@@ -16,17 +16,17 @@ fn joining_rock<'a>(
     benches: usize,
     low: &'a [usize],
     high: &'a [usize],
-    here: &'a [usize],
+    incident: &'a [usize],
     dir: &'a [usize],
     joined: &'a [usize],
     v: usize,
 ) -> usize
-    ensures { λ r. ⌜ r ≡ rockOf (now (here .entry)) (joinsAt benches (now (low .entry)) (now (high .entry)) (now (dir .entry)) (now (joined .entry))) v ⌝ }
+    ensures { λ r. ⌜ r ≡ rockOf (now (incident .entry)) (joinsAt benches (now (low .entry)) (now (high .entry)) (now (dir .entry)) (now (joined .entry))) v ⌝ }
 {
     if rocks::within(benches, joined, v) {
         return 64;
     }
-    let mut left = arrays::at(here, v);
+    let mut left = arrays::at(incident, v);
     while 0 < left {
         let r = sets::lowest(left);
         if rocks::father(benches, low, high, dir, joined, r, v) {
@@ -42,17 +42,17 @@ fn first_joining<'a>(
     benches: usize,
     low: &'a [usize],
     high: &'a [usize],
-    here: &'a [usize],
+    incident: &'a [usize],
     cand: usize,
     dir: &'a [usize],
     joined: &'a [usize],
 ) -> usize
-    ensures { λ v. ⌜ v ≡ benchOf (now (here .entry)) (joinsAt benches (now (low .entry)) (now (high .entry)) (now (dir .entry)) (now (joined .entry))) cand ⌝ }
+    ensures { λ v. ⌜ v ≡ benchOf (now (incident .entry)) (joinsAt benches (now (low .entry)) (now (high .entry)) (now (dir .entry)) (now (joined .entry))) cand ⌝ }
 {
     let mut left = cand;
     while 0 < left {
         let v = sets::lowest(left);
-        if joining_rock(benches, low, high, here, dir, joined, v) < 64 {
+        if joining_rock(benches, low, high, incident, dir, joined, v) < 64 {
             return v;
         }
         left = sets::after(left, v);
@@ -66,25 +66,25 @@ fn close<'a>(
     i: usize,
     low: &'a [usize],
     high: &'a [usize],
-    here: &'a [usize],
-    near: &'a [usize],
+    incident: &'a [usize],
+    neighbours: &'a [usize],
     cand: usize,
     dir: &'a [usize],
     joined: &mut [usize],
 ) -> usize
-    ensures { λ grown. ⌜ ((b : Board) → (weight : List ℕ) → (dirs : Directions) → (xs : List ℕ) → Rocks b n (now (low .entry)) (now (high .entry)) weight → rocksOf b ≤ 64 → i ≤ b .benches → Here n (now (low .entry)) (now (high .entry)) (now (here .entry)) → Near n (now (low .entry)) (now (high .entry)) (now (near .entry)) → Covers n (now (low .entry)) (now (high .entry)) (joinsAt (n .benches) (now (low .entry)) (now (high .entry)) (now (dir .entry)) (now (joined .entry))) cand → Directed b dirs (now (dir .entry)) → Rounds b xs (now (joined .entry)) → Rounds b (conflictSet (b .benches) b i dirs xs) (now (joined .exit)) × Grew n (now (joined .entry)) (now (joined .exit)) grown × Nowhere n (now (low .entry)) (now (high .entry)) (joinsAt (n .benches) (now (low .entry)) (now (high .entry)) (now (dir .entry)) (now (joined .exit)))) ⌝ }
+    ensures { λ grown. ⌜ ((b : Board) → (weight : List ℕ) → (dirs : Directions) → (xs : List ℕ) → Rocks b n (now (low .entry)) (now (high .entry)) weight → rocksOf b ≤ 64 → i ≤ b .benches → Incident n (now (low .entry)) (now (high .entry)) (now (incident .entry)) → Neighbours n (now (low .entry)) (now (high .entry)) (now (neighbours .entry)) → Covers n (now (low .entry)) (now (high .entry)) (joinsAt (n .benches) (now (low .entry)) (now (high .entry)) (now (dir .entry)) (now (joined .entry))) cand → Directed b dirs (now (dir .entry)) → Rounds b xs (now (joined .entry)) → Rounds b (conflictSet (b .benches) b i dirs xs) (now (joined .exit)) × Grew n (now (joined .entry)) (now (joined .exit)) grown × Nowhere n (now (low .entry)) (now (high .entry)) (joinsAt (n .benches) (now (low .entry)) (now (high .entry)) (now (dir .entry)) (now (joined .exit)))) ⌝ }
 {
     let mut cands = cand;
     let mut grown = 0;
     let mut turns = n.benches;
     while 0 < turns {
-        let v = first_joining(n.benches, low, high, here, cands, dir, joined);
+        let v = first_joining(n.benches, low, high, incident, cands, dir, joined);
         if 63 < v {
             return grown;
         }
         arrays::put(joined, v, i);
         grown = sets::with(grown, v);
-        cands = sets::above(cands, v) | arrays::at(near, v);
+        cands = sets::above(cands, v) | arrays::at(neighbours, v);
         turns -= 1;
     }
     grown
@@ -93,33 +93,33 @@ fn close<'a>(
 // The lowest neutral rock at v where v is in the conflict set, and 64 where there is none.
 fn fake_rock<'a>(
     benches: usize,
-    here: &'a [usize],
+    incident: &'a [usize],
     neutral: usize,
     joined: &'a [usize],
     v: usize,
 ) -> usize
-    ensures { λ r. ⌜ ((n : Limits) → (low : List ℕ) → (high : List ℕ) → (dir : List ℕ) → Here n low high (now (here .entry)) → Neutral n dir neutral → v < 64 → r ≡ rockOf (now (here .entry)) (fakeAt benches dir (now (joined .entry))) v) ⌝ }
+    ensures { λ r. ⌜ ((n : Limits) → (low : List ℕ) → (high : List ℕ) → (dir : List ℕ) → Incident n low high (now (incident .entry)) → Neutral n dir neutral → v < 64 → r ≡ rockOf (now (incident .entry)) (fakeAt benches dir (now (joined .entry))) v) ⌝ }
 {
     if !rocks::within(benches, joined, v) {
         return 64;
     }
-    sets::lowest(sets::common(arrays::at(here, v), neutral))
+    sets::lowest(sets::common(arrays::at(incident, v), neutral))
 }
 
 // The lowest candidate in the conflict set with a neutral rock, and 64 where there is none.
 fn first_fake<'a>(
     benches: usize,
-    here: &'a [usize],
+    incident: &'a [usize],
     fakes: usize,
     neutral: usize,
     joined: &'a [usize],
 ) -> usize
-    ensures { λ v. ⌜ ((n : Limits) → (low : List ℕ) → (high : List ℕ) → (dir : List ℕ) → Here n low high (now (here .entry)) → Neutral n dir neutral → v ≡ benchOf (now (here .entry)) (fakeAt benches dir (now (joined .entry))) fakes) ⌝ }
+    ensures { λ v. ⌜ ((n : Limits) → (low : List ℕ) → (high : List ℕ) → (dir : List ℕ) → Incident n low high (now (incident .entry)) → Neutral n dir neutral → v ≡ benchOf (now (incident .entry)) (fakeAt benches dir (now (joined .entry))) fakes) ⌝ }
 {
     let mut left = fakes;
     while 0 < left {
         let v = sets::lowest(left);
-        if fake_rock(benches, here, neutral, joined, v) < 64 {
+        if fake_rock(benches, incident, neutral, joined, v) < 64 {
             return v;
         }
         left = sets::after(left, v);
@@ -141,8 +141,8 @@ pub fn construct<'a>(
     low: &'a [usize],
     high: &'a [usize],
     weight: &'a [usize],
-    here: &'a [usize],
-    near: &'a [usize],
+    incident: &'a [usize],
+    neighbours: &'a [usize],
     cand: usize,
     fakes: usize,
     before: usize,
@@ -150,7 +150,7 @@ pub fn construct<'a>(
     load: &mut [usize],
     joined: &mut [usize],
 ) -> Grown
-    ensures { λ grown. ⌜ ((b : Board) → (dirs : Directions) → (xs : List ℕ) → Rocks b n (now (low .entry)) (now (high .entry)) (now (weight .entry)) → rocksOf b ≤ 64 → i ≤ b .benches → Here n (now (low .entry)) (now (high .entry)) (now (here .entry)) → Near n (now (low .entry)) (now (high .entry)) (now (near .entry)) → Neutral n (now (dir .entry)) before → Covers n (now (low .entry)) (now (high .entry)) (joinsAt (n .benches) (now (low .entry)) (now (high .entry)) (now (dir .entry)) (now (joined .entry))) cand → Covers n (now (low .entry)) (now (high .entry)) (fakeAt (n .benches) (now (dir .entry)) (now (joined .entry))) fakes → Nowhere n (now (low .entry)) (now (high .entry)) (forcesAt (n .bound) (now (weight .entry)) (now (dir .entry)) (now (load .entry))) → Seen b dirs (now (dir .entry)) (now (load .entry)) → Rounds b xs (now (joined .entry)) → Built b (constructed (b .jobs) b i dirs xs) (now (dir .exit)) (now (load .exit)) (now (joined .exit)) × Grew n (now (joined .entry)) (now (joined .exit)) (grown .benches) × Nowhere n (now (low .entry)) (now (high .entry)) (joinsAt (n .benches) (now (low .entry)) (now (high .entry)) (now (dir .exit)) (now (joined .exit))) × Nowhere n (now (low .entry)) (now (high .entry)) (fakeAt (n .benches) (now (dir .exit)) (now (joined .exit))) × Nowhere n (now (low .entry)) (now (high .entry)) (forcesAt (n .bound) (now (weight .entry)) (now (dir .exit)) (now (load .exit))) × Neutral n (now (dir .exit)) (grown .neutral)) ⌝ }
+    ensures { λ grown. ⌜ ((b : Board) → (dirs : Directions) → (xs : List ℕ) → Rocks b n (now (low .entry)) (now (high .entry)) (now (weight .entry)) → rocksOf b ≤ 64 → i ≤ b .benches → Incident n (now (low .entry)) (now (high .entry)) (now (incident .entry)) → Neighbours n (now (low .entry)) (now (high .entry)) (now (neighbours .entry)) → Neutral n (now (dir .entry)) before → Covers n (now (low .entry)) (now (high .entry)) (joinsAt (n .benches) (now (low .entry)) (now (high .entry)) (now (dir .entry)) (now (joined .entry))) cand → Covers n (now (low .entry)) (now (high .entry)) (fakeAt (n .benches) (now (dir .entry)) (now (joined .entry))) fakes → Nowhere n (now (low .entry)) (now (high .entry)) (forcesAt (n .bound) (now (weight .entry)) (now (dir .entry)) (now (load .entry))) → Seen b dirs (now (dir .entry)) (now (load .entry)) → Rounds b xs (now (joined .entry)) → Built b (constructed (b .jobs) b i dirs xs) (now (dir .exit)) (now (load .exit)) (now (joined .exit)) × Grew n (now (joined .entry)) (now (joined .exit)) (grown .benches) × Nowhere n (now (low .entry)) (now (high .entry)) (joinsAt (n .benches) (now (low .entry)) (now (high .entry)) (now (dir .exit)) (now (joined .exit))) × Nowhere n (now (low .entry)) (now (high .entry)) (fakeAt (n .benches) (now (dir .exit)) (now (joined .exit))) × Nowhere n (now (low .entry)) (now (high .entry)) (forcesAt (n .bound) (now (weight .entry)) (now (dir .exit)) (now (load .exit))) × Neutral n (now (dir .exit)) (grown .neutral)) ⌝ }
 {
     let mut joining = cand;
     let mut faking = fakes;
@@ -158,17 +158,17 @@ pub fn construct<'a>(
     let mut grown = 0;
     let mut turns = n.jobs;
     while 0 < turns {
-        let more = close(n, i, low, high, here, near, joining, dir, joined);
+        let more = close(n, i, low, high, incident, neighbours, joining, dir, joined);
         grown = grown | more;
         faking = faking | more;
-        let v = first_fake(n.benches, here, faking, neutral, joined);
+        let v = first_fake(n.benches, incident, faking, neutral, joined);
         if 63 < v {
             return Grown {
                 benches: grown,
                 neutral: neutral,
             };
         }
-        let r = fake_rock(n.benches, here, neutral, joined, v);
+        let r = fake_rock(n.benches, incident, neutral, joined, v);
         let u = rocks::direct(low, high, weight, dir, load, r, v);
         neutral = sets::less(neutral, sets::with(0, r));
         let f = forced::force(
@@ -176,7 +176,7 @@ pub fn construct<'a>(
             low,
             high,
             weight,
-            here,
+            incident,
             sets::with(0, u),
             neutral,
             dir,
@@ -187,7 +187,7 @@ pub fn construct<'a>(
         faking = sets::with(sets::above(faking, v), v);
         turns -= 1;
     }
-    let more = close(n, i, low, high, here, near, joining, dir, joined);
+    let more = close(n, i, low, high, incident, neighbours, joining, dir, joined);
     Grown {
         benches: grown | more,
         neutral: neutral,

@@ -4,4 +4,4 @@ mod conflict;
 mod rounds;
 
 pub use rounds::explore;
-pub use rounds::fill_from;
+pub use rounds::fill_reach;

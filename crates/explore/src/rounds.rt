@@ -22,31 +22,31 @@ fn add_pebble<'a>(
     pebble: &'a [bool],
     allowed: &'a [usize],
     place: &'a [usize],
-    from: &mut [usize],
+    reach: &mut [usize],
     j: usize,
 )
-    ensures { λ _. ⌜ now (from .exit) ≡ addedAt (now (pebble .entry)) (now (allowed .entry)) (now (place .entry)) (now (from .entry)) j ⌝ }
+    ensures { λ _. ⌜ now (reach .exit) ≡ addedAt (now (pebble .entry)) (now (allowed .entry)) (now (place .entry)) (now (reach .entry)) j ⌝ }
 {
     if arrays::holds(pebble, j) {
         let u = arrays::at(place, j);
-        let set = arrays::at(from, u) | arrays::at(allowed, j);
-        arrays::put(from, u, set);
+        let set = arrays::at(reach, u) | arrays::at(allowed, j);
+        arrays::put(reach, u, set);
     }
 }
 
 // Entry u: the benches that a pebble on u allows, as a set.
-pub fn fill_from<'a>(
+pub fn fill_reach<'a>(
     n: Limits,
     pebble: &'a [bool],
     allowed: &'a [usize],
     place: &'a [usize],
-    from: &mut [usize],
+    reach: &mut [usize],
 )
-    ensures { λ _. ⌜ ((b : Board) → n .jobs ≡ b .jobs → b .benches ≤ 64 → Pebbles b (now (pebble .entry)) (now (allowed .entry)) (now (place .entry)) → now (from .entry) ≡ replicate 64 0 → Reaches b (now (from .exit))) ⌝ }
+    ensures { λ _. ⌜ ((b : Board) → n .jobs ≡ b .jobs → b .benches ≤ 64 → Pebbles b (now (pebble .entry)) (now (allowed .entry)) (now (place .entry)) → now (reach .entry) ≡ replicate 64 0 → Reaches b (now (reach .exit))) ⌝ }
 {
     let mut j = 0;
     while j < n.jobs {
-        add_pebble(pebble, allowed, place, from, j);
+        add_pebble(pebble, allowed, place, reach, j);
         j += 1;
     }
 }
@@ -70,15 +70,15 @@ fn opening<'a>(
     i: usize,
     all: usize,
     active: usize,
-    reach: usize,
+    reached: usize,
     load: &'a [usize],
 ) -> usize
-    ensures { λ r. ⌜ ((v : ℕ) → v < 64 → isSet 64 r v ≡ opensAt n i all active reach (now (load .entry)) v) ⌝ }
+    ensures { λ r. ⌜ ((v : ℕ) → v < 64 → isSet 64 r v ≡ opensAt n i all active reached (now (load .entry)) v) ⌝ }
 {
     if i == 0 {
         return overloaded(n, load);
     }
-    sets::common(all, sets::less(reach, active))
+    sets::common(all, sets::less(reached, active))
 }
 
 // Bench v joins the conflict set in round i, unless it is in it.
@@ -109,14 +109,14 @@ fn open_round<'a>(
     i: usize,
     all: usize,
     active: usize,
-    reach: usize,
+    reached: usize,
     load: &'a [usize],
     joined: &mut [usize],
     level: &mut [usize],
 ) -> usize
-    ensures { λ r. ⌜ ((v : ℕ) → v < 64 → isSet 64 r v ≡ opensAt n i all active reach (now (load .entry)) v) × ((v : ℕ) → v < length (now (joined .entry)) → v < 64 → getD (now (joined .exit)) v 0 ≡ cond (isSet 64 r v && not (withinAt (n .benches) (now (joined .entry)) v)) i (getD (now (joined .entry)) v 0)) × ((v : ℕ) → v < length (now (level .entry)) → getD (now (level .exit)) v 0 ≡ cond (ltb v 64 && isSet 64 r v) i (getD (now (level .entry)) v 0)) ⌝ }
+    ensures { λ r. ⌜ ((v : ℕ) → v < 64 → isSet 64 r v ≡ opensAt n i all active reached (now (load .entry)) v) × ((v : ℕ) → v < length (now (joined .entry)) → v < 64 → getD (now (joined .exit)) v 0 ≡ cond (isSet 64 r v && not (withinAt (n .benches) (now (joined .entry)) v)) i (getD (now (joined .entry)) v 0)) × ((v : ℕ) → v < length (now (level .entry)) → getD (now (level .exit)) v 0 ≡ cond (ltb v 64 && isSet 64 r v) i (getD (now (level .entry)) v 0)) ⌝ }
 {
-    let opened = opening(n, i, all, active, reach, load);
+    let opened = opening(n, i, all, active, reached, load);
     enter_all(n.benches, i, opened, joined, level);
     opened
 }
@@ -129,12 +129,12 @@ pub fn explore<'a>(
     low: &'a [usize],
     high: &'a [usize],
     weight: &'a [usize],
-    here: &'a [usize],
-    near: &'a [usize],
+    incident: &'a [usize],
+    neighbours: &'a [usize],
     all: usize,
-    stony: usize,
+    touched: usize,
     own: &'a [usize],
-    from: &'a [usize],
+    reach: &'a [usize],
     dir: &mut [usize],
     load: &mut [usize],
     joined: &mut [usize],
@@ -142,8 +142,8 @@ pub fn explore<'a>(
 ) -> usize
     ensures { λ r. ⌜ ((b : Board)
         → Rocks b n (now (low .entry)) (now (high .entry)) (now (weight .entry))
-        → Mapped n (now (low .entry)) (now (high .entry)) (now (here .entry)) (now (near .entry)) all stony
-        → Owned b (now (own .entry)) → Reaches b (now (from .entry)) → rocksOf b ≤ 64 → length (now (own .entry)) ≡ 64
+        → Mapped n (now (low .entry)) (now (high .entry)) (now (incident .entry)) (now (neighbours .entry)) all touched
+        → Owned b (now (own .entry)) → Reaches b (now (reach .entry)) → rocksOf b ≤ 64 → length (now (own .entry)) ≡ 64
         → now (dir .entry) ≡ replicate 64 0 → now (load .entry) ≡ now (own .entry)
         → now (joined .entry) ≡ replicate 64 (plusOf (n .benches) 1)
         → now (level .entry) ≡ replicate 64 (plusOf (n .benches) 1)
@@ -151,7 +151,17 @@ pub fn explore<'a>(
         × ShowsActive b (explored b) r) ⌝ }
 {
     let all_rocks = sets::everywhere(n.rocks);
-    let f = forced::force(n, low, high, weight, here, stony, all_rocks, dir, load);
+    let f = forced::force(
+        n,
+        low,
+        high,
+        weight,
+        incident,
+        touched,
+        all_rocks,
+        dir,
+        load,
+    );
     let mut neutral = f.neutral;
     let turns = arrays::plus(n.benches, 1);
     let mut active = 0;
@@ -160,22 +170,22 @@ pub fn explore<'a>(
     let mut i = 0;
     while i < turns {
         let rest = sets::less(all, active);
-        let reach = sets::reach_of(from, fresh, rest);
-        let opened = open_round(n, i, all, active, reach, load, joined, level);
+        let reached = sets::reach_of(reach, fresh, rest);
+        let opened = open_round(n, i, all, active, reached, load, joined, level);
         if opened == 0 {
             return active;
         }
-        let cand = sets::reach_of(near, opened, stony);
+        let cand = sets::reach_of(neighbours, opened, touched);
         let grown = conflict::construct(
             n,
             i,
             low,
             high,
             weight,
-            here,
-            near,
+            incident,
+            neighbours,
             cand,
-            sets::common(opened, stony),
+            sets::common(opened, touched),
             neutral,
             dir,
             load,
@@ -189,7 +199,7 @@ pub fn explore<'a>(
             low,
             high,
             weight,
-            here,
+            incident,
             asked,
             own,
             dir,

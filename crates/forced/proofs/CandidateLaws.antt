@@ -24,7 +24,7 @@ use Rattle.algorithm.specs.Board.{Board}
 use Rattle.sets.specs.Sets.{lowestOf}
 use Rattle.rocks.specs.RockArrays.{lowestEnd, touchesAt}
 use Rattle.rocks.specs.BoardArrays.{rocksOf, Rocks}
-use Rattle.rocks.specs.Neighbours.{Here}
+use Rattle.rocks.specs.Neighbours.{Incident}
 use Rattle.forced.specs.SetArrays.{Covers, Nowhere}
 use Rattle.forced.specs.CandidateArrays.{someRock, rockOf, benchOf, Left}
 use Rattle.sets.proofs.SetRun.{Searched, searched-found, searched-none}
@@ -69,7 +69,7 @@ module _ (here : List ℕ) (P : ℕ → ℕ → Bool) where
 
 -- ── what they find ──
 
-module _ (n : Limits) (low high here : List ℕ) (H : Here n low high here) (few : n .rocks ≤ 64)
+module _ (n : Limits) (low high here : List ℕ) (H : Incident n low high here) (few : n .rocks ≤ 64)
     (ends : (r : ℕ) → r < n .rocks → (getD low r 0 < n .benches) × (getD high r 0 < n .benches)) (narrow : n .benches ≤ 64) (P : ℕ → ℕ → Bool) where
   abbrev meets : ℕ → ℕ → Bool
   meets v r = touchesAt low high r v && P r v

@@ -24,7 +24,7 @@ use Rattle.arrays.specs.Arrays.{plusOf}
 use Rattle.rocks.specs.RockArrays.{touchesAt, otherAt}
 use Rattle.forced.specs.SetArrays.{forcedAt, forcesAt, Covers, Nowhere, Tails}
 use Rattle.rocks.specs.BoardArrays.{rocksOf, rockAt, Rocks, Seen}
-use Rattle.rocks.specs.Neighbours.{Here}
+use Rattle.rocks.specs.Neighbours.{Incident}
 use Rattle.forced.specs.CandidateArrays.{Neutral, rockOf, benchOf, Left, CoversBut}
 use Rattle.sets.proofs.SetLaws.{or-isSet}
 use Rattle.forced.proofs.CandidateLaws.{covers-left, rock-ends, few-rocks, few-benches, nowhere}
@@ -33,7 +33,7 @@ use Rattle.forced.proofs.ForcedRun.{Inner, inner-starts, inner-next, in
 use Rattle.rocks.proofs.BoardLaws.{directs-seen}
 use Rattle.forced.proofs.ForcedSets.{Inside, forces-marked, forced-marked, forced-forces, bench-same, left-same, search-found, search-none, bench-below, other-near, forces-after, tails-next, nowhere-forced}
 
-module _ (b : Board) (n : Limits) (low high weight : List ℕ) (R : Rocks b n low high weight) (here : List ℕ) (few : rocksOf b ≤ 64) (H : Here n low high here) where
+module _ (b : Board) (n : Limits) (low high weight : List ℕ) (R : Rocks b n low high weight) (here : List ℕ) (few : rocksOf b ≤ 64) (H : Incident n low high here) where
   -- ── the inner loop ──
 
   module _ (dirs : Directions) (first watch : ℕ) (dir₀ : List ℕ) (tails₀ : ℕ) where

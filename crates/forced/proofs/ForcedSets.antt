@@ -28,7 +28,7 @@ use Rattle.arrays.specs.Arrays.{plusOf}
 use Rattle.rocks.specs.RockArrays.{lowestEnd, touchesAt, otherAt}
 use Rattle.forced.specs.SetArrays.{forcedAt, forcesAt, Covers, Nowhere, Tails}
 use Rattle.rocks.specs.BoardArrays.{rocksOf, rockAt, Rocks, Seen}
-use Rattle.rocks.specs.Neighbours.{Here}
+use Rattle.rocks.specs.Neighbours.{Incident}
 use Rattle.forced.specs.CandidateArrays.{someRock, rockOf, benchOf, Left}
 use Rattle.rocks.proofs.ScanLaws.{rock-below, rock-holds, touches-at}
 use Rattle.forced.proofs.CandidateLaws.{rock-met, first-rock, candidate-below, candidate-some, candidate-lowest, candidate-none, rock-ends, few-rocks, few-benches}
@@ -112,7 +112,7 @@ module _ (b : Board) (n : Limits) (low high weight : List ℕ) (R : Rocks b n lo
     pub touched : touchesAt low high r v ≡ true
     pub near : v < 64
 
-  module _ (here : List ℕ) (few : rocksOf b ≤ 64) (H : Here n low high here) (dir loads : List ℕ) (marked : List Bool) (cand : ℕ)
+  module _ (here : List ℕ) (few : rocksOf b ≤ 64) (H : Incident n low high here) (dir loads : List ℕ) (marked : List Bool) (cand : ℕ)
       (C : Covers n low high (forcedAt (n .bound) weight dir loads marked) cand) (I : Inside cand marked) (v : ℕ)
       (e : v ≡ benchOf here (forcesAt (n .bound) weight dir loads) cand) where
     abbrev P : ℕ → ℕ → Bool

@@ -25,7 +25,7 @@ use Rattle.rocks.specs.declared.rocks.Limits.{Limits}
 use Rattle.sets.specs.Sets.{lowestOf}
 use Rattle.arrays.specs.Arrays.{plusOf}
 use Rattle.rocks.specs.RockArrays.{touchesAt}
-use Rattle.rocks.specs.Neighbours.{Here}
+use Rattle.rocks.specs.Neighbours.{Incident}
 use Rattle.forced.specs.SetArrays.{forcesAt}
 use Rattle.forced.specs.CandidateArrays.{Neutral, rockOf}
 use Rattle.sets.proofs.SetRun.{Searched, searched-found, searched-none}
@@ -47,7 +47,7 @@ exceedsAt bound weight load v r = ltb bound (getD load v 0 + getD weight r 0)
 
 -- ── the neutral rocks at a bench ──
 
-module _ (n : Limits) (low high dir here : List ℕ) (neutral : ℕ) (H : Here n low high here) (N : Neutral n dir neutral) (v : ℕ) (hv : v < 64) (set : ℕ)
+module _ (n : Limits) (low high dir here : List ℕ) (neutral : ℕ) (H : Incident n low high here) (N : Neutral n dir neutral) (v : ℕ) (hv : v < 64) (set : ℕ)
     (both : BothOf set (getD here v 0) neutral) where
   -- A rock of the set is one at v that is not directed.
   free-rock : (g : ℕ → Bool) (r : ℕ) → r < 64 → (isSet 64 set r && g r) ≡ (isSet 64 (getD here v 0) r && (eqb (getD dir r 0) 0 && g r))

@@ -1,8 +1,8 @@
 -- A search through a set of benches, the lowest first, and at each through the rocks there.
---     someRock here P v      a rock of entry v of here meets P at v
---     rockOf here P v        the lowest such rock, and 64 where there is none
---     benchOf here P cand    the lowest bench of cand with such a rock, and 64 where there is none
---     Left here P cand left  cand without some benches that have no such rock
+--     someRock incident P v      a rock of entry v of incident meets P at v
+--     rockOf incident P v        the lowest such rock, and 64 where there is none
+--     benchOf incident P cand    the lowest bench of cand with such a rock, and 64 where there is none
+--     Left incident P cand left  cand without some benches that have no such rock
 --     CoversBut n low high P set u     the set has every bench but u at which a rock meets P
 --     Neutral n dir neutral  the rocks that are not directed, as a set
 use Prim.Native.Nat.{ℕ, _<_}
@@ -17,17 +17,17 @@ use Rattle.rocks.specs.declared.rocks.Limits.{Limits}
 use Rattle.rocks.specs.RockArrays.{touchesAt}
 
 unfoldable pub someRock : List ℕ → (ℕ → ℕ → Bool) → ℕ → Bool
-someRock here P v = any 64 (λ r. isSet 64 (getD here v 0) r && P r v)
+someRock incident P v = any 64 (λ r. isSet 64 (getD incident v 0) r && P r v)
 
 unfoldable pub rockOf : List ℕ → (ℕ → ℕ → Bool) → ℕ → ℕ
-rockOf here P v = least 64 (λ r. isSet 64 (getD here v 0) r && P r v)
+rockOf incident P v = least 64 (λ r. isSet 64 (getD incident v 0) r && P r v)
 
 unfoldable pub benchOf : List ℕ → (ℕ → ℕ → Bool) → ℕ → ℕ
-benchOf here P cand = least 64 (λ v. isSet 64 cand v && someRock here P v)
+benchOf incident P cand = least 64 (λ v. isSet 64 cand v && someRock incident P v)
 
-pub record Left (here : List ℕ) (P : ℕ → ℕ → Bool) (cand left : ℕ) : Type 0 where
+pub record Left (incident : List ℕ) (P : ℕ → ℕ → Bool) (cand left : ℕ) : Type 0 where
   pub inside : (u : ℕ) → u < 64 → isSet 64 left u ≡ true → isSet 64 cand u ≡ true
-  pub passed : (u : ℕ) → u < 64 → isSet 64 cand u ≡ true → isSet 64 left u ≡ false → someRock here P u ≡ false
+  pub passed : (u : ℕ) → u < 64 → isSet 64 cand u ≡ true → isSet 64 left u ≡ false → someRock incident P u ≡ false
 
 -- The set has every bench but u at which a rock meets P.
 abbrev pub CoversBut : Limits → List ℕ → List ℕ → (ℕ → ℕ → Bool) → ℕ → ℕ → Type 0

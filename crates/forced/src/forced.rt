@@ -9,7 +9,7 @@ ghost use Rattle.algorithm.specs.Board.{Board, Directions};
 ghost use Rattle.algorithm.specs.Forced.{inner, nobody, forcedOrientations};
 ghost use Rattle.rocks.specs.BoardArrays.{rocksOf, Rocks, Seen};
 ghost use Rattle.forced.specs.SetArrays.{forcesAt, Covers, Nowhere, Tails};
-ghost use Rattle.rocks.specs.Neighbours.{Here};
+ghost use Rattle.rocks.specs.Neighbours.{Incident};
 ghost use Rattle.forced.specs.CandidateArrays.{Neutral, rockOf, benchOf, Left, CoversBut};
 
 // A bench and a rock at it, and the candidates that are left.
@@ -36,14 +36,14 @@ pub struct Forced {
 fn forced_rock<'a>(
     bound: usize,
     weight: &'a [usize],
-    here: &'a [usize],
+    incident: &'a [usize],
     neutral: usize,
     load: &'a [usize],
     v: usize,
 ) -> usize
-    ensures { λ r. ⌜ ((n : Limits) → (low : List ℕ) → (high : List ℕ) → (dir : List ℕ) → Here n low high (now (here .entry)) → Neutral n dir neutral → v < 64 → r ≡ rockOf (now (here .entry)) (forcesAt bound (now (weight .entry)) dir (now (load .entry))) v) ⌝ }
+    ensures { λ r. ⌜ ((n : Limits) → (low : List ℕ) → (high : List ℕ) → (dir : List ℕ) → Incident n low high (now (incident .entry)) → Neutral n dir neutral → v < 64 → r ≡ rockOf (now (incident .entry)) (forcesAt bound (now (weight .entry)) dir (now (load .entry))) v) ⌝ }
 {
-    let mut left = sets::common(arrays::at(here, v), neutral);
+    let mut left = sets::common(arrays::at(incident, v), neutral);
     while 0 < left {
         let r = sets::lowest(left);
         if arrays::exceeds(bound, arrays::at(load, v), arrays::at(weight, r)) {
@@ -58,17 +58,17 @@ fn forced_rock<'a>(
 fn first_forcing<'a>(
     bound: usize,
     weight: &'a [usize],
-    here: &'a [usize],
+    incident: &'a [usize],
     neutral: usize,
     load: &'a [usize],
     cand: usize,
 ) -> Found
-    ensures { λ f. ⌜ ((n : Limits) → (low : List ℕ) → (high : List ℕ) → (dir : List ℕ) → Here n low high (now (here .entry)) → Neutral n dir neutral → (f .bench ≡ benchOf (now (here .entry)) (forcesAt bound (now (weight .entry)) dir (now (load .entry))) cand) × (f .bench < 64 → (f .rock < 64) × (f .rock ≡ rockOf (now (here .entry)) (forcesAt bound (now (weight .entry)) dir (now (load .entry))) (f .bench))) × Left (now (here .entry)) (forcesAt bound (now (weight .entry)) dir (now (load .entry))) cand (f .left)) ⌝ }
+    ensures { λ f. ⌜ ((n : Limits) → (low : List ℕ) → (high : List ℕ) → (dir : List ℕ) → Incident n low high (now (incident .entry)) → Neutral n dir neutral → (f .bench ≡ benchOf (now (incident .entry)) (forcesAt bound (now (weight .entry)) dir (now (load .entry))) cand) × (f .bench < 64 → (f .rock < 64) × (f .rock ≡ rockOf (now (incident .entry)) (forcesAt bound (now (weight .entry)) dir (now (load .entry))) (f .bench))) × Left (now (incident .entry)) (forcesAt bound (now (weight .entry)) dir (now (load .entry))) cand (f .left)) ⌝ }
 {
     let mut left = cand;
     while 0 < left {
         let v = sets::lowest(left);
-        let r = forced_rock(bound, weight, here, neutral, load, v);
+        let r = forced_rock(bound, weight, incident, neutral, load, v);
         if r < 64 {
             return Found {
                 bench: v,
@@ -91,21 +91,21 @@ fn force_marked<'a>(
     low: &'a [usize],
     high: &'a [usize],
     weight: &'a [usize],
-    here: &'a [usize],
-    from: Sources,
+    incident: &'a [usize],
+    sources: Sources,
     dir: &mut [usize],
     load: &mut [usize],
     first: usize,
 ) -> Sources
-    ensures { λ s. ⌜ ((b : Board) → (dirs : Directions) → Rocks b n (now (low .entry)) (now (high .entry)) (now (weight .entry)) → rocksOf b ≤ 64 → Here n (now (low .entry)) (now (high .entry)) (now (here .entry)) → Neutral n (now (dir .entry)) (from .neutral) → CoversBut n (now (low .entry)) (now (high .entry)) (forcesAt (n .bound) (now (weight .entry)) (now (dir .entry)) (now (load .entry))) (from .watch) first → first < 64 → Seen b dirs (now (dir .entry)) (now (load .entry)) → Seen b (inner (b .jobs) b dirs (set (nobody b) first true)) (now (dir .exit)) (now (load .exit)) × Covers n (now (low .entry)) (now (high .entry)) (forcesAt (n .bound) (now (weight .entry)) (now (dir .exit)) (now (load .exit))) (s .watch) × ((dir₀ : List ℕ) → Tails n (now (low .entry)) (now (high .entry)) dir₀ (now (dir .entry)) (from .tails) → Tails n (now (low .entry)) (now (high .entry)) dir₀ (now (dir .exit)) (s .tails)) × Neutral n (now (dir .exit)) (s .neutral)) ⌝ }
+    ensures { λ s. ⌜ ((b : Board) → (dirs : Directions) → Rocks b n (now (low .entry)) (now (high .entry)) (now (weight .entry)) → rocksOf b ≤ 64 → Incident n (now (low .entry)) (now (high .entry)) (now (incident .entry)) → Neutral n (now (dir .entry)) (sources .neutral) → CoversBut n (now (low .entry)) (now (high .entry)) (forcesAt (n .bound) (now (weight .entry)) (now (dir .entry)) (now (load .entry))) (sources .watch) first → first < 64 → Seen b dirs (now (dir .entry)) (now (load .entry)) → Seen b (inner (b .jobs) b dirs (set (nobody b) first true)) (now (dir .exit)) (now (load .exit)) × Covers n (now (low .entry)) (now (high .entry)) (forcesAt (n .bound) (now (weight .entry)) (now (dir .exit)) (now (load .exit))) (s .watch) × ((dir₀ : List ℕ) → Tails n (now (low .entry)) (now (high .entry)) dir₀ (now (dir .entry)) (sources .tails) → Tails n (now (low .entry)) (now (high .entry)) dir₀ (now (dir .exit)) (s .tails)) × Neutral n (now (dir .exit)) (s .neutral)) ⌝ }
 {
-    let watch = from.watch;
-    let mut tails = from.tails;
-    let mut neutral = from.neutral;
+    let watch = sources.watch;
+    let mut tails = sources.tails;
+    let mut neutral = sources.neutral;
     let mut cand = sets::with(0, first);
     let mut turns = n.jobs;
     while 0 < turns {
-        let f = first_forcing(n.bound, weight, here, neutral, load, cand);
+        let f = first_forcing(n.bound, weight, incident, neutral, load, cand);
         if f.bench == 64 {
             return Sources {
                 watch: watch,
@@ -132,20 +132,20 @@ pub fn force<'a>(
     low: &'a [usize],
     high: &'a [usize],
     weight: &'a [usize],
-    here: &'a [usize],
+    incident: &'a [usize],
     watch: usize,
     before: usize,
     dir: &mut [usize],
     load: &mut [usize],
 ) -> Forced
-    ensures { λ t. ⌜ ((b : Board) → (dirs : Directions) → Rocks b n (now (low .entry)) (now (high .entry)) (now (weight .entry)) → rocksOf b ≤ 64 → Here n (now (low .entry)) (now (high .entry)) (now (here .entry)) → Neutral n (now (dir .entry)) before → Covers n (now (low .entry)) (now (high .entry)) (forcesAt (n .bound) (now (weight .entry)) (now (dir .entry)) (now (load .entry))) watch → Seen b dirs (now (dir .entry)) (now (load .entry)) → Seen b (forcedOrientations b dirs) (now (dir .exit)) (now (load .exit)) × Tails n (now (low .entry)) (now (high .entry)) (now (dir .entry)) (now (dir .exit)) (t .tails) × Nowhere n (now (low .entry)) (now (high .entry)) (forcesAt (n .bound) (now (weight .entry)) (now (dir .exit)) (now (load .exit))) × Neutral n (now (dir .exit)) (t .neutral)) ⌝ }
+    ensures { λ t. ⌜ ((b : Board) → (dirs : Directions) → Rocks b n (now (low .entry)) (now (high .entry)) (now (weight .entry)) → rocksOf b ≤ 64 → Incident n (now (low .entry)) (now (high .entry)) (now (incident .entry)) → Neutral n (now (dir .entry)) before → Covers n (now (low .entry)) (now (high .entry)) (forcesAt (n .bound) (now (weight .entry)) (now (dir .entry)) (now (load .entry))) watch → Seen b dirs (now (dir .entry)) (now (load .entry)) → Seen b (forcedOrientations b dirs) (now (dir .exit)) (now (load .exit)) × Tails n (now (low .entry)) (now (high .entry)) (now (dir .entry)) (now (dir .exit)) (t .tails) × Nowhere n (now (low .entry)) (now (high .entry)) (forcesAt (n .bound) (now (weight .entry)) (now (dir .exit)) (now (load .exit))) × Neutral n (now (dir .exit)) (t .neutral)) ⌝ }
 {
     let mut left = watch;
     let mut tails = 0;
     let mut neutral = before;
     let mut turns = n.jobs;
     while 0 < turns {
-        let f = first_forcing(n.bound, weight, here, neutral, load, left);
+        let f = first_forcing(n.bound, weight, incident, neutral, load, left);
         if f.bench == 64 {
             return Forced {
                 tails: tails,
@@ -160,7 +160,7 @@ pub fn force<'a>(
             low,
             high,
             weight,
-            here,
+            incident,
             Sources {
                 watch: f.left,
                 tails: tails,

@@ -12,7 +12,7 @@ ghost use Rattle.push.specs.KeptArrays.{shiftedOf, liesAt, ReachShifted}
 // The loads besides the rocks, and the benches in reach of each bench.
 pub struct Kept {
     pub own: [usize; 64],
-    pub from: [usize; 64],
+    pub reach: [usize; 64],
 }
 
 // Weight w leaves bench u and comes to bench v.
@@ -57,23 +57,23 @@ fn shift_reach<'a>(
     jobs: usize,
     choice: &'a [usize],
     place: &'a [u8],
-    from: &mut [usize],
+    reach: &mut [usize],
     u: usize,
     v: usize,
     j: usize,
 )
-    ensures { λ _. ⌜ ReachShifted jobs (now (choice .entry)) (now (place .entry)) (now (from .entry)) u v j (now (from .exit)) ⌝ }
+    ensures { λ _. ⌜ ReachShifted jobs (now (choice .entry)) (now (place .entry)) (now (reach .entry)) u v j (now (reach .exit)) ⌝ }
 {
-    let there = reach_from(jobs, choice, place, u, arrays::at(from, u));
-    let more = arrays::at(from, v) | arrays::at(choice, j);
-    arrays::put(from, v, more);
-    arrays::put(from, u, there);
+    let there = reach_from(jobs, choice, place, u, arrays::at(reach, u));
+    let more = arrays::at(reach, v) | arrays::at(choice, j);
+    arrays::put(reach, v, more);
+    arrays::put(reach, u, there);
 }
 
 // Both, after job j left bench u and came to bench v, where it is now.
 pub fn shifted<'a>(
     own: [usize; 64],
-    from: [usize; 64],
+    reach: [usize; 64],
     jobs: usize,
     amount: &'a [usize],
     choice: &'a [usize],
@@ -82,14 +82,14 @@ pub fn shifted<'a>(
     v: usize,
     j: usize,
 ) -> Kept
-    ensures { λ r. ⌜ (length own ≡ 64) × (length from ≡ 64) × (r .own ≡ shiftedOf own u v (getD (now (amount .entry)) j 0)) × ReachShifted jobs (now (choice .entry)) (now (place .entry)) from u v j (r .from) ⌝ }
+    ensures { λ r. ⌜ (length own ≡ 64) × (length reach ≡ 64) × (r .own ≡ shiftedOf own u v (getD (now (amount .entry)) j 0)) × ReachShifted jobs (now (choice .entry)) (now (place .entry)) reach u v j (r .reach) ⌝ }
 {
     let mut loads = own;
     shift_load(&mut loads, u, v, arrays::at(amount, j));
-    let mut reach = from;
-    shift_reach(jobs, choice, place, &mut reach, u, v, j);
+    let mut next = reach;
+    shift_reach(jobs, choice, place, &mut next, u, v, j);
     Kept {
         own: loads,
-        from: reach,
+        reach: next,
     }
 }

@@ -2,7 +2,7 @@ pub mod RockLaws
 pub mod BalanceRun
 pub mod ComponentRun
 pub mod BoardLaws
-pub mod HereLaws
+pub mod NeighbourLaws
 pub mod MarkLaws
 pub mod ScanLaws
 pub mod SpreadRun

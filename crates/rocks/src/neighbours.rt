@@ -8,7 +8,7 @@ ghost use Rattle.bits.specs.Bits.{isSet};
 ghost use Rattle.rocks.specs.declared.rocks.Limits.{Limits};
 ghost use lib.ListN.{length, getD, replicate};
 ghost use Rattle.rocks.specs.RockArrays.{otherAt};
-ghost use Rattle.rocks.specs.Neighbours.{Here, Near};
+ghost use Rattle.rocks.specs.Neighbours.{Incident, Neighbours};
 ghost use lib.Dec.{eqb};
 
 // The other ends of the rocks of a set, which are at bench v.
@@ -26,32 +26,37 @@ fn others<'a>(low: &'a [usize], high: &'a [usize], set: usize, v: usize) -> usiz
 }
 
 // Entry v becomes the set of the other ends of the rocks at bench v.
-pub fn fill_near<'a>(low: &'a [usize], high: &'a [usize], here: &'a [usize], near: &mut [usize])
-    ensures { λ _. ⌜ ((n : Limits) → Here n (now (low .entry)) (now (high .entry)) (now (here .entry)) → length (now (near .entry)) ≡ 64 → Near n (now (low .entry)) (now (high .entry)) (now (near .exit))) ⌝ }
+pub fn fill_neighbours<'a>(
+    low: &'a [usize],
+    high: &'a [usize],
+    incident: &'a [usize],
+    neighbours: &mut [usize],
+)
+    ensures { λ _. ⌜ ((n : Limits) → Incident n (now (low .entry)) (now (high .entry)) (now (incident .entry)) → length (now (neighbours .entry)) ≡ 64 → Neighbours n (now (low .entry)) (now (high .entry)) (now (neighbours .exit))) ⌝ }
 {
     let mut v = 0;
     while v < 64 {
-        let ends = others(low, high, arrays::at(here, v), v);
-        arrays::put(near, v, ends);
+        let ends = others(low, high, arrays::at(incident, v), v);
+        arrays::put(neighbours, v, ends);
         v += 1;
     }
 }
 
 // Entry v gets r.
-fn add_rock(here: &mut [usize], v: usize, r: usize)
-    ensures { λ _. ⌜ ((w u : ℕ) → w < length (now (here .entry)) → u < 64 → isSet 64 (getD (now (here .exit)) w 0) u ≡ (isSet 64 (getD (now (here .entry)) w 0) u || (eqb w v && eqb u r))) ⌝ }
+fn add_rock(incident: &mut [usize], v: usize, r: usize)
+    ensures { λ _. ⌜ ((w u : ℕ) → w < length (now (incident .entry)) → u < 64 → isSet 64 (getD (now (incident .exit)) w 0) u ≡ (isSet 64 (getD (now (incident .entry)) w 0) u || (eqb w v && eqb u r))) ⌝ }
 {
-    arrays::put(here, v, sets::with(arrays::at(here, v), r));
+    arrays::put(incident, v, sets::with(arrays::at(incident, v), r));
 }
 
 // Entry v becomes the set of the rocks at bench v.
-pub fn fill_here<'a>(n: Limits, low: &'a [usize], high: &'a [usize], here: &mut [usize])
-    ensures { λ _. ⌜ (now (here .entry) ≡ replicate 64 0 → Here n (now (low .entry)) (now (high .entry)) (now (here .exit))) ⌝ }
+pub fn fill_incident<'a>(n: Limits, low: &'a [usize], high: &'a [usize], incident: &mut [usize])
+    ensures { λ _. ⌜ (now (incident .entry) ≡ replicate 64 0 → Incident n (now (low .entry)) (now (high .entry)) (now (incident .exit))) ⌝ }
 {
     let mut r = 0;
     while r < n.rocks {
-        add_rock(here, arrays::at(low, r), r);
-        add_rock(here, arrays::at(high, r), r);
+        add_rock(incident, arrays::at(low, r), r);
+        add_rock(incident, arrays::at(high, r), r);
         r += 1;
     }
 }

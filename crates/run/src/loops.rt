@@ -25,19 +25,19 @@ pub fn turns<'a>(
         (now (pebble .entry)) (now (allowed .entry))
         → Holds d 0 (startOf d) first → budget ≡ budgetOf d → Last d r) ⌝ }
 {
-    let mut here = [0usize; 64];
-    rocks::fill_here(n, low, high, &mut here);
-    let mut near = [0usize; 64];
-    rocks::fill_near(low, high, &here, &mut near);
+    let mut incident = [0usize; 64];
+    rocks::fill_incident(n, low, high, &mut incident);
+    let mut neighbours = [0usize; 64];
+    rocks::fill_neighbours(low, high, &incident, &mut neighbours);
     let all = sets::everywhere(n.benches);
-    let stony = sets::some(&here);
+    let touched = sets::some(&incident);
     let mut choice = [0usize; 512];
     start::choose(n.jobs, pebble, allowed, &mut choice);
     let mut s = first;
     // One exploration more than there can be moves.
     let mut left = arrays::plus(budget, 1);
     while 0 < left {
-        s = s.orient(n, low, high, weight, &here, &near, all, stony);
+        s = s.orient(n, low, high, weight, &incident, &neighbours, all, touched);
         let active = s.active;
         if active == 0 {
             return s;

@@ -52,7 +52,7 @@ impl State {
         let mut own = burden;
         arrays::own_loads(n.jobs, amount, &left, &place, &mut own);
         let mut reach = [0usize; 64];
-        explore::fill_from(n, pebble, allowed, &place, &mut reach);
+        explore::fill_reach(n, pebble, allowed, &place, &mut reach);
         let mut places = [0u8; 512];
         arrays::to_bytes(n.jobs, &place, &mut places);
         let never = arrays::plus(n.benches, 1);
@@ -79,15 +79,15 @@ impl State {
         low: &'a [usize],
         high: &'a [usize],
         weight: &'a [usize],
-        here: &'a [usize],
-        near: &'a [usize],
+        incident: &'a [usize],
+        neighbours: &'a [usize],
         all: usize,
-        stony: usize,
+        touched: usize,
     ) -> State
         ensures { λ r. ⌜ ((d : Day) → (m : ℕ) → (s : RunState) → (amount : List ℕ) → (pebble : List Bool)
             → (allowed : List ℕ)
             → Ready d n (now (low .entry)) (now (high .entry)) (now (weight .entry)) amount pebble allowed
-            → Mapped n (now (low .entry)) (now (high .entry)) (now (here .entry)) (now (near .entry)) all stony
+            → Mapped n (now (low .entry)) (now (high .entry)) (now (incident .entry)) (now (neighbours .entry)) all touched
             → Holds d m s self → Holds d m s r × Explores d s r) ⌝ }
     {
         let own = self.own;
@@ -101,10 +101,10 @@ impl State {
             low,
             high,
             weight,
-            here,
-            near,
+            incident,
+            neighbours,
             all,
-            stony,
+            touched,
             &own,
             &self.reach,
             &mut dir,
@@ -172,7 +172,7 @@ impl State {
                     job,
                 );
                 let next_own = k.own;
-                let next_reach = k.from;
+                let next_reach = k.reach;
                 self.own = next_own;
                 self.reach = next_reach;
                 self.moves = arrays::plus(self.moves, 1);

@@ -7,7 +7,7 @@ use lib.ListN.{length, length-set}
 use Rattle.algorithm.specs.Board.{Board, Directions}
 use Rattle.rocks.specs.BoardArrays.{rocksOf, Rocks, Directed, Rounds}
 use Rattle.explore.specs.ExploreArrays.{joinsAt}
-use Rattle.rocks.specs.Neighbours.{Here, Near}
+use Rattle.rocks.specs.Neighbours.{Incident, Neighbours}
 use Rattle.forced.specs.SetArrays.{Covers}
 use Rattle.explore.proofs.ConflictLoops.{Closes, closes-starts, closes-goes-on, closes-ends, closes-spent}
 use borrow.Author.Needs.{needs}
@@ -15,13 +15,13 @@ use Rattle.explore.proofs.conflict.close.Statement.{statement}
 use Rattle.explore.proofs.conflict.close.Tie as tie
 
 abbrev Inv-loop : tie.InvT-loop
-Inv-loop n i low high here near cand dir joined₀ cands₀ grown₀ turns₀ joined cands grown turns = (length joined ≡ length joined₀) × ((b : Board) (weight : List ℕ) (dirs : Directions) (xs : List ℕ) (R : Rocks b n low high weight) (few : rocksOf b ≤ 64) → i ≤ b .benches → (H : Here n low high here) → Near n low high near → Covers n low high (joinsAt (n .benches) low high dir joined₀) cand → Directed b dirs dir → Rounds b xs joined₀ → Closes b n low high weight R few here H i dirs xs dir joined₀ turns cands grown joined)
+Inv-loop n i low high here near cand dir joined₀ cands₀ grown₀ turns₀ joined cands grown turns = (length joined ≡ length joined₀) × ((b : Board) (weight : List ℕ) (dirs : Directions) (xs : List ℕ) (R : Rocks b n low high weight) (few : rocksOf b ≤ 64) → i ≤ b .benches → (H : Incident n low high here) → Neighbours n low high near → Covers n low high (joinsAt (n .benches) low high dir joined₀) cand → Directed b dirs dir → Rounds b xs joined₀ → Closes b n low high weight R few here H i dirs xs dir joined₀ turns cands grown joined)
 
 abbrev μ-loop : tie.MeasureT-loop
 μ-loop n i low high here near cand dir joined₀ cands₀ grown₀ turns₀ joined cands grown turns = turns
 
 loop-holds : tie.Need-loop-holds Inv-loop μ-loop
-loop-holds c = let at-args = c .before .before .before .before .before .before .args in (refl, λ b weight dirs xs R few hi H N C D X. closes-starts b (at-args .n) (at-args .low .now) (at-args .high .now) weight R few (at-args .here .now) H (at-args .i) dirs xs (at-args .dir .now) (at-args .joined .now) hi D X (at-args .n .benches) (at-args .cand) 0 refl C)
+loop-holds c = let at-args = c .before .before .before .before .before .before .args in (refl, λ b weight dirs xs R few hi H N C D X. closes-starts b (at-args .n) (at-args .low .now) (at-args .high .now) weight R few (at-args .incident .now) H (at-args .i) dirs xs (at-args .dir .now) (at-args .joined .now) hi D X (at-args .n .benches) (at-args .cand) 0 refl C)
 
 first-joining-requires : tie.Need-first-joining-requires Inv-loop μ-loop
 first-joining-requires c κs = search needs
@@ -30,7 +30,7 @@ same-length : tie.Need-same-length Inv-loop μ-loop
 same-length c = c .before .before .before .before .loop .inv .0
 
 returns : tie.Need-returns Inv-loop μ-loop
-returns c = λ b weight dirs xs R few hi H N C D X. let at-args = c .before .before .before .before .before .before .before .before .before .before .before .args in let at-first = c .before .first-joining in closes-ends b (at-args .n) (at-args .low .now) (at-args .high .now) weight R few (at-args .here .now) H (at-args .i) dirs xs (at-args .dir .now) (at-args .joined .now) hi D X (c .before .before .before .before .loop .inv .1 b weight dirs xs R few hi H N C D X) (at-first .result) (at-first .ensures) (omega arith)
+returns c = λ b weight dirs xs R few hi H N C D X. let at-args = c .before .before .before .before .before .before .before .before .before .before .before .args in let at-first = c .before .first-joining in closes-ends b (at-args .n) (at-args .low .now) (at-args .high .now) weight R few (at-args .incident .now) H (at-args .i) dirs xs (at-args .dir .now) (at-args .joined .now) hi D X (c .before .before .before .before .loop .inv .1 b weight dirs xs R few hi H N C D X) (at-first .result) (at-first .ensures) (omega arith)
 
 put-requires : tie.Need-put-requires Inv-loop μ-loop
 put-requires c κs = search needs
@@ -51,13 +51,13 @@ loop-less : tie.Need-loop-less Inv-loop μ-loop
 loop-less c = omega arith
 
 loop-again : tie.Need-loop-again Inv-loop μ-loop
-loop-again c = let at-args = c .before .before .before .before .before .before .before .before .before .before .before .before .before .before .before .before .before .before .args in let at-loop = c .before .before .before .before .before .before .before .before .before .before .before .loop in let at-first = c .before .before .before .before .before .before .before .before .first-joining in let at-put = c .before .before .before .before .before .put in let at-with = c .before .before .with in let at-above = c .before .above in (ap length (at-put .ensures) ∙ simp length-set (at-loop .inv .0), λ b weight dirs xs R few hi H N C D X. closes-goes-on b (at-args .n) (at-args .low .now) (at-args .high .now) weight R few (at-args .here .now) H (at-args .i) dirs xs (at-args .dir .now) (at-args .joined .now) hi D X (at-loop .inv .1 b weight dirs xs R few hi H N C D X) (at-first .result) (at-first .ensures) (at-args .near .now) N (omega arith) (c .before .before .before .before .before .before .before .before .before .before .loop-test .taken) (at-put .ensures) (at-above .result) (c .at .result) (at-with .result) (at-with .ensures) (at-above .ensures) (c .at .ensures))
+loop-again c = let at-args = c .before .before .before .before .before .before .before .before .before .before .before .before .before .before .before .before .before .before .args in let at-loop = c .before .before .before .before .before .before .before .before .before .before .before .loop in let at-first = c .before .before .before .before .before .before .before .before .first-joining in let at-put = c .before .before .before .before .before .put in let at-with = c .before .before .with in let at-above = c .before .above in (ap length (at-put .ensures) ∙ simp length-set (at-loop .inv .0), λ b weight dirs xs R few hi H N C D X. closes-goes-on b (at-args .n) (at-args .low .now) (at-args .high .now) weight R few (at-args .incident .now) H (at-args .i) dirs xs (at-args .dir .now) (at-args .joined .now) hi D X (at-loop .inv .1 b weight dirs xs R few hi H N C D X) (at-first .result) (at-first .ensures) (at-args .neighbours .now) N (omega arith) (c .before .before .before .before .before .before .before .before .before .before .loop-test .taken) (at-put .ensures) (at-above .result) (c .at .result) (at-with .result) (at-with .ensures) (at-above .ensures) (c .at .ensures))
 
 same-length-2 : tie.Need-same-length-2 Inv-loop μ-loop
 same-length-2 c = c .before .loop .inv .0
 
 returns-2 : tie.Need-returns-2 Inv-loop μ-loop
-returns-2 c = λ b weight dirs xs R few hi H N C D X. let at-args = c .before .before .before .before .before .before .before .before .args in closes-spent b (at-args .n) (at-args .low .now) (at-args .high .now) weight R few (at-args .here .now) H (at-args .i) dirs xs (at-args .dir .now) (at-args .joined .now) hi D X (c .before .loop .inv .1 b weight dirs xs R few hi H N C D X) (omega arith)
+returns-2 c = λ b weight dirs xs R few hi H N C D X. let at-args = c .before .before .before .before .before .before .before .before .args in closes-spent b (at-args .n) (at-args .low .now) (at-args .high .now) weight R few (at-args .incident .now) H (at-args .i) dirs xs (at-args .dir .now) (at-args .joined .now) hi D X (c .before .loop .inv .1 b weight dirs xs R few hi H N C D X) (omega arith)
 
 pub close-spec : {M : Type 1} → statement M
 close-spec =

@@ -15,7 +15,7 @@ within-requires : tie.Need-within-requires
 within-requires c κs = search needs
 
 returns : tie.Need-returns
-returns c = λ n low high dir H N hv. let at-args = c .before .before .before .before .args in let at-within = c .before .within in rock-out (at-args .here .now) (fakeAt (at-args .benches) dir (at-args .joined .now)) (at-args .v) (λ r. and-false-right (eqb (getD dir r 0) 0) (sym (at-within .ensures) ∙ not-true (at-within .result) (c .if1 .taken)))
+returns c = λ n low high dir H N hv. let at-args = c .before .before .before .before .args in let at-within = c .before .within in rock-out (at-args .incident .now) (fakeAt (at-args .benches) dir (at-args .joined .now)) (at-args .v) (λ r. and-false-right (eqb (getD dir r 0) 0) (sym (at-within .ensures) ∙ not-true (at-within .result) (c .if1 .taken)))
 
 at-requires : tie.Need-at-requires
 at-requires c κs = search needs
@@ -27,7 +27,7 @@ lowest-requires : tie.Need-lowest-requires
 lowest-requires c κs = search needs
 
 returns-2 : tie.Need-returns-2
-returns-2 c = λ n low high dir H N hv. let at-args = c .before .before .before .before .before .before .before .args in let at-within = c .before .before .before .before .within in let at-common = c .before .common in fake-lowest n low high dir (at-args .here .now) (at-args .neutral) H N (at-args .v) hv (at-common .result) (subst (λ (x : ℕ). BothOf (at-common .result) x (at-args .neutral)) (c .before .before .at .ensures) (at-common .ensures)) (at-args .benches) (at-args .joined .now) (sym (at-within .ensures) ∙ not-false (at-within .result) (c .before .before .before .if1 .left)) (c .lowest .result) (c .lowest .ensures)
+returns-2 c = λ n low high dir H N hv. let at-args = c .before .before .before .before .before .before .before .args in let at-within = c .before .before .before .before .within in let at-common = c .before .common in fake-lowest n low high dir (at-args .incident .now) (at-args .neutral) H N (at-args .v) hv (at-common .result) (subst (λ (x : ℕ). BothOf (at-common .result) x (at-args .neutral)) (c .before .before .at .ensures) (at-common .ensures)) (at-args .benches) (at-args .joined .now) (sym (at-within .ensures) ∙ not-false (at-within .result) (c .before .before .before .if1 .left)) (c .lowest .result) (c .lowest .ensures)
 
 pub fake-rock-spec : {M : Type 1} → statement M
 fake-rock-spec = tie.close (tie.spec within-requires returns at-requires common-requires lowest-requires returns-2)

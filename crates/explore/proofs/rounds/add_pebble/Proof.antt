@@ -27,10 +27,10 @@ same-length : tie.Need-same-length
 same-length c = search needs
 
 returns : tie.Need-returns
-returns c = cond-yes (c .before .before .before .before .before .before .before .before .before .before .before .before .before .before .args .from .now) (c .before .before .before .before .before .before .before .before .before .holds .ensures) (c .before .before .before .before .before .before .before .before .if1 .taken) (c .before .before .put .ensures ∙ ap₂ (λ (u m : ℕ). set (c .before .before .before .before .before .before .before .before .before .before .before .before .before .before .args .from .now) u m) (c .before .before .before .before .before .before .before .at .ensures) (ap₂ bitOr (c .before .before .before .before .before .at2 .ensures ∙ ap (λ (u : ℕ). getD (c .before .before .before .before .before .before .before .before .before .before .before .before .before .before .args .from .now) u 0) (c .before .before .before .before .before .before .before .at .ensures)) (c .before .before .before .before .at3 .ensures)))
+returns c = cond-yes (c .before .before .before .before .before .before .before .before .before .before .before .before .before .before .args .reach .now) (c .before .before .before .before .before .before .before .before .before .holds .ensures) (c .before .before .before .before .before .before .before .before .if1 .taken) (c .before .before .put .ensures ∙ ap₂ (λ (u m : ℕ). set (c .before .before .before .before .before .before .before .before .before .before .before .before .before .before .args .reach .now) u m) (c .before .before .before .before .before .before .before .at .ensures) (ap₂ bitOr (c .before .before .before .before .before .at2 .ensures ∙ ap (λ (u : ℕ). getD (c .before .before .before .before .before .before .before .before .before .before .before .before .before .before .args .reach .now) u 0) (c .before .before .before .before .before .before .before .at .ensures)) (c .before .before .before .before .at3 .ensures)))
 
 returns-2 : tie.Need-returns-2
-returns-2 c = cond-no (set (c .before .before .before .before .before .before .args .from .now) (getD (c .before .before .before .before .before .before .args .place .now) (c .before .before .before .before .before .before .args .j) 0) (bitOr (getD (c .before .before .before .before .before .before .args .from .now) (getD (c .before .before .before .before .before .before .args .place .now) (c .before .before .before .before .before .before .args .j) 0) 0) (getD (c .before .before .before .before .before .before .args .allowed .now) (c .before .before .before .before .before .before .args .j) 0))) (c .before .holds .ensures) (c .if1 .left) refl
+returns-2 c = cond-no (set (c .before .before .before .before .before .before .args .reach .now) (getD (c .before .before .before .before .before .before .args .place .now) (c .before .before .before .before .before .before .args .j) 0) (bitOr (getD (c .before .before .before .before .before .before .args .reach .now) (getD (c .before .before .before .before .before .before .args .place .now) (c .before .before .before .before .before .before .args .j) 0) 0) (getD (c .before .before .before .before .before .before .args .allowed .now) (c .before .before .before .before .before .before .args .j) 0))) (c .before .holds .ensures) (c .if1 .left) refl
 
 pub add-pebble-spec : {M : Type 1} → statement M
 add-pebble-spec =

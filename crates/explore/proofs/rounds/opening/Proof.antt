@@ -14,7 +14,7 @@ overloaded-requires : tie.Need-overloaded-requires
 overloaded-requires c κs = search needs
 
 returns : tie.Need-returns
-returns c = λ v h. cond-yes (isSet 64 (c .before .before .before .args .all) v && (isSet 64 (c .before .before .before .args .reach) v && not (isSet 64 (c .before .before .before .args .active) v))) refl (eq-eqb (c .before .before .before .args .i) 0 (c .before .if1 .taken)) (c .overloaded .ensures v h)
+returns c = λ v h. cond-yes (isSet 64 (c .before .before .before .args .all) v && (isSet 64 (c .before .before .before .args .reached) v && not (isSet 64 (c .before .before .before .args .active) v))) refl (eq-eqb (c .before .before .before .args .i) 0 (c .before .if1 .taken)) (c .overloaded .ensures v h)
 
 less-requires : tie.Need-less-requires
 less-requires c κs = search needs

@@ -36,7 +36,7 @@ exceeds-requires : tie.Need-exceeds-requires Inv-loop μ-loop
 exceeds-requires c κs = search needs
 
 returns : tie.Need-returns Inv-loop μ-loop
-returns c = λ n low high dir H N hv. let at-args = c .before .before .before .before .before .before .before .before .before .before .before .before .args in let at-loop = c .before .before .before .before .before .before .loop in let at-common = c .before .before .before .before .before .before .before .common in let at-lowest = c .before .before .before .before .lowest in free-found n low high dir (at-args .here .now) (at-args .neutral) H N (at-args .v) hv (at-common .result) (subst (λ (x : ℕ). BothOf (at-common .result) x (at-args .neutral)) (c .before .before .before .before .before .before .before .before .at .ensures) (at-common .ensures)) (at-args .bound) (at-args .weight .now) (at-args .load .now) (at-loop .left) (at-loop .inv) (at-lowest .result) (at-lowest .ensures) (lowest-below (at-loop .left) (at-lowest .result) (at-lowest .ensures) (omega arith) (omega (arith, at-loop .inv .small, at-common .ok))) (rw (← c .before .before .before .at2 .ensures, ← c .before .before .at3 .ensures) (sym (c .before .exceeds .ensures) ∙ c .if1 .taken))
+returns c = λ n low high dir H N hv. let at-args = c .before .before .before .before .before .before .before .before .before .before .before .before .args in let at-loop = c .before .before .before .before .before .before .loop in let at-common = c .before .before .before .before .before .before .before .common in let at-lowest = c .before .before .before .before .lowest in free-found n low high dir (at-args .incident .now) (at-args .neutral) H N (at-args .v) hv (at-common .result) (subst (λ (x : ℕ). BothOf (at-common .result) x (at-args .neutral)) (c .before .before .before .before .before .before .before .before .at .ensures) (at-common .ensures)) (at-args .bound) (at-args .weight .now) (at-args .load .now) (at-loop .left) (at-loop .inv) (at-lowest .result) (at-lowest .ensures) (lowest-below (at-loop .left) (at-lowest .result) (at-lowest .ensures) (omega arith) (omega (arith, at-loop .inv .small, at-common .ok))) (rw (← c .before .before .before .at2 .ensures, ← c .before .before .at3 .ensures) (sym (c .before .exceeds .ensures) ∙ c .if1 .taken))
 
 after-requires : tie.Need-after-requires Inv-loop μ-loop
 after-requires c κs = search needs
@@ -48,7 +48,7 @@ loop-again : tie.Need-loop-again Inv-loop μ-loop
 loop-again c = let at-args = c .before .before .before .before .before .before .before .before .before .before .before .before .before .args in let at-loop = c .before .before .before .before .before .before .before .loop in let at-common = c .before .before .before .before .before .before .before .before .common in let at-lowest = c .before .before .before .before .before .lowest in let at-after = c .after in let below = lowest-below (at-loop .left) (at-lowest .result) (at-lowest .ensures) (omega arith) (omega (arith, at-loop .inv .small, at-common .ok)) in searched-goes-on (at-common .result) (exceedsAt (at-args .bound) (at-args .weight .now) (at-args .load .now) (at-args .v)) (at-loop .left) (at-lowest .result) (at-loop .inv) (at-lowest .ensures) below (at-after .result) (at-after .ensures .0 (at-lowest .ensures)) (at-after .ensures .1 (at-lowest .ensures) below) (rw (← c .before .before .before .before .at2 .ensures, ← c .before .before .before .at3 .ensures) (sym (c .before .before .exceeds .ensures) ∙ c .before .if1 .left))
 
 returns-2 : tie.Need-returns-2 Inv-loop μ-loop
-returns-2 c = λ n low high dir H N hv. let at-args = c .before .before .before .before .before .before .before .args in let at-loop = c .before .loop in let at-common = c .before .before .common in free-none n low high dir (at-args .here .now) (at-args .neutral) H N (at-args .v) hv (at-common .result) (subst (λ (x : ℕ). BothOf (at-common .result) x (at-args .neutral)) (c .before .before .before .at .ensures) (at-common .ensures)) (at-args .bound) (at-args .weight .now) (at-args .load .now) (at-loop .left) (at-loop .inv) (omega arith)
+returns-2 c = λ n low high dir H N hv. let at-args = c .before .before .before .before .before .before .before .args in let at-loop = c .before .loop in let at-common = c .before .before .common in free-none n low high dir (at-args .incident .now) (at-args .neutral) H N (at-args .v) hv (at-common .result) (subst (λ (x : ℕ). BothOf (at-common .result) x (at-args .neutral)) (c .before .before .before .at .ensures) (at-common .ensures)) (at-args .bound) (at-args .weight .now) (at-args .load .now) (at-loop .left) (at-loop .inv) (omega arith)
 
 pub forced-rock-spec : {M : Type 1} → statement M
 forced-rock-spec =

@@ -28,7 +28,7 @@ same-length : tie.Need-same-length
 same-length c = search needs
 
 returns : tie.Need-returns
-returns c = let at-args = c .before .before .before .before .before .before .before .before .before .before .before .before .before .before .before .before .before .args in let at-reach-from = c .before .before .before .before .before .before .before .before .before .before .before .reach-from in reach-shifted (at-args .jobs) (at-args .choice .now) (at-args .place .now) (at-args .from .now) (at-args .u) (at-args .v) (at-args .j) (c .before .before .before .before .before .before .before .before .before .before .before .before .at .result) _ (at-reach-from .result) (c .before .before .before .before .before .before .put .last .0) (c .before .before .before .before .before .before .before .before .before .before .before .before .at .ensures) (at-reach-from .ensures) (ap₂ bitOr (c .before .before .before .before .before .before .before .before .before .at2 .ensures) (c .before .before .before .before .before .before .before .before .at3 .ensures)) (c .before .before .before .before .before .before .put .ensures) (c .before .before .put2 .ensures)
+returns c = let at-args = c .before .before .before .before .before .before .before .before .before .before .before .before .before .before .before .before .before .args in let at-reach-from = c .before .before .before .before .before .before .before .before .before .before .before .reach-from in reach-shifted (at-args .jobs) (at-args .choice .now) (at-args .place .now) (at-args .reach .now) (at-args .u) (at-args .v) (at-args .j) (c .before .before .before .before .before .before .before .before .before .before .before .before .at .result) _ (at-reach-from .result) (c .before .before .before .before .before .before .put .last .0) (c .before .before .before .before .before .before .before .before .before .before .before .before .at .ensures) (at-reach-from .ensures) (ap₂ bitOr (c .before .before .before .before .before .before .before .before .before .at2 .ensures) (c .before .before .before .before .before .before .before .before .at3 .ensures)) (c .before .before .before .before .before .before .put .ensures) (c .before .before .put2 .ensures)
 
 pub shift-reach-spec : {M : Type 1} → statement M
 shift-reach-spec =

@@ -1,5 +1,5 @@
--- One entry is written (HereLaws).
-use Rattle.rocks.proofs.HereLaws.{rock-added}
+-- One entry is written (NeighbourLaws).
+use Rattle.rocks.proofs.NeighbourLaws.{rock-added}
 use borrow.Author.Needs.{needs}
 use Rattle.rocks.proofs.neighbours.add_rock.Statement.{statement}
 use Rattle.rocks.proofs.neighbours.add_rock.Tie as tie
@@ -17,7 +17,7 @@ same-length : tie.Need-same-length
 same-length c = search needs
 
 returns : tie.Need-returns
-returns c = let at-args = c .before .before .before .before .before .before .before .before .args in let at-with = c .before .before .before .with in let at-at = c .before .before .before .before .at in rock-added (at-args .here .now) (at-args .v) (at-args .r) (at-with .result) (at-at .result) (at-at .ensures) (at-with .ensures) (c .before .before .put .ensures)
+returns c = let at-args = c .before .before .before .before .before .before .before .before .args in let at-with = c .before .before .before .with in let at-at = c .before .before .before .before .at in rock-added (at-args .incident .now) (at-args .v) (at-args .r) (at-with .result) (at-at .result) (at-at .ensures) (at-with .ensures) (c .before .before .put .ensures)
 
 pub add-rock-spec : {M : Type 1} → statement M
 add-rock-spec = tie.close (tie.spec at-requires with-requires put-requires same-length returns)

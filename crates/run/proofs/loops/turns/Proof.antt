@@ -13,27 +13,27 @@ use Rattle.run.proofs.loops.turns.Statement.{statement}
 use Rattle.run.proofs.loops.turns.Tie as tie
 
 abbrev Inv-loop : tie.InvT-loop
-Inv-loop budget n low high weight amount pebble allowed here near all stony choice s₀ left₀ s left =
+Inv-loop budget n low high weight amount pebble allowed incident neighbours all touched choice s₀ left₀ s left =
     (d : Day) (R : Ready d n low high weight amount pebble allowed) → Turning d n low high weight amount pebble allowed R left₀ s₀
     → Turning d n low high weight amount pebble allowed R left s
 
 abbrev μ-loop : tie.MeasureT-loop
-μ-loop budget n low high weight amount pebble allowed here near all stony choice s₀ left₀ s left = left
+μ-loop budget n low high weight amount pebble allowed incident neighbours all touched choice s₀ left₀ s left = left
 
-slice-aggregate-fill-here : tie.Need-slice-aggregate-fill-here Inv-loop μ-loop
-slice-aggregate-fill-here c = search needs
+slice-aggregate-fill-incident : tie.Need-slice-aggregate-fill-incident Inv-loop μ-loop
+slice-aggregate-fill-incident c = search needs
 
-fill-here-requires : tie.Need-fill-here-requires Inv-loop μ-loop
-fill-here-requires c κs = search needs
+fill-incident-requires : tie.Need-fill-incident-requires Inv-loop μ-loop
+fill-incident-requires c κs = search needs
 
-slice-aggregate-fill-near : tie.Need-slice-aggregate-fill-near Inv-loop μ-loop
-slice-aggregate-fill-near c = search needs
+slice-aggregate-fill-neighbours : tie.Need-slice-aggregate-fill-neighbours Inv-loop μ-loop
+slice-aggregate-fill-neighbours c = search needs
 
-slice-aggregate-fill-near-2 : tie.Need-slice-aggregate-fill-near-2 Inv-loop μ-loop
-slice-aggregate-fill-near-2 c = search needs
+slice-aggregate-fill-neighbours-2 : tie.Need-slice-aggregate-fill-neighbours-2 Inv-loop μ-loop
+slice-aggregate-fill-neighbours-2 c = search needs
 
-fill-near-requires : tie.Need-fill-near-requires Inv-loop μ-loop
-fill-near-requires c κs = search needs
+fill-neighbours-requires : tie.Need-fill-neighbours-requires Inv-loop μ-loop
+fill-neighbours-requires c κs = search needs
 
 everywhere-requires : tie.Need-everywhere-requires Inv-loop μ-loop
 everywhere-requires c κs = search needs
@@ -74,8 +74,8 @@ returns c =
     let amount = c .before .before .before .before .before .before .before .before .before .before .before .before .before .before .before .before .before .before .before .before .before .before .before .before .before .before .args .amount .now in
     let pebble = c .before .before .before .before .before .before .before .before .before .before .before .before .before .before .before .before .before .before .before .before .before .before .before .before .before .before .args .pebble .now in
     let allowed = c .before .before .before .before .before .before .before .before .before .before .before .before .before .before .before .before .before .before .before .before .before .before .before .before .before .before .args .allowed .now in
-    let here-are = c .before .before .before .before .before .before .before .before .before .before .before .before .before .before .before .before .before .before .fill-here .ensures refl in
-    let M = mapped n low high here-are (c .before .before .before .before .before .before .before .before .before .before .before .before .before .before .fill-near .ensures n here-are (length-replicate {A = ℕ} 64 0)) (c .before .before .before .before .before .before .before .before .before .before .before .before .everywhere .ensures) (c .before .before .before .before .before .before .before .before .before .before .some .ensures) in
+    let here-are = c .before .before .before .before .before .before .before .before .before .before .before .before .before .before .before .before .before .before .fill-incident .ensures refl in
+    let M = mapped n low high here-are (c .before .before .before .before .before .before .before .before .before .before .before .before .before .before .fill-neighbours .ensures n here-are (length-replicate {A = ℕ} 64 0)) (c .before .before .before .before .before .before .before .before .before .before .before .before .everywhere .ensures) (c .before .before .before .before .before .before .before .before .before .before .some .ensures) in
     λ d R H fuel.
     let T = c .before .before .before .before .before .loop .inv d R (starts d n low high weight amount pebble allowed R (c .before .before .before .before .before .before .before .before .before .before .before .before .before .before .before .before .before .before .before .before .before .before .before .before .before .before .args .first) fuel (c .before .before .before .before .before .before .plus .ensures) H) in
     let O = c .before .orient .ensures d (T .moves) (T .state) amount pebble allowed R M (T .holds) in
@@ -96,8 +96,8 @@ returns-2 c =
     let amount = c .before .before .before .before .before .before .before .before .before .before .before .before .before .before .before .before .before .before .before .before .before .before .before .before .before .before .before .before .before .args .amount .now in
     let pebble = c .before .before .before .before .before .before .before .before .before .before .before .before .before .before .before .before .before .before .before .before .before .before .before .before .before .before .before .before .before .args .pebble .now in
     let allowed = c .before .before .before .before .before .before .before .before .before .before .before .before .before .before .before .before .before .before .before .before .before .before .before .before .before .before .before .before .before .args .allowed .now in
-    let here-are = c .before .before .before .before .before .before .before .before .before .before .before .before .before .before .before .before .before .before .before .before .before .fill-here .ensures refl in
-    let M = mapped n low high here-are (c .before .before .before .before .before .before .before .before .before .before .before .before .before .before .before .before .before .fill-near .ensures n here-are (length-replicate {A = ℕ} 64 0)) (c .before .before .before .before .before .before .before .before .before .before .before .before .before .before .before .everywhere .ensures) (c .before .before .before .before .before .before .before .before .before .before .before .before .before .some .ensures) in
+    let here-are = c .before .before .before .before .before .before .before .before .before .before .before .before .before .before .before .before .before .before .before .before .before .fill-incident .ensures refl in
+    let M = mapped n low high here-are (c .before .before .before .before .before .before .before .before .before .before .before .before .before .before .before .before .before .fill-neighbours .ensures n here-are (length-replicate {A = ℕ} 64 0)) (c .before .before .before .before .before .before .before .before .before .before .before .before .before .before .before .everywhere .ensures) (c .before .before .before .before .before .before .before .before .before .before .before .before .before .some .ensures) in
     λ d R H fuel.
     let T = c .before .before .before .before .before .before .before .before .loop .inv d R (starts d n low high weight amount pebble allowed R (c .before .before .before .before .before .before .before .before .before .before .before .before .before .before .before .before .before .before .before .before .before .before .before .before .before .before .before .before .before .args .first) fuel (c .before .before .before .before .before .before .before .before .before .plus .ensures) H) in
     let O = c .before .before .before .before .orient .ensures d (T .moves) (T .state) amount pebble allowed R M (T .holds) in
@@ -120,8 +120,8 @@ loop-again c =
     let amount = c .before .before .before .before .before .before .before .before .before .before .before .before .before .before .before .before .before .before .before .before .before .before .before .before .before .before .before .before .before .args .amount .now in
     let pebble = c .before .before .before .before .before .before .before .before .before .before .before .before .before .before .before .before .before .before .before .before .before .before .before .before .before .before .before .before .before .args .pebble .now in
     let allowed = c .before .before .before .before .before .before .before .before .before .before .before .before .before .before .before .before .before .before .before .before .before .before .before .before .before .before .before .before .before .args .allowed .now in
-    let here-are = c .before .before .before .before .before .before .before .before .before .before .before .before .before .before .before .before .before .before .before .before .before .fill-here .ensures refl in
-    let M = mapped n low high here-are (c .before .before .before .before .before .before .before .before .before .before .before .before .before .before .before .before .before .fill-near .ensures n here-are (length-replicate {A = ℕ} 64 0)) (c .before .before .before .before .before .before .before .before .before .before .before .before .before .before .before .everywhere .ensures) (c .before .before .before .before .before .before .before .before .before .before .before .before .before .some .ensures) in
+    let here-are = c .before .before .before .before .before .before .before .before .before .before .before .before .before .before .before .before .before .before .before .before .before .fill-incident .ensures refl in
+    let M = mapped n low high here-are (c .before .before .before .before .before .before .before .before .before .before .before .before .before .before .before .before .before .fill-neighbours .ensures n here-are (length-replicate {A = ℕ} 64 0)) (c .before .before .before .before .before .before .before .before .before .before .before .before .before .before .before .everywhere .ensures) (c .before .before .before .before .before .before .before .before .before .before .before .before .before .some .ensures) in
     λ d R T₀.
     let T = c .before .before .before .before .before .before .before .before .loop .inv d R T₀ in
     let O = c .before .before .before .before .orient .ensures d (T .moves) (T .state) amount pebble allowed R M (T .holds) in
@@ -148,11 +148,11 @@ turns-spec =
     (tie.spec
     Inv-loop
     μ-loop
-    slice-aggregate-fill-here
-    fill-here-requires
-    slice-aggregate-fill-near
-    slice-aggregate-fill-near-2
-    fill-near-requires
+    slice-aggregate-fill-incident
+    fill-incident-requires
+    slice-aggregate-fill-neighbours
+    slice-aggregate-fill-neighbours-2
+    fill-neighbours-requires
     everywhere-requires
     slice-aggregate-some
     some-requires

@@ -12,13 +12,13 @@ abbrev μ-loop : tie.MeasureT-loop
 μ-loop from benches full reach₀ left₀ reach left = left
 
 loop-holds : tie.Need-loop-holds Inv-loop μ-loop
-loop-holds c = joined-starts (c .before .args .benches) (c .before .args .from .now)
+loop-holds c = joined-starts (c .before .args .benches) (c .before .args .table .now)
 
 less-requires : tie.Need-less-requires Inv-loop μ-loop
 less-requires c κs = search needs
 
 returns : tie.Need-returns Inv-loop μ-loop
-returns c = λ v l h. let at-args = c .before .before .before .before .before .args in let at-loop = c .before .before .before .loop in let at-less = c .before .less in joined-full (at-args .benches) (at-args .from .now) (at-loop .left) (at-loop .reach) (at-args .full) (at-less .result) (at-loop .inv) (at-less .ensures) (c .if1 .taken) v h
+returns c = λ v l h. let at-args = c .before .before .before .before .before .args in let at-loop = c .before .before .before .loop in let at-less = c .before .less in joined-full (at-args .benches) (at-args .table .now) (at-loop .left) (at-loop .reach) (at-args .full) (at-less .result) (at-loop .inv) (at-less .ensures) (c .if1 .taken) v h
 
 lowest-requires : tie.Need-lowest-requires Inv-loop μ-loop
 lowest-requires c κs = search needs
@@ -33,10 +33,10 @@ loop-less : tie.Need-loop-less Inv-loop μ-loop
 loop-less c = let at-loop = c .before .before .before .before .before .before .loop in let at-lowest = c .before .before .lowest in c .after .ensures .1 (at-lowest .ensures) (lowest-below (at-loop .left) (at-lowest .result) (at-lowest .ensures) (c .before .before .before .before .before .loop-test .taken) (omega (arith, at-loop .inv .small, c .before .before .before .before .before .before .before .before .fits .benches .fits)))
 
 loop-again : tie.Need-loop-again Inv-loop μ-loop
-loop-again c = let at-args = c .before .before .before .before .before .before .before .before .args in let at-loop = c .before .before .before .before .before .before .loop in let at-lowest = c .before .before .lowest in let at-after = c .after in let below = lowest-below (at-loop .left) (at-lowest .result) (at-lowest .ensures) (c .before .before .before .before .before .loop-test .taken) (omega (arith, at-loop .inv .small, c .before .before .before .before .before .before .before .before .fits .benches .fits)) in joined-goes-on (at-args .benches) (at-args .from .now) (at-loop .left) (at-lowest .result) (at-loop .reach) (at-loop .inv) (at-lowest .ensures) below (at-after .result) (at-after .ensures .0 (at-lowest .ensures)) (at-after .ensures .1 (at-lowest .ensures) below) (c .before .at .ensures)
+loop-again c = let at-args = c .before .before .before .before .before .before .before .before .args in let at-loop = c .before .before .before .before .before .before .loop in let at-lowest = c .before .before .lowest in let at-after = c .after in let below = lowest-below (at-loop .left) (at-lowest .result) (at-lowest .ensures) (c .before .before .before .before .before .loop-test .taken) (omega (arith, at-loop .inv .small, c .before .before .before .before .before .before .before .before .fits .benches .fits)) in joined-goes-on (at-args .benches) (at-args .table .now) (at-loop .left) (at-lowest .result) (at-loop .reach) (at-loop .inv) (at-lowest .ensures) below (at-after .result) (at-after .ensures .0 (at-lowest .ensures)) (at-after .ensures .1 (at-lowest .ensures) below) (c .before .at .ensures)
 
 returns-2 : tie.Need-returns-2 Inv-loop μ-loop
-returns-2 c = λ v l h. joined-ends (c .before .before .before .args .benches) (c .before .before .before .args .from .now) (c .before .loop .left) (c .before .loop .reach) (c .before .loop .inv) (omega arith) v
+returns-2 c = λ v l h. joined-ends (c .before .before .before .args .benches) (c .before .before .before .args .table .now) (c .before .loop .left) (c .before .loop .reach) (c .before .loop .inv) (omega arith) v
 
 pub reach-of-spec : {M : Type 1} → statement M
 reach-of-spec =

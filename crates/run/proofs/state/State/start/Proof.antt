@@ -40,14 +40,14 @@ slice-aggregate-own-loads-3 c = search needs
 own-loads-requires : tie.Need-own-loads-requires
 own-loads-requires c κs = search needs
 
-slice-aggregate-fill-from : tie.Need-slice-aggregate-fill-from
-slice-aggregate-fill-from c = search needs
+slice-aggregate-fill-reach : tie.Need-slice-aggregate-fill-reach
+slice-aggregate-fill-reach c = search needs
 
-slice-aggregate-fill-from-2 : tie.Need-slice-aggregate-fill-from-2
-slice-aggregate-fill-from-2 c = search needs
+slice-aggregate-fill-reach-2 : tie.Need-slice-aggregate-fill-reach-2
+slice-aggregate-fill-reach-2 c = search needs
 
-fill-from-requires : tie.Need-fill-from-requires
-fill-from-requires c κs = search needs
+fill-reach-requires : tie.Need-fill-reach-requires
+fill-reach-requires c κs = search needs
 
 slice-aggregate-to-bytes : tie.Need-slice-aggregate-to-bytes
 slice-aggregate-to-bytes c = search needs
@@ -88,7 +88,7 @@ returns c =
             (placed-copied (n .jobs) _ (replicate 512 0) (omega (arith, room, F .jobs-are, few)) bytes d _ _ (F .jobs-are) P);
         made = refl;
         owned = started-owned d n minutes allowed _ _ _ _ _ _ _ _ B _ _ P wide _ (c .before .before .before .before .before .before .before .before .before .before .own-loads .ensures);
-        reaches = c .before .before .before .before .before .before .fill-from .ensures (boardOf d (start d)) (F .jobs-are) (F .bounded .few-benches)
+        reaches = c .before .before .before .before .before .before .fill-reach .ensures (boardOf d (start d)) (F .jobs-are) (F .bounded .few-benches)
             (started-pebbles d n minutes allowed _ _ _ _ _ _ _ _ B _ _ P) refl;
       },
     )
@@ -106,9 +106,9 @@ start-spec =
     slice-aggregate-own-loads-2
     slice-aggregate-own-loads-3
     own-loads-requires
-    slice-aggregate-fill-from
-    slice-aggregate-fill-from-2
-    fill-from-requires
+    slice-aggregate-fill-reach
+    slice-aggregate-fill-reach-2
+    fill-reach-requires
     slice-aggregate-to-bytes
     slice-aggregate-to-bytes-2
     to-bytes-requires

@@ -1,12 +1,12 @@
--- The sets have the rocks passed (HereLaws).
+-- The sets have the rocks passed (NeighbourLaws).
 use Prim.Native.Nat.{_≤_, _-_}
 use mathlib.Core.Path.{_≡_, refl, _∙_}
 use native.Mathlib.Omega.{arith}
 use lib.ListN.{length, replicate}
-use Rattle.rocks.proofs.HereLaws.{Filling, filling-starts, filling-goes-on, filling-ends}
+use Rattle.rocks.proofs.NeighbourLaws.{Filling, filling-starts, filling-goes-on, filling-ends}
 use borrow.Author.Needs.{needs}
-use Rattle.rocks.proofs.neighbours.fill_here.Statement.{statement}
-use Rattle.rocks.proofs.neighbours.fill_here.Tie as tie
+use Rattle.rocks.proofs.neighbours.fill_incident.Statement.{statement}
+use Rattle.rocks.proofs.neighbours.fill_incident.Tie as tie
 
 abbrev Inv-loop : tie.InvT-loop
 Inv-loop n low high here₀ r₀ here r = (length here ≡ length here₀) × (r ≤ n .rocks) × (here₀ ≡ replicate 64 0 → Filling low high r here)
@@ -36,7 +36,7 @@ loop-less : tie.Need-loop-less Inv-loop μ-loop
 loop-less c = omega arith
 
 loop-again : tie.Need-loop-again Inv-loop μ-loop
-loop-again c = let at-add-rock2 = c .before .before .add-rock2 in let at-add-rock = c .before .before .before .before .before .before .before .add-rock in let at-loop = c .before .before .before .before .before .before .before .before .before .before .before .before .loop in let at-args = c .before .before .before .before .before .before .before .before .before .before .before .before .before .before .before .before .args in let at-at = c .before .before .before .before .before .before .before .before .at in let at-at2 = c .before .before .before .at2 in (at-add-rock2 .kept .0 ∙ at-add-rock .kept .0 ∙ at-loop .inv .0, omega arith, λ e. filling-goes-on (at-args .low .now) (at-args .high .now) (at-loop .r) (at-at .result) (at-at2 .result) (at-loop .here) (at-add-rock .last .0) (at-loop .inv .2 e) (at-at .ensures) (at-at2 .ensures) (at-add-rock .kept .0) (at-add-rock2 .kept .0) (at-add-rock .ensures) (at-add-rock2 .ensures))
+loop-again c = let at-add-rock2 = c .before .before .add-rock2 in let at-add-rock = c .before .before .before .before .before .before .before .add-rock in let at-loop = c .before .before .before .before .before .before .before .before .before .before .before .before .loop in let at-args = c .before .before .before .before .before .before .before .before .before .before .before .before .before .before .before .before .args in let at-at = c .before .before .before .before .before .before .before .before .at in let at-at2 = c .before .before .before .at2 in (at-add-rock2 .kept .0 ∙ at-add-rock .kept .0 ∙ at-loop .inv .0, omega arith, λ e. filling-goes-on (at-args .low .now) (at-args .high .now) (at-loop .r) (at-at .result) (at-at2 .result) (at-loop .incident) (at-add-rock .last .0) (at-loop .inv .2 e) (at-at .ensures) (at-at2 .ensures) (at-add-rock .kept .0) (at-add-rock2 .kept .0) (at-add-rock .ensures) (at-add-rock2 .ensures))
 
 same-length : tie.Need-same-length Inv-loop μ-loop
 same-length c = c .before .before .loop .inv .0
@@ -44,8 +44,8 @@ same-length c = c .before .before .loop .inv .0
 returns : tie.Need-returns Inv-loop μ-loop
 returns c = λ e. let at-args = c .before .before .before .before .before .before .args in let at-loop = c .before .before .loop in filling-ends (at-args .low .now) (at-args .high .now) (at-args .n) (at-loop .r) (at-loop .inv .2 e) (omega arith)
 
-pub fill-here-spec : {M : Type 1} → statement M
-fill-here-spec =
+pub fill-incident-spec : {M : Type 1} → statement M
+fill-incident-spec =
     tie.close
     (tie.spec
     Inv-loop

@@ -18,7 +18,7 @@ use Rattle.bits.specs.Bits.{isSet}
 use Rattle.bits.proofs.SetBits.{isSet-zero}
 use Rattle.rocks.specs.declared.rocks.Limits.{Limits}
 use Rattle.rocks.specs.RockArrays.{touchesAt, otherAt}
-use Rattle.rocks.specs.Neighbours.{Here, Near}
+use Rattle.rocks.specs.Neighbours.{Incident, Neighbours}
 
 pub rock-added : (here : List ℕ) (v r m a : ℕ) {here′ : List ℕ} → a ≡ getD here v 0 → ((u : ℕ) → u < 64 → isSet 64 m u ≡ (isSet 64 a u || eqb u r))
     → here′ ≡ set here v m → (w u : ℕ) → w < length here → u < 64
@@ -83,7 +83,7 @@ module _ (low high : List ℕ) where
             ∙ more-touched r v u;
       }
 
-  pub filling-ends : (n : Limits) (r : ℕ) {here : List ℕ} → Filling r here → r ≡ n .rocks → Here n low high here
+  pub filling-ends : (n : Limits) (r : ℕ) {here : List ℕ} → Filling r here → r ≡ n .rocks → Incident n low high here
   filling-ends n r {here} F e =
       record { rocks-at = λ v u hv hu. F .rocks v u hv hu ∙ ap (λ (k : ℕ). ltb u k && touchesAt low high u v) e }
 
@@ -114,5 +114,5 @@ module _ (low high here : List ℕ) where
         ];
       }
 
-  pub nearing-ends : (n : Limits) (v : ℕ) {near : List ℕ} → Here n low high here → Nearing v near → 64 ≤ v → Near n low high near
+  pub nearing-ends : (n : Limits) (v : ℕ) {near : List ℕ} → Incident n low high here → Nearing v near → 64 ≤ v → Neighbours n low high near
   nearing-ends n v H N all r u h hr hu t o = N .ends r u (omega arith) hu hr (H .rocks-at u r hu hr ∙ and-intro (lt-ltb r (n .rocks) h) t) o
