@@ -1,7 +1,7 @@
 -- The budget of the run is never used up: it ends where no move can be made.
 --     next-good            a state stays good with the next move
 --     turns-spent, turns-move, turns-stop     a turn: with no fuel left, with a move, with none
---     run-turns            a run with no long job and no crowded component is its turns
+--     run-long, run-crowded, run-turns     a run with a long job; with a crowded component; else it is its turns
 --     movesOf              the moves that an answer states
 --     answer-moves, turns-moves     they are those made before, and at most the fuel more
 --     moves-bound          a run makes at most as many moves as its budget
@@ -19,7 +19,7 @@ use native.Mathlib.Omega.{arith}
 use Rattle.bools.proofs.BoolLaws.{split}
 use Rattle.day.specs.Day.{Day, longJob}
 use Rattle.algorithm.specs.Push.{pushJob, pushBench}
-use Rattle.algorithm.specs.Start.{State, start, crowdedBench}
+use Rattle.algorithm.specs.Start.{State, start, component, crowdedBench}
 use Rattle.algorithm.specs.Run.{boardOf, Outcome, planned, long, blocked, explored, congested, canMove, nextState, answerAt, turns, budget, run}
 use Rattle.algorithm.specs.States.{Reached, by-move}
 use Rattle.algorithm.specs.Properties.{SoundBoard, Spread, Facts}
@@ -69,6 +69,15 @@ turns-moves d (suc k) s m =
     ⊎-elim (λ can. rw (turns-move d s m k can) (omega (arith, turns-moves d k (nextState d s) (suc m))))
     (λ cannot. rw (turns-stop d s m (suc k) cannot) (omega (arith, answer-moves d s m)))
     (split (canMove d s))
+
+pub run-long : (d : Day) → ltb (longJob d) (d .jobs) ≡ true → run d ≡ long (longJob d)
+unfolding run
+run-long d e = rw (e, run)
+
+pub run-crowded : (d : Day) → ltb (longJob d) (d .jobs) ≡ false → ltb (crowdedBench d) (d .benches) ≡ true
+    → run d ≡ blocked (component d (crowdedBench d)) 0
+unfolding run
+run-crowded d e c = rw (e, c, run)
 
 pub run-turns : (d : Day) → ltb (longJob d) (d .jobs) ≡ false → ltb (crowdedBench d) (d .benches) ≡ false
     → run d ≡ turns (budget d) d (start d) 0

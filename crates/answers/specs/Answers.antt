@@ -1,5 +1,6 @@
 -- The answers of the planner and what they leave in both tables (document 01, "The three answers").
---     setOf bs                a set of benches as a number: bench b is the bit of weight 2 ^ (63 − b)
+--     oneOf bs                the set of the benches that a list names
+--     setOf bs                the same as a number: bench b is the bit of weight 2 ^ (63 − b)
 --     Reply                   an answer, with the numbers at the front of both tables: a plan has them, no other does
 --     planReply, longReply, noneReply, faultReply     each with the values that the paper gives it
 --     Case, caseOf            the number of an answer, and its values
@@ -7,14 +8,20 @@
 --     Answered                what a call answers, and what it leaves in both tables
 use Prim.Native.Nat.{ℕ, _+_, _-_, _^_}
 use mathlib.Core.Path.{_≡_}
+use mathlib.Core.Bool.{Bool}
 use mathlib.Core.List.{List, [], _∷_, _++_}
-use lib.ListN.{length, drop}
+use lib.ListN.{length, getD, drop}
+use lib.Dec.{eqb}
+use Rattle.sums.specs.Search.{any}
 use Rattle.fields.specs.declared.fault.Fault.{Fault}
 use Rattle.fields.specs.Numbers.{numberOf, placeOf}
 use Rattle.answers.specs.declared.answer.Answer.{Answer}
 use Rattle.answers.specs.declared.answer.Answer.the-variants.{Plan, Long, None, Fault as Faulty}
 use Rattle.answers.specs.declared.answer.PlanAnswer.{PlanAnswer}
 use Rattle.answers.specs.declared.answer.Filled.{Filled}
+
+abbrev pub oneOf : List ℕ → ℕ → Bool
+oneOf bs v = any (length bs) (λ i. eqb (getD bs i 0) v)
 
 unfoldable pub setOf : List ℕ → ℕ
 setOf [] = 0

@@ -14,5 +14,4 @@ pub mod NoMoveOfBoard
 pub mod NoneBlocks
 pub mod StateOfRun
 pub mod ShownLaws
-pub mod SetLaws
 pub mod Theorems

@@ -1,5 +1,4 @@
 -- What the planner shows of an outcome: loads, largest load and the list of benches.
---     oneOf-members        the list of a set's benches names that set
 --     blocking-cong        sets with the same benches block alike
 --     plan-shown           the loads shown of an assignment within the bound are its loads, and the largest is the greatest of them
 --     none-shown           the benches shown of a blocking set rise, are the day's, and block
@@ -10,31 +9,20 @@ use mathlib.Core.Bool.{Bool, true, _&&_}
 use mathlib.Core.List.{List}
 use native.Mathlib.Omega.{arith}
 use lib.ListN.{length, getD}
-use lib.Dec.{eqb}
-use borrow.Author.Tests.{eqb-true, eq-eqb}
-use Rattle.bools.proofs.BoolLaws.{split, bool-ext}
+use Rattle.bools.proofs.BoolLaws.{split}
 use Rattle.sums.specs.Sum.{on, sum, count}
 use Rattle.sums.specs.Members.{members}
 use Rattle.sums.proofs.SumLaws.{sum-cong}
 use Rattle.sums.proofs.CountLaws.{count-cong}
-use Rattle.sums.proofs.SearchLaws.{any-intro, any-elim, all-elim, all-cong}
+use Rattle.sums.proofs.SearchLaws.{all-elim, all-cong}
 use Rattle.sums.proofs.TableLaws.{length-table, getD-table}
 use Rattle.sums.proofs.LargestLaws.{largest-bound, largest-at}
-use Rattle.sums.proofs.MembersLaws.{length-members, member-below, member-holds, member-index, members-rise}
+use Rattle.sums.proofs.MembersLaws.{length-members, member-below, members-rise}
 use Rattle.day.specs.Day.{Day, heavy, light, placeIn, loadOf, loadsOf, largestOf, withinBound, moveBound}
 use Rattle.demand.specs.Demand.{Assignment, keepsBound, Placement, keptInside, liesInside, Blocking}
-use Rattle.argument.specs.Answers.{oneOf, SoundPlan, SoundNone}
-
--- ── the list of a set's benches ──
-
-pub oneOf-members : (n : ℕ) (f : ℕ → Bool) (v : ℕ) → v < n → oneOf (members n f) v ≡ f v
-oneOf-members n f v l =
-    let there : ℕ → Bool = λ i. eqb (getD (members n f) i 0) v in
-    bool-ext (oneOf (members n f) v) (f v)
-    (λ p. let (i, li, e) = any-elim (length (members n f)) there p in
-    ap f (sym (eqb-true (getD (members n f) i 0) v e)) ∙ member-holds n f i 0 (omega (arith, length-members n f)))
-    (λ p. let (i, li, e) = member-index n f 0 v l p in
-    any-intro (length (members n f)) there i (omega (arith, length-members n f)) (eq-eqb (getD (members n f) i 0) v e))
+use Rattle.answers.specs.Answers.{oneOf}
+use Rattle.answers.proofs.SetLaws.{oneOf-members}
+use Rattle.argument.specs.Answers.{SoundPlan, SoundNone}
 
 module _ (d : Day) (allowed-below : (j v : ℕ) → d .allows j v ≡ true → v < d .benches) where
   -- A placement puts heavy jobs on the day's benches only.

@@ -33,7 +33,7 @@ use Rattle.algorithm.proofs.RockGraph.{uncrowded-test, crowded-bench}
 use Rattle.algorithm.proofs.Moves.{push-found, board-moved}
 use Rattle.algorithm.proofs.Levels.{levels-kept}
 use Rattle.algorithm.proofs.SpreadLaws.{spreadOf}
-use Rattle.algorithm.proofs.Budget.{TurnsEnd, run-turns, movesOf, moves-bound, next-good}
+use Rattle.algorithm.proofs.Budget.{TurnsEnd, run-long, run-crowded, run-turns, movesOf, moves-bound, next-good}
 use Rattle.algorithm.proofs.DayFacts.{good-sound, good-facts, good-spread, reached-good, reached-run, run-ends}
 use Rattle.demand.specs.Demand.{Assignment, keepsTarget, withinTarget, SomeOver, LongJob, EachFits}
 use Rattle.argument.specs.Answers.{SoundAnswer, plan-sound, long-sound, none-sound, isPlan, isLong, WholeClaim, RunEnd, long-job, crowded-component, no-move-left}
@@ -44,16 +44,6 @@ use Rattle.argument.proofs.PlanBound.{planDirections, plan-assignment, 
 use Rattle.argument.proofs.NoneBlocks.{activated-blocking, component-blocking}
 use Rattle.argument.proofs.StateOfRun.{good-state, good-peeled, good-settled, unplaceable}
 use Rattle.argument.proofs.ShownLaws.{plan-shown, none-shown}
-
--- ── one turn of the run's tests ──
-
-run-long : (d : Day) → ltb (longJob d) (d .jobs) ≡ true → run d ≡ long (longJob d)
-unfolding run
-run-long d e = rw (e, run)
-
-run-crowded : (d : Day) → ltb (longJob d) (d .jobs) ≡ false → ltb (crowdedBench d) (d .benches) ≡ true → run d ≡ blocked (component d (crowdedBench d)) 0
-unfolding run
-run-crowded d e c = rw (e, c, run)
 
 none-crowded-before : (d : Day) (u : ℕ) → u < crowdedBench d → crowded d u ≡ false
 unfolding crowdedBench

@@ -1,5 +1,4 @@
 -- What the reply to a day must be (document 01, demand 3 and "The three answers").
---     oneOf benches           the set of the benches that a list names
 --     SoundPlan, SoundNone    what holds of a plan, and of a none (of long: demand's SoundLong)
 --     SoundAnswer d r         r is one of the three answers, and right for the day d
 --     isPlan r, isLong r      the answer is a plan; it is long
@@ -10,20 +9,16 @@ use mathlib.Core.Path.{_≡_}
 use mathlib.Core.Bool.{Bool, true, false}
 use mathlib.Core.List.{List}
 use lib.ListN.{length, getD}
-use lib.Dec.{eqb, ltb}
-use Rattle.sums.specs.Search.{any}
+use lib.Dec.{ltb}
 use Rattle.day.specs.Day.{Day, placeIn, loadOf, withinBound, longJob, moveBound}
 use Rattle.demand.specs.Demand.{Assignment, keepsTarget, SomeOver, Blocking, LongJob, EachFits, SoundLong}
 use Rattle.answers.specs.declared.answer.Answer.{Answer}
 use Rattle.answers.specs.declared.answer.Answer.the-variants.{Plan, Long, None, Fault}
 use Rattle.answers.specs.declared.answer.PlanAnswer.{PlanAnswer}
-use Rattle.answers.specs.Answers.{Reply, planReply, longReply, noneReply}
+use Rattle.answers.specs.Answers.{oneOf, Reply, planReply, longReply, noneReply}
 use Rattle.algorithm.specs.Start.{State, component, crowded}
 use Rattle.algorithm.specs.Run.{Outcome, long, blocked, canMove, answerAt, budget}
 use Rattle.algorithm.specs.States.{Reached}
-
-abbrev pub oneOf : List ℕ → ℕ → Bool
-oneOf benches v = any (length benches) (λ i. eqb (getD benches i 0) v)
 
 -- ── the three answers ──
 

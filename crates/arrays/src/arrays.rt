@@ -1,6 +1,6 @@
 // Arrays read and written at any index, and sums that stop at the greatest number: none of these asks anything of its caller.
 ghost use mathlib.Core.Path.{_≡_};
-ghost use Prim.Native.Nat.{ℕ, _+_, _-_, _<_, _≤_, min};
+ghost use Prim.Native.Nat.{ℕ, _+_, _-_, _%_, _<_, _≤_, min};
 ghost use mathlib.Core.Bool.{false, cond};
 ghost use lib.ListN.{getD, set, length};
 ghost use lib.Dec.{ltb};
@@ -170,9 +170,9 @@ pub fn byte(t: &[u8], i: usize) -> usize
     if i < t.len() { t[i] as usize } else { 0 }
 }
 
-// Entry i becomes v, which is below 256.
-fn put_byte(t: &mut [u8], i: usize, v: usize)
-    ensures { λ _. ⌜ (length (now (t .exit)) ≡ length (now (t .entry))) × (v < 256 → now (t .exit) ≡ set (now (t .entry)) i v) ⌝ }
+// Entry i becomes the lowest byte of v.
+pub fn put_byte(t: &mut [u8], i: usize, v: usize)
+    ensures { λ _. ⌜ now (t .exit) ≡ set (now (t .entry)) i (v % 256) ⌝ }
 {
     if i < t.len() {
         t[i] = (v % 256) as u8;

@@ -18,6 +18,7 @@ pub use arrays::more;
 pub use arrays::narrow;
 pub use arrays::plus;
 pub use arrays::put;
+pub use arrays::put_byte;
 pub use arrays::times;
 pub use arrays::to_bytes;
 pub use arrays::where_marked;

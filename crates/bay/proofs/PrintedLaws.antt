@@ -37,7 +37,7 @@ use Rattle.argument.specs.Answers.{SoundPlan, SoundAnswer, plan-sound, long-sou
 use Rattle.argument.proofs.Theorems.{whole-claim}
 use Rattle.lines.specs.Buffer.{Front}
 use Rattle.lines.specs.Lines.{linesOf}
-use Rattle.lines.proofs.FilledLaws.{written-places}
+use Rattle.answers.proofs.FilledLaws.{written-places}
 use Rattle.lines.proofs.TextSize.{text-size}
 use Rattle.bay.specs.Printed.{printedLines, Prints}
 

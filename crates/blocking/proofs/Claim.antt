@@ -33,14 +33,14 @@ use Rattle.answers.specs.declared.answer.PlanAnswer.{PlanAnswer}
 use Rattle.answers.specs.declared.answer.LongAnswer.{LongAnswer}
 use Rattle.answers.specs.declared.answer.NoneAnswer.{NoneAnswer}
 use Rattle.answers.specs.declared.answer.Filled.{Filled}
-use Rattle.answers.specs.Answers.{setOf, Reply, faultReply, front, Answered}
+use Rattle.answers.specs.Answers.{oneOf, setOf, Reply, faultReply, front, Answered}
 use Rattle.algorithm.specs.Answer.{answerTo, shortTables, answerFor}
 use Rattle.algorithm.specs.SoundDay.{AcceptedDay}
 use Rattle.algorithm.proofs.SheetDay.{accepted-day}
-use Rattle.argument.specs.Answers.{oneOf, SoundPlan, SoundNone, SoundAnswer, plan-sound, long-sound, none-sound}
+use Rattle.argument.specs.Answers.{SoundPlan, SoundNone, SoundAnswer, plan-sound, long-sound, none-sound}
 use Rattle.argument.specs.Answers.{isPlan, isLong, WholeClaim}
 use Rattle.argument.proofs.ShownLaws.{blocking-cong}
-use Rattle.argument.proofs.SetLaws.{setOf-lt, isSet-setOf}
+use Rattle.answers.proofs.SetLaws.{setOf-lt, isSet-setOf}
 use Rattle.argument.proofs.Theorems.{whole-claim}
 use Rattle.blocking.specs.Claim.{SheetRefused, ShortFor, TablesShort, Answerable, CanAnswer, OneCase}
 use Rattle.blocking.specs.Claim.{Untouched, OneOfThree, a-plan, a-long, a-none, PlanInTables, inSet, NamedSet, PlannerClaim}

@@ -31,7 +31,7 @@ use Rattle.answers.specs.declared.answer.Answer.the-variants.{Plan, Long, None,
 use Rattle.answers.specs.declared.answer.PlanAnswer.{PlanAnswer}
 use Rattle.answers.specs.Answers.{Reply}
 use Rattle.argument.specs.Answers.{SoundPlan, SoundAnswer, plan-sound, long-sound, none-sound}
-use Rattle.argument.proofs.SetLaws.{setOf-lt}
+use Rattle.answers.proofs.SetLaws.{setOf-lt}
 use Rattle.tables.specs.Tables.{entryOf}
 use Rattle.tables.proofs.EntryLaws.{Fit, entry-put}
 use Rattle.tables.proofs.WordLaws.{fault-word-number, fault-word-place}

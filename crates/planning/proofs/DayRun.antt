@@ -1,58 +1,52 @@
--- From the tables of a day to the answer.
---     from-zero            sums added up from an array of zeros
---     crowded-set          the component of a crowded bench, as an answer
+-- From the tables of a day to the decision.
+--     crowded-set          the component of a crowded bench, as a decision
 --     budget-is            the budget of the run
---     day-rocks            the rocks of a day, from their marks
---     long-answer, crowded-answer, run-answer     the answer: a long job, a crowded component, the turns
-use Prim.Native.Nat.{ℕ, _+_, _-_, _≤_, _<_, _^_}
-use mathlib.Core.Path.{_≡_, refl, sym, ap, ap₂, subst, _∙_}
+--     long-decided, not-long, crowded-decided, not-crowded     a long job, a crowded component, or neither
+--     marks-are, pebble-marks, weighed, burdened     kinds and weights of the jobs, and weights of the booked minutes
+--     limit-benches, limit-jobs, limit-bound, limit-small, limit-limit     the limits
+--     jobs-gathered, rocks-gathered     the rocks of a day, from their marks
+use Prim.Native.Nat.{ℕ, _+_, _-_, _*_, _≤_, _<_}
+use mathlib.Core.Path.{_≡_, refl, sym, ap, ap₂, _∙_}
 use mathlib.Core.Bool.{Bool, true, false}
 use mathlib.Core.List.{List}
 use native.Mathlib.Omega.{arith}
-use lib.ListN.{length, getD, replicate, length-replicate, getD-replicate}
+use lib.ListN.{length, getD, replicate, getD-replicate}
 use lib.Dec.{eqb, ltb}
 use borrow.Author.Tests.{lt-ltb, le-ltb}
+use Rattle.bools.proofs.BoolLaws.{clash}
 use Rattle.sums.specs.Sum.{count}
 use Rattle.sums.specs.Search.{least}
 use Rattle.sums.specs.Members.{members}
 use Rattle.sums.proofs.CountLaws.{count-cong, count-le}
 use Rattle.sums.proofs.MembersLaws.{members-cong}
-use Rattle.day.specs.Day.{Day, pebble, bound, longJob}
+use Rattle.day.specs.Day.{Day, pebble, scale, bound, longJob}
+use Rattle.answers.specs.Answers.{setOf}
 use Rattle.algorithm.specs.Rocks.{rock, weight, small, limit}
 use Rattle.algorithm.specs.SoundDay.{SoundDay}
-use Rattle.algorithm.specs.Start.{start, component, crowdedBench}
-use Rattle.algorithm.specs.Run.{run, turns, budget}
-use Rattle.algorithm.specs.Answer.{Answer, tooLong, none, shown, answerTo}
-use Rattle.algorithm.proofs.Budget.{run-turns}
+use Rattle.algorithm.specs.Start.{component, crowdedBench}
+use Rattle.algorithm.specs.Run.{Outcome, budget}
+use Rattle.algorithm.proofs.Budget.{run-long, run-crowded}
+use Rattle.arrays.specs.Arrays.{plusOf, timesOf, filled}
+use Rattle.arrays.proofs.FilledLaws.{getD-filled}
+use Rattle.sets.specs.Sets.{lowestOf, highestOf, setUpTo}
 use Rattle.rocks.specs.declared.rocks.Limits.{Limits}
-use Rattle.arrays.specs.Arrays.{timesOf, filled}
-use Rattle.start.specs.StartArrays.{rockOf, pebbleOf, limitsOf, Fields, JobsOf}
-use Rattle.sets.specs.Sets.{lowestOf, highestOf}
 use Rattle.rocks.specs.DayArrays.{DayRocks, dayRocks, balanceIn}
-use Rattle.arrays.specs.Arrays.{plusOf}
-use Rattle.sets.specs.Sets.{setUpTo}
+use Rattle.start.specs.StartArrays.{rockOf, pebbleOf, limitsOf, Fields, JobsOf}
 use Rattle.arrays.proofs.NumberLaws.{times-exact}
 use Rattle.start.proofs.StartLaws.{bound-is, small-is, limit-is}
 use Rattle.start.proofs.StartRun.{rocks-are, pebbles-are, weights-are, gathered-jobs, gathered-rocks}
 use Rattle.start.proofs.StartRun.{long-job-is}
 use Rattle.rocks.proofs.ComponentRun.{crowded-bench-is}
-use Rattle.planning.specs.declared.answer.Answer.{Answer as Given}
-use Rattle.planning.specs.declared.answer.Answer.the-variants.{Long, None}
-use Rattle.planning.specs.Planner.{setOf, given, Answered}
-use Rattle.planning.proofs.PlanRun.{set-members}
-
-pub from-zero : (n m : ℕ) (xs : List ℕ) (f : ℕ → ℕ) → n ≤ m
-    → ((v : ℕ) → v < length (replicate {A = ℕ} m 0) → getD {A = ℕ} (replicate {A = ℕ} m 0) v 0 + f v < 2 ^ 63 → getD xs v 0 ≡ getD {A = ℕ} (replicate {A = ℕ} m 0) v 0 + f v)
-    → (v : ℕ) → v < n → f v < 2 ^ 63 → getD xs v 0 ≡ f v
-from-zero n m xs f few sums v h fits =
-    let none : getD {A = ℕ} (replicate {A = ℕ} m 0) v 0 ≡ 0 = getD-replicate {A = ℕ} m v 0 0 (omega arith) in
-    sums v (omega (arith, length-replicate {A = ℕ} m 0)) (omega (arith, none)) ∙ omega (arith, none)
+use Rattle.planning.specs.declared.decision.Decision.{Decision}
+use Rattle.planning.specs.declared.decision.Decision.the-variants.{Long, None}
+use Rattle.planning.specs.Decision.{decisionOf, placesIn, Decides}
+use Rattle.planning.proofs.SetNumbers.{set-members}
 
 pub crowded-set : (d : Day) (benches v : ℕ) (set : List Bool) {s : ℕ} → benches ≡ d .benches → d .benches ≤ 64
     → ((u : ℕ) → u < d .benches → getD set u false ≡ component d v u) → s ≡ setUpTo benches (λ u. getD set u false)
-    → None s 0 ≡ given (none (members (d .benches) (component d v)) 0)
+    → None (record { set = s; moves = 0 }) ≡ None (record { set = setOf (members (d .benches) (component d v)); moves = 0 })
 crowded-set d benches v set e few are es =
-    ap (λ (k : ℕ). None k 0)
+    ap (λ (k : ℕ). None (record { set = k; moves = 0 }))
     (es ∙ ap (λ (k : ℕ). setUpTo k (λ u. getD set u false)) e ∙ set-members (d .benches) (λ u. getD set u false) few
     ∙ ap setOf (members-cong (d .benches) (λ u. getD set u false) (component d v) are))
 
@@ -66,17 +60,20 @@ budget-is d jobs benches minutes allowed F eb pebbles are {k} ek ef =
     ef ∙ ap₂ timesOf eb so-many
     ∙ times-exact (d .benches) (count (d .jobs) (pebble d)) (omega (arith, F .bounded .few-benches)) (omega (arith, F .bounded .few-jobs))
 
--- ── the answers of a day ──
+-- ── the decisions of a day ──
 
-pub long-answer : (d : Day) (jobs : ℕ) (minutes allowed : List ℕ) → Fields d jobs minutes allowed → (target : ℕ) {j : ℕ} → target ≡ d .target
-    → j ≡ least jobs (λ i. ltb target (getD minutes i 0)) → j < jobs → (places loads : List ℕ) → Answered (answerTo d) (Long j) places loads places loads
-unfolding run
-long-answer d jobs minutes allowed F target {j} et ej below places loads =
+pub long-decided : (d : Day) (jobs : ℕ) (minutes allowed : List ℕ) → Fields d jobs minutes allowed → (target : ℕ) {j : ℕ} → target ≡ d .target
+    → j ≡ least jobs (λ i. ltb target (getD minutes i 0)) → j < jobs
+    → Decides d (record { decision = Long (record { job = j }); places = replicate 512 0 })
+long-decided d jobs minutes allowed F target {j} et ej below =
     let found : j ≡ longJob d = ej ∙ ap (λ (t : ℕ). least jobs (λ i. ltb t (getD minutes i 0))) et ∙ long-job-is d jobs minutes allowed F in
     let here : ltb (longJob d) (d .jobs) ≡ true = lt-ltb (longJob d) (d .jobs) (omega (arith, found, F .jobs-are)) in
-    let answers : answerTo d ≡ tooLong (longJob d) = rw (here, run) in
-    subst (λ (a : Answer). Answered a (Long j) places loads places loads) (sym answers)
-    (record { answer = ap Long found; new-places = refl; new-loads = refl })
+    let ends = run-long d here in
+    record {
+      decision = ap (λ (k : ℕ). Long (record { job = k })) found ∙ sym (ap (decisionOf d) ends);
+      places = λ j h. getD-replicate {A = ℕ} 512 j 0 0 (omega (arith, F .bounded .few-jobs)) ∙ sym (ap (λ o. getD (placesIn o) j 0) ends);
+      one-to-a-job = λ p e. clash {b = true} refl cc;
+    }
 
 pub not-long : (d : Day) (jobs : ℕ) (minutes allowed : List ℕ) → Fields d jobs minutes allowed → (target : ℕ) {j : ℕ} → target ≡ d .target
     → j ≡ least jobs (λ i. ltb target (getD minutes i 0)) → jobs ≤ j → ltb (longJob d) (d .jobs) ≡ false
@@ -84,28 +81,26 @@ not-long d jobs minutes allowed F target {j} et ej far =
     let found : j ≡ longJob d = ej ∙ ap (λ (t : ℕ). least jobs (λ i. ltb t (getD minutes i 0))) et ∙ long-job-is d jobs minutes allowed F in
     le-ltb (longJob d) (d .jobs) (omega (arith, found, F .jobs-are))
 
-pub crowded-answer : (d : Day) (benches : ℕ) (balance : List ℕ) → ltb (longJob d) (d .jobs) ≡ false → benches ≡ d .benches
-    → ((v : ℕ) → v < d .benches → getD balance v 0 ≡ balanceIn d v) → {v : ℕ} {r : Given} → v ≡ least benches (λ u. eqb (getD balance u 0) 2) → v < benches
-    → r ≡ given (none (members (d .benches) (component d v)) 0) → (places loads : List ℕ) → Answered (answerTo d) r places loads places loads
-unfolding run
-crowded-answer d benches balance short eb are {v} {r} ev below er places loads =
+pub crowded-decided : (d : Day) (benches : ℕ) (balance : List ℕ) → d .jobs ≤ 512 → ltb (longJob d) (d .jobs) ≡ false → benches ≡ d .benches
+    → ((v : ℕ) → v < d .benches → getD balance v 0 ≡ balanceIn d v) → {v : ℕ} {r : Decision} → v ≡ least benches (λ u. eqb (getD balance u 0) 2) → v < benches
+    → r ≡ None (record { set = setOf (members (d .benches) (component d v)); moves = 0 }) → Decides d (record { decision = r; places = replicate 512 0 })
+crowded-decided d benches balance few short eb are {v} {r} ev below er =
     let found : v ≡ crowdedBench d = ev ∙ crowded-bench-is d benches balance eb are in
     let here : ltb (crowdedBench d) (d .benches) ≡ true = lt-ltb (crowdedBench d) (d .benches) (omega arith) in
-    let answers : answerTo d ≡ none (members (d .benches) (component d (crowdedBench d))) 0 = rw (short, here, run) in
-    subst (λ (a : Answer). Answered a r places loads places loads) (sym answers)
-    (record { answer = er ∙ ap (λ (u : ℕ). given (none (members (d .benches) (component d u)) 0)) found; new-places = refl; new-loads = refl })
+    let ends = run-crowded d short here in
+    let same : r ≡ None (record { set = setOf (members (d .benches) (component d (crowdedBench d))); moves = 0 }) =
+    er ∙ ap (λ (u : ℕ). None (record { set = setOf (members (d .benches) (component d u)); moves = 0 })) found in
+    record {
+      decision = same ∙ sym (ap (decisionOf d) ends);
+      places = λ j h. getD-replicate {A = ℕ} 512 j 0 0 (omega arith) ∙ sym (ap (λ o. getD (placesIn o) j 0) ends);
+      one-to-a-job = λ p e. clash {b = true} refl cc;
+    }
 
 pub not-crowded : (d : Day) (benches : ℕ) (balance : List ℕ) → benches ≡ d .benches
     → ((v : ℕ) → v < d .benches → getD balance v 0 ≡ balanceIn d v) → {v : ℕ} → v ≡ least benches (λ u. eqb (getD balance u 0) 2) → benches ≤ v
     → ltb (crowdedBench d) (d .benches) ≡ false
 not-crowded d benches balance eb are ev far =
     le-ltb (crowdedBench d) (d .benches) (omega (arith, ev, crowded-bench-is d benches balance eb are))
-
-pub run-answer : (d : Day) → ltb (longJob d) (d .jobs) ≡ false → ltb (crowdedBench d) (d .benches) ≡ false
-    → (r : Given) (places loads places′ loads′ : List ℕ)
-    → Answered (shown d (turns (budget d) d (start d) 0)) r places loads places′ loads′ → Answered (answerTo d) r places loads places′ loads′
-run-answer d short sparse r places loads places′ loads′ =
-    subst (λ (a : Answer). Answered a r places loads places′ loads′) (sym (ap (shown d) (run-turns d short sparse)))
 
 -- ── the rocks of a day ──
 
@@ -132,6 +127,16 @@ module _ (d : Day) (benches jobs p q target : ℕ) (minutes allowed : List ℕ) 
   weighed weight₀ room e =
       weights-are d jobs minutes allowed F weight₀ (omega (arith, F .bounded .few-jobs))
       (e ∙ ap (λ (k : ℕ). filled jobs (λ j. timesOf (timesOf 3 k) (getD minutes j 0)) weight₀) eq)
+
+  pub burdened : (booked burden₀ : List ℕ) {burden : List ℕ} → ((v : ℕ) → v < d .benches → getD booked v 0 ≡ d .booked v) → 64 ≤ length burden₀
+      → burden ≡ filled benches (λ v. timesOf (timesOf 3 q) (getD booked v 0)) burden₀ → (v : ℕ) → v < d .benches → getD burden v 0 ≡ scale d * d .booked v
+  burdened booked burden₀ are room e v h =
+      let B = F .bounded in
+      let tripled : timesOf 3 q ≡ 3 * d .q = ap (timesOf 3) eq ∙ times-exact 3 (d .q) (omega arith) (omega (arith, B .q-small)) in
+      ap (λ (xs : List ℕ). getD xs v 0) e
+      ∙ getD-filled (λ v. timesOf (timesOf 3 q) (getD booked v 0)) benches burden₀ v 0 (omega (arith, eb)) (omega (arith, eb, B .few-benches))
+      ∙ ap₂ timesOf tripled (are v h)
+      ∙ times-exact (3 * d .q) (d .booked v) (omega (arith, B .q-small)) (omega (arith, B .booked-small v))
 
   module _ (n : Limits) (en : n ≡ limitsOf benches jobs p q target) where
     pub limit-benches : n .benches ≡ d .benches

@@ -1,4 +1,5 @@
-pub mod PlanRun
+pub mod SetNumbers
+pub mod WriteRun
+pub mod FinishRun
 pub mod DayRun
-pub mod SheetDay
 pub mod SheetRun

@@ -1,7 +1,9 @@
 -- From the bytes of a sheet to the answer.
---     fields-of            the arrays filled with a sheet hold its day
---     sound-of             the day is sound where no job is long
+--     refusal f            a fault, with nothing written
+--     fields-of, lent      the arrays filled with a sheet hold its day
 --     short-places, short-loads     fault 13
+--     long-enough          with tables that are long enough the answer is that of the day
+--     decided-long, decided-none, decided-plan     the answer, by what is decided
 --     refused-answer, accepted-answer     the answer by whether the sheet is read
 use Prim.Native.Nat.{ℕ, _≤_, _<_}
 use mathlib.Core.Path.{_≡_, refl, sym, ap, subst, _∙_}
@@ -12,10 +14,10 @@ use native.Mathlib.Omega.{arith}
 use lib.ListN.{length, getD}
 use lib.Dec.{ltb}
 use borrow.Author.Tests.{lt-ltb, le-ltb}
-use Rattle.bools.proofs.BoolLaws.{split}
+use Rattle.bools.proofs.BoolLaws.{split, clash}
 use Rattle.bits.specs.Bits.{isSet}
+use Rattle.fields.specs.Contents.{Contents}
 use Rattle.fields.specs.declared.sheet.Head.{Head}
-use Rattle.fields.specs.declared.sheet.Job.{Job}
 use Rattle.fields.specs.declared.sheet.Sheet.{Sheet}
 use Rattle.fields.specs.declared.sheet.Reading.{Reading}
 use Rattle.fields.specs.declared.fault.Fault.{Fault}
@@ -27,33 +29,85 @@ use Rattle.frame.specs.Tables.{Tables}
 use Rattle.frame.proofs.AcceptedLaws.{accepted-sound}
 use Rattle.frame.proofs.SheetTables.{tables-of}
 use Rattle.frame.proofs.Stored.{verdict-refused, verdict-accepted}
-use Rattle.day.specs.Day.{dayOf, longJob}
-use Rattle.algorithm.specs.SoundDay.{SoundDay}
-use Rattle.algorithm.specs.Answer.{Answer, fault, answerTo}
+use Rattle.day.specs.Day.{Day, dayOf, loadsOf, largestOf}
+use Rattle.answers.specs.declared.answer.Answer.the-variants.{Long, None, Fault as Faulty}
+use Rattle.answers.specs.declared.answer.LongAnswer.{LongAnswer}
+use Rattle.answers.specs.declared.answer.NoneAnswer.{NoneAnswer}
+use Rattle.answers.specs.declared.answer.Filled.{Filled}
+use Rattle.answers.specs.Answers.{Reply, planReply, faultReply, Answered}
+use Rattle.algorithm.specs.Run.{Outcome, planned, long, blocked, run}
+use Rattle.algorithm.specs.Answer.{shown, answerTo, shortTables, answerFor}
+use Rattle.algorithm.proofs.SheetDay.{accepted-day}
 use Rattle.arrays.specs.Arrays.{filled}
-use Rattle.start.specs.StartArrays.{Fields}
 use Rattle.arrays.proofs.FilledLaws.{getD-filled}
-use Rattle.planning.specs.declared.answer.Answer.{Answer as Given}
-use Rattle.planning.specs.declared.answer.Answer.the-variants.{Fault as GivenFault}
-use Rattle.planning.specs.Planner.{shortTables, answerFor, Answered}
-use Rattle.planning.proofs.SheetDay.{sound-day, none-long}
+use Rattle.start.specs.StartArrays.{Fields}
+use Rattle.planning.specs.declared.decision.Decision.the-variants.{Plan as DecidedPlan, Long as DecidedLong, None as DecidedNone}
+use Rattle.planning.specs.declared.decision.PlanMoves.{PlanMoves}
+use Rattle.planning.specs.Decision.{decisionOf, placesIn, Lent}
 
-module _ (s : List ℕ) (h : Head) (js : List Job) (x : Sheet) (read : readSheet s ≡ accepted h js) (same : x ≡ sheetOf h js) where
-  T : Tables h js (x .head .benches) (x .count) (x .minutes) (x .allowed)
-  T = tables-of s h js x read same
+abbrev refusal : Fault → Filled
+refusal f = record { answer = Faulty f; places = 0; loads = 0 }
+
+-- ── the answer to a day, by what is decided ──
+
+module _ (d : Day) where
+  long-shown : (o : Outcome) (l : LongAnswer) → DecidedLong l ≡ decisionOf d o → (places loads : List ℕ)
+      → Answered (shown d o) (record { answer = Long l; places = 0; loads = 0 }) places loads places loads
+  long-shown (planned ps moves) l e places loads = clash {b = true} refl cc
+  long-shown (long j) l e places loads =
+      let same : l ≡ record { job = j } = cc in
+      record { answer = ap Long same; places-written = refl; loads-written = refl; new-places = refl; new-loads = refl }
+  long-shown (blocked set moves) l e places loads = clash {b = true} refl cc
+
+  none-shown : (o : Outcome) (n : NoneAnswer) → DecidedNone n ≡ decisionOf d o → (places loads : List ℕ)
+      → Answered (shown d o) (record { answer = None n; places = 0; loads = 0 }) places loads places loads
+  none-shown (planned ps moves) n e places loads = clash {b = true} refl cc
+  none-shown (long j) n e places loads = clash {b = true} refl cc
+  none-shown (blocked set moves) n e places loads =
+      let same : n ≡ record { set = _; moves = moves } = cc in
+      record { answer = ap None same; places-written = refl; loads-written = refl; new-places = refl; new-loads = refl }
+
+  plan-shown : (o : Outcome) (p : PlanMoves) → DecidedPlan p ≡ decisionOf d o
+      → shown d o ≡ planReply (record { largest = largestOf d (placesIn o); moves = p .moves }) (placesIn o) (loadsOf d (placesIn o))
+  plan-shown (planned ps moves) p e =
+      let same : p ≡ record { moves = moves } = cc in
+      ap (λ (m : PlanMoves). planReply (record { largest = largestOf d ps; moves = m .moves }) ps (loadsOf d ps)) (sym same)
+  plan-shown (long j) p e = clash {b = true} refl cc
+  plan-shown (blocked set moves) p e = clash {b = true} refl cc
+
+  pub decided-long : (l : LongAnswer) → DecidedLong l ≡ decisionOf d (run d) → (places loads : List ℕ)
+      → Answered (answerTo d) (record { answer = Long l; places = 0; loads = 0 }) places loads places loads
+  decided-long = long-shown (run d)
+
+  pub decided-none : (n : NoneAnswer) → DecidedNone n ≡ decisionOf d (run d) → (places loads : List ℕ)
+      → Answered (answerTo d) (record { answer = None n; places = 0; loads = 0 }) places loads places loads
+  decided-none = none-shown (run d)
+
+  pub decided-plan : (p : PlanMoves) → DecidedPlan p ≡ decisionOf d (run d) → {r : Filled} {places loads places′ loads′ : List ℕ}
+      → Answered (planReply (record { largest = largestOf d (placesIn (run d)); moves = p .moves }) (placesIn (run d)) (loadsOf d (placesIn (run d)))) r
+      places loads places′ loads′
+      → Answered (answerTo d) r places loads places′ loads′
+  decided-plan p e {r} {places} {loads} {places′} {loads′} =
+      subst (λ (a : Reply). Answered a r places loads places′ loads′) (sym (plan-shown (run d) p e))
+
+-- ── the day of a sheet ──
+
+module _ (s : List ℕ) (c : Contents) (x : Sheet) (read : readSheet s ≡ accepted c) (same : x ≡ sheetOf c) where
+  T : Tables c (x .head .benches) (x .count) (x .minutes) (x .allowed)
+  T = tables-of s c x read same
 
   -- An array that is filled with the entries of another.
   entry-is : (from to₀ : List ℕ) {to : List ℕ} → 512 ≤ length to₀ → to ≡ filled (x .count) (λ i. getD from i 0) to₀
-      → (j : ℕ) → j < length js → getD to j 0 ≡ getD from j 0
+      → (j : ℕ) → j < length (c .jobs) → getD to j 0 ≡ getD from j 0
   entry-is from to₀ room e j l =
       ap (λ (xs : List ℕ). getD xs j 0) e
       ∙ getD-filled (λ i. getD from i 0) (x .count) to₀ j 0 (omega (arith, T .jobs-are)) (omega (arith, T .sound .at-most-512-jobs))
 
   pub fields-of : (minutes₀ allowed₀ : List ℕ) {minutes allowed : List ℕ} → 512 ≤ length minutes₀ → 512 ≤ length allowed₀
       → minutes ≡ filled (x .count) (λ i. getD (x .minutes) i 0) minutes₀ → allowed ≡ filled (x .count) (λ i. getD (x .allowed) i 0) allowed₀
-      → Fields (dayOf h js) (x .count) minutes allowed
+      → Fields (dayOf c) (x .count) minutes allowed
   fields-of minutes₀ allowed₀ {minutes} {allowed} rm ra em ea =
-      let set-is : (j : ℕ) → j < length js → getD allowed j 0 ≡ jobAt js j .allowed = λ j l. entry-is (x .allowed) allowed₀ ra ea j l ∙ T .allowed-are j l in
+      let set-is : (j : ℕ) → j < length (c .jobs) → getD allowed j 0 ≡ jobAt (c .jobs) j .allowed = λ j l. entry-is (x .allowed) allowed₀ ra ea j l ∙ T .allowed-are j l in
       record {
         bounded = record {
           few-benches = T .sound .head .at-most-64-benches;
@@ -66,56 +120,67 @@ module _ (s : List ℕ) (h : Head) (js : List Job) (x : Sheet) (read : readSheet
         };
         jobs-are = T .jobs-are;
         minutes-are = λ j l. entry-is (x .minutes) minutes₀ rm em j l ∙ T .minutes-are j l;
-        allows = λ j v l. ap (λ (k : ℕ). ltb v (h .benches) && isSet 64 k v) (sym (set-is j l));
-        none-above = λ j v l far few. elim (split (isSet 64 (jobAt js j .allowed) v)) [
+        allows = λ j v l. ap (λ (k : ℕ). ltb v (c .head .benches) && isSet 64 k v) (sym (set-is j l));
+        none-above = λ j v l far few. elim (split (isSet 64 (jobAt (c .jobs) j .allowed) v)) [
           | inl p ↦ absurd (omega (arith, T .sound .jobs j l .allows-below v few p))
           | inr p ↦ ap (λ (k : ℕ). isSet 64 k v) (set-is j l) ∙ p
         ];
       }
 
-  pub sound-of : ltb (longJob (dayOf h js)) (length js) ≡ false → SoundDay (dayOf h js)
-  sound-of short = sound-day h js (accepted-sound s h js read) (none-long h js short)
+  pub lent : (minutes allowed booked : List ℕ) → Fields (dayOf c) (x .count) minutes allowed → ((v : ℕ) → v < c .head .benches → getD booked v 0 ≡ 0)
+      → Lent (dayOf c) (x .head) (x .count) minutes allowed booked
+  lent minutes allowed booked F none =
+      let head-is : x .head ≡ c .head = ap (λ (y : Sheet). y .head) same in
+      record {
+        accepted = accepted-day c (accepted-sound s c read);
+        fields = F;
+        benches-are = ap (λ (k : Head). k .benches) head-is;
+        p-is = ap (λ (k : Head). k .p) head-is;
+        q-is = ap (λ (k : Head). k .q) head-is;
+        target-is = ap (λ (k : Head). k .target) head-is;
+        booked-are = none;
+      }
 
   module _ (np nl : ℕ) where
-    read-answer : answerFor s np nl ≡ cond (shortTables h js np nl) (fault (Table 0)) (answerTo (dayOf h js))
+    read-answer : answerFor s np nl ≡ cond (shortTables c np nl) (faultReply (Table 0)) (answerTo (dayOf c))
     unfolding answerFor
     read-answer = rw (read, answerFor)
 
-    faulty : shortTables h js np nl ≡ true → (places loads : List ℕ) → Answered (answerFor s np nl) (GivenFault (Table 0)) places loads places loads
+    faulty : shortTables c np nl ≡ true → (places loads : List ℕ) → Answered (answerFor s np nl) (refusal (Table 0)) places loads places loads
     faulty short places loads =
-        let answers : answerFor s np nl ≡ fault (Table 0) = read-answer ∙ ap (λ (b : Bool). cond b (fault (Table 0)) (answerTo (dayOf h js))) short in
-        subst (λ (a : Answer). Answered a (GivenFault (Table 0)) places loads places loads) (sym answers)
-        (record { answer = refl; new-places = refl; new-loads = refl })
+        let answers : answerFor s np nl ≡ faultReply (Table 0) = read-answer ∙ ap (λ (b : Bool). cond b (faultReply (Table 0)) (answerTo (dayOf c))) short in
+        subst (λ (a : Reply). Answered a (refusal (Table 0)) places loads places loads) (sym answers)
+        (record { answer = refl; places-written = refl; loads-written = refl; new-places = refl; new-loads = refl })
 
-    pub short-places : np < x .count → (places loads : List ℕ) → Answered (answerFor s np nl) (GivenFault (Table 0)) places loads places loads
-    short-places below = faulty (ap (λ (b : Bool). b || ltb nl (h .benches)) (lt-ltb np (length js) (omega (arith, T .jobs-are))))
+    pub short-places : np < x .count → (places loads : List ℕ) → Answered (answerFor s np nl) (refusal (Table 0)) places loads places loads
+    short-places below = faulty (ap (λ (b : Bool). b || ltb nl (c .head .benches)) (lt-ltb np (length (c .jobs)) (omega (arith, T .jobs-are))))
 
-    pub short-loads : x .count ≤ np → nl < x .head .benches → (places loads : List ℕ) → Answered (answerFor s np nl) (GivenFault (Table 0)) places loads places loads
+    pub short-loads : x .count ≤ np → nl < x .head .benches → (places loads : List ℕ) → Answered (answerFor s np nl) (refusal (Table 0)) places loads places loads
     short-loads enough below =
-        let one : ltb np (length js) ≡ false = le-ltb np (length js) (omega (arith, T .jobs-are)) in
-        let two : ltb nl (h .benches) ≡ true = lt-ltb nl (h .benches) (omega (arith, T .benches-are)) in
+        let one : ltb np (length (c .jobs)) ≡ false = le-ltb np (length (c .jobs)) (omega (arith, T .jobs-are)) in
+        let two : ltb nl (c .head .benches) ≡ true = lt-ltb nl (c .head .benches) (omega (arith, T .benches-are)) in
         faulty (rw (one, two))
 
-    pub long-enough : x .count ≤ np → x .head .benches ≤ nl → (r : Given) (places loads places′ loads′ : List ℕ)
-        → Answered (answerTo (dayOf h js)) r places loads places′ loads′ → Answered (answerFor s np nl) r places loads places′ loads′
+    pub long-enough : x .count ≤ np → x .head .benches ≤ nl → (r : Filled) (places loads places′ loads′ : List ℕ)
+        → Answered (answerTo (dayOf c)) r places loads places′ loads′ → Answered (answerFor s np nl) r places loads places′ loads′
     long-enough jobs-fit benches-fit r places loads places′ loads′ =
-        let one : ltb np (length js) ≡ false = le-ltb np (length js) (omega (arith, T .jobs-are)) in
-        let two : ltb nl (h .benches) ≡ false = le-ltb nl (h .benches) (omega (arith, T .benches-are)) in
-        let answers : answerFor s np nl ≡ answerTo (dayOf h js) = read-answer ∙ rw (one, two) in
-        subst (λ (a : Answer). Answered a r places loads places′ loads′) (sym answers)
+        let one : ltb np (length (c .jobs)) ≡ false = le-ltb np (length (c .jobs)) (omega (arith, T .jobs-are)) in
+        let two : ltb nl (c .head .benches) ≡ false = le-ltb nl (c .head .benches) (omega (arith, T .benches-are)) in
+        let answers : answerFor s np nl ≡ answerTo (dayOf c) = read-answer ∙ rw (one, two) in
+        subst (λ (a : Reply). Answered a r places loads places′ loads′) (sym answers)
 
 module _ (s : List ℕ) (np nl : ℕ) (places loads : List ℕ) where
-  pub refused-answer : {x : Reading} {f : Fault} → x ≡ stored (readSheet s) → x .verdict ≡ Refused f → Answered (answerFor s np nl) (GivenFault f) places loads places loads
+  pub refused-answer : {x : Reading} {f : Fault} → x ≡ stored (readSheet s) → x .verdict ≡ Refused f → Answered (answerFor s np nl) (refusal f) places loads places loads
   unfolding answerFor
   refused-answer {f = f} e a =
-      let answers : answerFor s np nl ≡ fault f = rw (verdict-refused (readSheet s) e a, answerFor) in
-      subst (λ (b : Answer). Answered b (GivenFault f) places loads places loads) (sym answers)
-      (record { answer = refl; new-places = refl; new-loads = refl })
+      let answers : answerFor s np nl ≡ faultReply f = rw (verdict-refused (readSheet s) e a, answerFor) in
+      subst (λ (b : Reply). Answered b (refusal f) places loads places loads) (sym answers)
+      (record { answer = refl; places-written = refl; loads-written = refl; new-places = refl; new-loads = refl })
 
-  pub accepted-answer : (x : Reading) {r : Given} {places′ loads′ : List ℕ} → x ≡ stored (readSheet s) → x .verdict ≡ Accepted
-      → ((bytes : List ℕ) → (h : Head) → (js : List Job) → readSheet bytes ≡ accepted h js → x .sheet ≡ sheetOf h js
+  pub accepted-answer : (x : Reading) {r : Filled} {places′ loads′ : List ℕ} → x ≡ stored (readSheet s) → x .verdict ≡ Accepted
+      → ((bytes : List ℕ) → (c : Contents) → readSheet bytes ≡ accepted c → x .sheet ≡ sheetOf c
       → Answered (answerFor bytes np nl) r places loads places′ loads′)
       → Answered (answerFor s np nl) r places loads places′ loads′
   accepted-answer x e a told =
-      let (h, js, read, same) = verdict-accepted (readSheet s) x e a in
-      told s h js read same
+      let (c, read, same) = verdict-accepted (readSheet s) x e a in
+      told s c read same

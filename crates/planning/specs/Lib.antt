@@ -1,1 +1,1 @@
-pub mod Planner
+pub mod Decision

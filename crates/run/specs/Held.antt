@@ -53,6 +53,9 @@ pub record Begins (d : Day) (n : Limits) (minutes allowed amount job low high ba
   pub pebbly : (j : ℕ) → j < d .jobs → getD pebbles j false ≡ pebble d j
   pub amounts : (j : ℕ) → j < d .jobs → getD amount j 0 ≡ weight d j
   pub burdens : (v : ℕ) → v < d .benches → getD burden v 0 ≡ scale d * d .booked v
+  pub bounds : n .bound ≡ bound d
+  pub smalls : n .small ≡ small d
+  pub limits : n .limit ≡ limit d
   pub short : ltb (longJob d) (d .jobs) ≡ false
   pub sparse : ltb (crowdedBench d) (d .benches) ≡ false
 

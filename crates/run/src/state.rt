@@ -7,6 +7,7 @@ ghost use Rattle.day.specs.Day.{Day};
 ghost use Rattle.algorithm.specs.Start.{State as RunState, start as startOf};
 ghost use Rattle.rocks.specs.Neighbours.{Mapped};
 ghost use Rattle.push.specs.KeptArrays.{Chosen};
+ghost use Rattle.start.specs.StartArrays.{Placed};
 ghost use Rattle.run.specs.Held.{Begins, Ready, Holds, Unexplored, Explores, Pushed};
 
 pub struct State {
@@ -43,7 +44,7 @@ impl State {
         ensures started { λ r. ⌜ ((d : Day) → (minutes : List ℕ)
             → Begins d n minutes (now (allowed .entry)) (now (amount .entry)) (now (job .entry)) (now (low .entry))
             (now (high .entry)) (now (balance .entry)) burden rock (now (pebble .entry))
-            → Holds d 0 (startOf d) r) ⌝ }
+            → Holds d 0 (startOf d) r × Placed d (startOf d) (r .left) (r .place)) ⌝ }
     {
         let mut left = rock;
         let mut place = [0usize; 512];

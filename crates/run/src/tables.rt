@@ -16,13 +16,13 @@ pub fn pick<'a>(rocks: usize, job: &'a [usize], amount: &'a [usize], weight: &mu
 }
 
 // The job of each rock goes where the rock is directed.
-pub fn place_rocks<'a>(rocks: usize, job: &'a [usize], dir: &'a [usize], place: &mut [usize])
+pub fn place_rocks<'a>(rocks: usize, job: &'a [usize], dir: &'a [usize], place: &mut [u8])
     ensures { λ _. ⌜ now (place .exit) ≡ placedOf rocks (now (job .entry)) (now (dir .entry)) (now (place .entry)) ⌝ }
 {
     let mut r = 0;
     while r < rocks {
         let v = arrays::minus(arrays::at(dir, r), 1);
-        arrays::put(place, arrays::at(job, r), v);
+        arrays::put_byte(place, arrays::at(job, r), v);
         r += 1;
     }
 }

@@ -3,7 +3,7 @@ use native.Mathlib.Omega.{arith}
 use mathlib.Core.Path.{sym}
 use lib.Seq.{length-take-le}
 use denote.Ref.{now}
-use Rattle.lines.proofs.FilledLaws.{written-fit}
+use Rattle.answers.proofs.FilledLaws.{written-fit}
 use Rattle.bay.proofs.PrintedLaws.{printed-text, text-printed}
 use borrow.Author.Needs.{needs}
 use Rattle.bay.proofs.text_of.Statement.{statement}

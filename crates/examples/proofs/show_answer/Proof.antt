@@ -4,7 +4,7 @@ use native.Mathlib.Omega.{arith}
 use mathlib.Core.Path.{sym}
 use lib.ListN.{length}
 use lib.Seq.{length-take-le}
-use Rattle.lines.proofs.FilledLaws.{written-fit}
+use Rattle.answers.proofs.FilledLaws.{written-fit}
 use borrow.Author.Needs.{needs}
 use Rattle.examples.proofs.show_answer.Statement.{statement}
 use Rattle.examples.proofs.show_answer.Tie as tie

@@ -1,8 +1,9 @@
 -- The entries passed are filled in, if they are bytes.
 use Prim.Native.Nat.{ℕ, _≤_, _<_, _-_}
-use mathlib.Core.Path.{_≡_, refl, _∙_}
+use mathlib.Core.Path.{_≡_, refl, ap, _∙_}
+use native.Mathlib.Nat.{mod-eq-of-lt}
 use native.Mathlib.Omega.{arith}
-use lib.ListN.{length, getD}
+use lib.ListN.{length, getD, set, length-set}
 use Rattle.arrays.specs.Arrays.{filled}
 use Rattle.arrays.proofs.FilledLaws.{filled-none, filled-more, filled-end}
 use borrow.Author.Needs.{needs}
@@ -37,7 +38,7 @@ loop-less : tie.Need-loop-less Inv-loop μ-loop
 loop-less c = omega arith
 
 loop-again : tie.Need-loop-again Inv-loop μ-loop
-loop-again c = let at-put-byte = c .before .before .put-byte in let at-loop = c .before .before .before .before .before .before .loop in let at-args = c .before .before .before .before .before .before .before .before .before .before .before .args in let at-at = c .before .before .before .at in ((at-put-byte .ensures .0) ∙ (at-loop .inv .0), omega arith, λ bytes. filled-more (λ k. getD (at-args .from .now) k 0) (at-loop .i) (at-args .to .now) (at-loop .inv .2 (λ k h. bytes k (omega arith))) (at-at .ensures) (at-put-byte .ensures .1 (rw (at-at .ensures) (bytes (at-loop .i) (omega arith)))))
+loop-again c = let at-put-byte = c .before .before .put-byte in let at-loop = c .before .before .before .before .before .before .loop in let at-args = c .before .before .before .before .before .before .before .before .before .before .before .args in let at-at = c .before .before .before .at in (ap length (at-put-byte .ensures) ∙ simp length-set (at-loop .inv .0), omega arith, λ bytes. filled-more (λ k. getD (at-args .from .now) k 0) (at-loop .i) (at-args .to .now) (at-loop .inv .2 (λ k h. bytes k (omega arith))) (at-at .ensures) (let small : at-at .result < 256 = rw (at-at .ensures) (bytes (at-loop .i) (omega arith)) in at-put-byte .ensures ∙ ap (λ (k : ℕ). set (at-loop .to) (at-loop .i) k) (mod-eq-of-lt small)))
 
 same-length : tie.Need-same-length Inv-loop μ-loop
 same-length c = let at-loop = c .before .loop in at-loop .inv .0

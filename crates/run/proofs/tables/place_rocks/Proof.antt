@@ -27,8 +27,8 @@ minus-requires c κs = search needs
 at-requires-2 : tie.Need-at-requires-2 Inv-loop μ-loop
 at-requires-2 c κs = search needs
 
-put-requires : tie.Need-put-requires Inv-loop μ-loop
-put-requires c κs = search needs
+put-byte-requires : tie.Need-put-byte-requires Inv-loop μ-loop
+put-byte-requires c κs = search needs
 
 add-r : tie.Need-add-r Inv-loop μ-loop
 add-r c = omega arith
@@ -37,7 +37,7 @@ loop-less : tie.Need-loop-less Inv-loop μ-loop
 loop-less c = omega arith
 
 loop-again : tie.Need-loop-again Inv-loop μ-loop
-loop-again c = (ap length (c .before .before .put .ensures) ∙ simp length-set (c .before .before .before .before .before .before .before .before .loop .inv .0), omega arith, placed-more (c .before .before .before .before .before .before .before .before .before .before .before .before .args .job .now) (c .before .before .before .before .before .before .before .before .before .before .before .before .args .dir .now) (c .before .before .before .before .before .before .before .before .before .before .before .before .args .place .now) (c .before .before .before .before .before .before .before .before .loop .r) (c .before .before .before .before .before .before .before .before .loop .inv .2) (c .before .before .before .before .before .before .at .ensures) (c .before .before .before .before .before .minus .ensures) (c .before .before .before .at2 .ensures) (c .before .before .put .ensures))
+loop-again c = (ap length (c .before .before .put-byte .ensures) ∙ simp length-set (c .before .before .before .before .before .before .before .before .loop .inv .0), omega arith, placed-more (c .before .before .before .before .before .before .before .before .before .before .before .before .args .job .now) (c .before .before .before .before .before .before .before .before .before .before .before .before .args .dir .now) (c .before .before .before .before .before .before .before .before .before .before .before .before .args .place .now) (c .before .before .before .before .before .before .before .before .loop .r) (c .before .before .before .before .before .before .before .before .loop .inv .2) (c .before .before .before .before .before .before .at .ensures) (c .before .before .before .before .before .minus .ensures) (c .before .before .before .at2 .ensures) (c .before .before .put-byte .ensures))
 
 same-length : tie.Need-same-length Inv-loop μ-loop
 same-length c = c .before .loop .inv .0
@@ -55,7 +55,7 @@ place-rocks-spec =
     at-requires
     minus-requires
     at-requires-2
-    put-requires
+    put-byte-requires
     add-r
     loop-less
     loop-again

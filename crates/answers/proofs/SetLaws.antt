@@ -2,23 +2,28 @@
 --     Rising bs           each entry of the list is above those before it
 --     setOf-lt            the number of a rising list of benches from c on is below 2 ^ (64 - c)
 --     isSet-setOf         its bits are the benches of the list
+--     oneOf-members       the list of a set's benches names that set
+--     set-of-members      a number that has the bits of a set is the number of its list
 use Prim.Native.Nat.{ℕ, zero, suc, _+_, _-_, _*_, _/_, _%_, _^_, _≤_, _<_}
 use mathlib.Core.Path.{_≡_, refl, sym, ap, subst, _∙_}
 use mathlib.Core.Logic.{inl, inr}
-use mathlib.Core.Bool.{Bool, true, false, _||_}
+use mathlib.Core.Bool.{Bool, true, false, _&&_, _||_}
 use mathlib.Core.List.{List, [], _∷_}
 use native.Mathlib.Nat.{mod-lt}
 use native.Mathlib.Omega.{arith}
 use lib.ListN.{length, getD}
-use lib.Dec.{eqb}
+use lib.Dec.{eqb, ltb}
 use lib.Pow.{pow-pos, pow-mono, pow-add, split as pow-split, high}
-use borrow.Author.Tests.{ne-eqb, eq-eqb}
+use borrow.Author.Tests.{ne-eqb, eq-eqb, eqb-true, lt-ltb, le-ltb}
 use Rattle.bools.proofs.OrderLaws.{lt-or-le, eq-or-ne}
 use Rattle.sums.specs.Search.{any}
+use Rattle.sums.specs.Members.{members}
+use Rattle.sums.proofs.SearchLaws.{any-intro, any-elim, any-false}
+use Rattle.sums.proofs.MembersLaws.{length-members, member-below, member-holds, member-index, members-rise}
+use Rattle.bools.proofs.BoolLaws.{bool-ext}
 use Rattle.bits.specs.Bits.{isSet}
-use Rattle.bits.proofs.SetBits.{isSet-digit, isSet-zero}
-use Rattle.answers.specs.Answers.{setOf}
-use Rattle.argument.specs.Answers.{oneOf}
+use Rattle.bits.proofs.SetBits.{isSet-digit, isSet-zero, isSet-injective}
+use Rattle.answers.specs.Answers.{oneOf, setOf}
 
 -- ── one binary digit ──
 
@@ -113,3 +118,41 @@ isSet-setOf (a ∷ bs) rise below v lv =
     (one-less a (setOf bs) (setOf-lt (suc a) bs (rising-rest a bs rise) (rising-above a bs rise) rest))
     ∙ ap (λ (b : Bool). eqb a v || b) (isSet-setOf bs (rising-rest a bs rise) rest v lv)
     ∙ sym (any-front (length bs) (λ i. eqb (getD (a ∷ bs) i 0) v))
+
+-- ── the list of a set's benches ──
+
+pub oneOf-members : (n : ℕ) (f : ℕ → Bool) (v : ℕ) → v < n → oneOf (members n f) v ≡ f v
+oneOf-members n f v l =
+    let there : ℕ → Bool = λ i. eqb (getD (members n f) i 0) v in
+    bool-ext (oneOf (members n f) v) (f v)
+    (λ p. let (i, li, e) = any-elim (length (members n f)) there p in
+    ap f (sym (eqb-true (getD (members n f) i 0) v e)) ∙ member-holds n f i 0 (omega (arith, length-members n f)))
+    (λ p. let (i, li, e) = member-index n f 0 v l p in
+    any-intro (length (members n f)) there i (omega (arith, length-members n f)) (eq-eqb (getD (members n f) i 0) v e))
+
+-- ── the benches of a set, as a number ──
+
+module _ (n : ℕ) (P : ℕ → Bool) (few : n ≤ 64) where
+  rise : Rising (members n P)
+  rise i k l lk = members-rise n P i k 0 l (omega (arith, length-members n P))
+
+  below : (i : ℕ) → i < length (members n P) → getD (members n P) i 0 < 64
+  below i l = omega (arith, member-below n P i 0 (omega (arith, length-members n P)))
+
+  members-fit : setOf (members n P) < 2 ^ 64
+  members-fit = setOf-lt 0 (members n P) rise (λ i l. omega arith) below
+
+  members-bit : (v : ℕ) → v < 64 → isSet 64 (setOf (members n P)) v ≡ (ltb v n && P v)
+  members-bit v h = isSet-setOf (members n P) rise below v h ∙ elim (lt-or-le v n) [
+    | inl l ↦ oneOf-members n P v l ∙ sym (ap (λ (t : Bool). t && P v) (lt-ltb v n l))
+    | inr l ↦ outside l ∙ sym (ap (λ (t : Bool). t && P v) (le-ltb v n l))
+  ]
+    where
+      outside : n ≤ v → oneOf (members n P) v ≡ false
+      outside l = any-false (length (members n P)) (λ i. eqb (getD (members n P) i 0) v)
+          (λ i h. ne-eqb (getD (members n P) i 0) v
+          (λ e. omega (arith, e, member-below n P i 0 (omega (arith, length-members n P)))))
+
+  -- A number with the same bits is that number.
+  pub set-of-members : (set : ℕ) → set < 2 ^ 64 → ((v : ℕ) → v < 64 → isSet 64 set v ≡ (ltb v n && P v)) → set ≡ setOf (members n P)
+  set-of-members set fits bits = isSet-injective 64 set (setOf (members n P)) fits members-fit (λ v h. bits v h ∙ sym (members-bit v h))
