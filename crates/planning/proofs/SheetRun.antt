@@ -34,7 +34,8 @@ use Rattle.answers.specs.declared.answer.Answer.the-variants.{Long, None, Fault
 use Rattle.answers.specs.declared.answer.LongAnswer.{LongAnswer}
 use Rattle.answers.specs.declared.answer.NoneAnswer.{NoneAnswer}
 use Rattle.answers.specs.declared.answer.Filled.{Filled}
-use Rattle.answers.specs.Answers.{Reply, planReply, faultReply, Answered}
+use Rattle.sums.specs.Members.{members}
+use Rattle.answers.specs.Answers.{setOf, Reply, planReply, faultReply, Answered}
 use Rattle.algorithm.specs.Run.{Outcome, planned, long, blocked, run}
 use Rattle.algorithm.specs.Answer.{shown, answerTo, shortTables, answerFor}
 use Rattle.algorithm.proofs.SheetDay.{accepted-day}
@@ -64,7 +65,7 @@ module _ (d : Day) where
   none-shown (planned ps moves) n e places loads = clash {b = true} refl cc
   none-shown (long j) n e places loads = clash {b = true} refl cc
   none-shown (blocked set moves) n e places loads =
-      let same : n ≡ record { set = _; moves = moves } = cc in
+      let same : n ≡ record { set = setOf (members (d .benches) set); moves = moves } = cc in
       record { answer = ap None same; places-written = refl; loads-written = refl; new-places = refl; new-loads = refl }
 
   plan-shown : (o : Outcome) (p : PlanMoves) → DecidedPlan p ≡ decisionOf d o

@@ -2,19 +2,26 @@
 --     decisionOf d o      an outcome of the run as a decision: each case with its values
 --     placesIn o          the places of an outcome: a plan has them, no other has
 --     Lent d h ..         a head and tables hold an accepted day: its jobs' minutes and allowed benches, booked minutes
+--     Sparse d n ..       tables hold the rocks of a day without a long job or a crowded component, and its limits
 --     Decides d r         r is what the run decides of the day, with its places
 --     Places d ..         tables hold the jobs of a day, its booked minutes, and places for its jobs
 use Prim.Native.Nat.{ℕ, _<_}
 use mathlib.Core.Path.{_≡_}
+use mathlib.Core.Bool.{Bool, false}
 use mathlib.Core.List.{List, []}
 use lib.ListN.{length, getD}
+use lib.Dec.{ltb}
 use Rattle.sums.specs.Members.{members}
 use Rattle.fields.specs.declared.sheet.Head.{Head}
-use Rattle.day.specs.Day.{Day}
+use Rattle.day.specs.Day.{Day, bound, longJob}
 use Rattle.answers.specs.Answers.{setOf}
+use Rattle.algorithm.specs.Rocks.{rock, small, limit}
 use Rattle.algorithm.specs.SoundDay.{AcceptedDay}
+use Rattle.algorithm.specs.Start.{crowdedBench}
 use Rattle.algorithm.specs.Run.{Outcome, planned, long, blocked, run}
-use Rattle.start.specs.StartArrays.{Fields}
+use Rattle.rocks.specs.declared.rocks.Limits.{Limits}
+use Rattle.rocks.specs.DayArrays.{DayRocks, balanceIn}
+use Rattle.start.specs.StartArrays.{Fields, JobsOf}
 use Rattle.planning.specs.declared.decision.Decision.{Decision}
 use Rattle.planning.specs.declared.decision.Decision.the-variants.{Plan, Long, None}
 use Rattle.planning.specs.declared.decision.PlanMoves.{PlanMoves}
@@ -38,6 +45,17 @@ pub record Lent (d : Day) (h : Head) (jobs : ℕ) (minutes allowed booked : List
   pub q-is : h .q ≡ d .q
   pub target-is : h .target ≡ d .target
   pub booked-are : (v : ℕ) → v < d .benches → getD booked v 0 ≡ d .booked v
+
+pub record Sparse (d : Day) (n : Limits) (job low high balance : List ℕ) (rocks : List Bool) : Type 0 where
+  pub day-rocks : DayRocks d n low high
+  pub rock-jobs : JobsOf d job
+  pub balances : (v : ℕ) → v < d .benches → getD balance v 0 ≡ balanceIn d v
+  pub rocky : (j : ℕ) → j < d .jobs → getD rocks j false ≡ rock d j
+  pub bounds : n .bound ≡ bound d
+  pub smalls : n .small ≡ small d
+  pub limits : n .limit ≡ limit d
+  pub short : ltb (longJob d) (d .jobs) ≡ false
+  pub sparse : ltb (crowdedBench d) (d .benches) ≡ false
 
 pub record Decides (d : Day) (r : Decided) : Type 0 where
   pub decision : r .decision ≡ decisionOf d (run d)

@@ -20,7 +20,7 @@ ghost use Rattle.answers.specs.Answers.{setOf};
 ghost use Rattle.algorithm.specs.Start.{component as componentOf, crowdedBench};
 ghost use Rattle.rocks.specs.DayArrays.{DayRocks};
 ghost use Rattle.run.specs.Held.{Begins, Ready, Last, isLeft, leftJob};
-ghost use Rattle.planning.specs.Decision.{Lent, Decides};
+ghost use Rattle.planning.specs.Decision.{Lent, Sparse, Decides};
 ghost use Rattle.planning.specs.declared.decision.Decision.the-variants.{None};
 
 // A decision that is no plan.
@@ -134,25 +134,57 @@ fn crowded<'a>(n: Limits, low: &'a [usize], high: &'a [usize], v: usize) -> Deci
     })
 }
 
-// The decision of a day, with the target of the head, the jobs' minutes and allowed benches, and the booked minutes.
-pub fn decide<'a>(
+// The run of a day without a long job or a crowded component: weights and pebbles first.
+fn decide_sparse<'a>(
+    h: Head,
+    n: Limits,
+    rock: [bool; 512],
+    booked: [usize; 64],
+    minutes: &'a [usize],
+    allowed: &'a [usize],
+    job: &'a [usize],
+    low: &'a [usize],
+    high: &'a [usize],
+    balance: &'a [usize],
+) -> Decided
+    ensures { λ r. ⌜ ((d : Day) → Lent d h (n .jobs) (now (minutes .entry)) (now (allowed .entry)) booked
+        → Sparse d n (now (job .entry)) (now (low .entry)) (now (high .entry)) (now (balance .entry)) rock
+        → Decides d r) ⌝ }
+{
+    let q = h.q as usize;
+    let mut burden = [0usize; 64];
+    start::weigh(n.benches, q, &booked, &mut burden);
+    let mut amount = [0usize; 512];
+    start::weigh(n.jobs, q, minutes, &mut amount);
+    let mut pebble = [false; 512];
+    start::mark_pebbles(
+        n.jobs,
+        h.p as usize,
+        q,
+        h.target as usize,
+        minutes,
+        allowed,
+        &mut pebble,
+    );
+    decide_run(
+        n, rock, burden, &pebble, allowed, &amount, job, low, high, balance,
+    )
+}
+
+// The decision of a day without a long job: a crowded component, or the run.
+fn decide_short<'a>(
     h: Head,
     jobs: usize,
     minutes: &'a [usize],
     allowed: &'a [usize],
     booked: [usize; 64],
 ) -> Decided
-    ensures { λ r. ⌜ ((d : Day) → Lent d h jobs (now (minutes .entry)) (now (allowed .entry)) booked → Decides d r) ⌝ }
+    ensures { λ r. ⌜ ((d : Day) → Lent d h jobs (now (minutes .entry)) (now (allowed .entry)) booked
+        → ltb (longJob d) (d .jobs) ≡ false → Decides d r) ⌝ }
 {
     let p = h.p as usize;
     let q = h.q as usize;
     let target = h.target as usize;
-    let long = start::long_job(jobs, target, minutes);
-    if long < jobs {
-        return without_places(Decision::Long(LongAnswer {
-            job: long as u64,
-        }));
-    }
     let mut rock = [false; 512];
     start::mark_rocks(jobs, p, q, target, minutes, allowed, &mut rock);
     let mut job = [0usize; 512];
@@ -167,22 +199,26 @@ pub fn decide<'a>(
     if v < n.benches {
         return without_places(crowded(n, &low, &high, v));
     }
-    let mut amount = [0usize; 512];
-    start::weigh(jobs, q, minutes, &mut amount);
-    let mut burden = [0usize; 64];
-    start::weigh(n.benches, q, &booked, &mut burden);
-    let mut pebble = [false; 512];
-    start::mark_pebbles(jobs, p, q, target, minutes, allowed, &mut pebble);
-    decide_run(
-        n,
-        rock,
-        burden,
-        &pebble,
-        allowed,
-        &amount,
-        &job,
-        &low,
-        &high,
-        &balance,
+    decide_sparse(
+        h, n, rock, booked, minutes, allowed, &job, &low, &high, &balance,
     )
+}
+
+// The decision of a day, with the target of the head, the jobs' minutes and allowed benches, and the booked minutes.
+pub fn decide<'a>(
+    h: Head,
+    jobs: usize,
+    minutes: &'a [usize],
+    allowed: &'a [usize],
+    booked: [usize; 64],
+) -> Decided
+    ensures { λ r. ⌜ ((d : Day) → Lent d h jobs (now (minutes .entry)) (now (allowed .entry)) booked → Decides d r) ⌝ }
+{
+    let long = start::long_job(jobs, h.target as usize, minutes);
+    if long < jobs {
+        return without_places(Decision::Long(LongAnswer {
+            job: long as u64,
+        }));
+    }
+    decide_short(h, jobs, minutes, allowed, booked)
 }

@@ -1,0 +1,91 @@
+-- The loads added up, and both tables filled (WriteRun).
+use Prim.Native.Nat.{ℕ, _<_}
+use mathlib.Core.Path.{_≡_, ap, _∙_}
+use mathlib.Core.Bool.{Bool, false}
+use mathlib.Core.List.{List}
+use native.Mathlib.Omega.{arith}
+use lib.ListN.{length, getD, replicate, length-replicate, getD-replicate}
+use Rattle.arrays.proofs.FilledLaws.{getD-filled}
+use Rattle.planning.proofs.WriteRun.{plan-written}
+use borrow.Author.Needs.{needs}
+use Rattle.planning.proofs.write.write_plan.Statement.{statement}
+use Rattle.planning.proofs.write.write_plan.Tie as tie
+
+slice-aggregate-from-bytes : tie.Need-slice-aggregate-from-bytes
+slice-aggregate-from-bytes c = search needs
+
+from-bytes-requires : tie.Need-from-bytes-requires
+from-bytes-requires c κs = search needs
+
+slice-aggregate-own-loads : tie.Need-slice-aggregate-own-loads
+slice-aggregate-own-loads c = search needs
+
+slice-aggregate-own-loads-2 : tie.Need-slice-aggregate-own-loads-2
+slice-aggregate-own-loads-2 c = search needs
+
+slice-aggregate-own-loads-3 : tie.Need-slice-aggregate-own-loads-3
+slice-aggregate-own-loads-3 c = search needs
+
+own-loads-requires : tie.Need-own-loads-requires
+own-loads-requires c κs = search needs
+
+slice-aggregate-widen : tie.Need-slice-aggregate-widen
+slice-aggregate-widen c = search needs
+
+widen-requires : tie.Need-widen-requires
+widen-requires c κs = search needs
+
+slice-aggregate-widen-2 : tie.Need-slice-aggregate-widen-2
+slice-aggregate-widen-2 c = search needs
+
+widen-requires-2 : tie.Need-widen-requires-2
+widen-requires-2 c κs = search needs
+
+slice-aggregate-greatest : tie.Need-slice-aggregate-greatest
+slice-aggregate-greatest c = search needs
+
+greatest-requires : tie.Need-greatest-requires
+greatest-requires c κs = search needs
+
+same-length : tie.Need-same-length
+same-length c = search needs
+
+same-length-2 : tie.Need-same-length-2
+same-length-2 c = search needs
+
+returns : tie.Need-returns
+returns c =
+    let jobs = c .before .before .before .before .before .before .before .before .before .before .before .before .before .before .before .before .before .before .before .before .before .before .before .before .args .jobs in
+    let place = c .before .before .before .before .before .before .before .before .before .before .before .before .before .before .before .before .before .before .before .before .before .before .before .before .args .place .now in
+    let sized : length (c .before .before .before .before .before .before .before .before .before .before .before .before .before .before .before .before .before .before .before .before .before .before .before .before .args .booked) ≡ 64 = search needs in
+    let wide = length-replicate {A = ℕ} 512 0 in
+    λ d ps P enough rp rl.
+    let F = P .fields in
+    let few = F .bounded .few-jobs in
+    let filled-in = c .before .before .before .before .before .before .before .before .before .before .before .before .before .before .before .before .before .before .from-bytes .ensures enough (omega (arith, wide, F .jobs-are, few)) in
+    let copied : (j : ℕ) → j < d .jobs → getD (c .before .before .before .before .before .before .before .before .before .before .before .before .before .before .before .before .before .before .from-bytes .last .1 .1 .0) j 0 ≡ getD place j 0 =
+    λ j h. ap (λ (xs : List ℕ). getD xs j 0) filled-in
+    ∙ getD-filled (λ i. getD place i 0) jobs (replicate 512 0) j 0 (omega (arith, h, F .jobs-are)) (omega (arith, h, wide, few)) in
+    plan-written d jobs (c .before .before .before .before .before .before .before .before .before .before .before .before .before .before .before .before .before .before .before .before .before .before .before .before .args .benches) (c .before .before .before .before .before .before .before .before .before .before .before .before .before .before .before .before .before .before .before .before .before .before .before .before .args .minutes .now) (c .before .before .before .before .before .before .before .before .before .before .before .before .before .before .before .before .before .before .before .before .before .before .before .before .args .booked) place ps P (c .before .before .before .before .before .before .before .before .before .before .before .before .before .before .before .before .before .before .from-bytes .last .1 .1 .0) copied (replicate 512 false)
+    (λ j h. getD-replicate {A = Bool} 512 j false false (omega (arith, few))) (c .before .before .before .before .before .before .before .before .before .before .before .before .before .before .before .before .before .before .before .before .before .before .before .before .args .moves) (c .before .before .before .before .before .before .before .before .before .before .before .before .before .own-loads .last .1 .1 .1 .1 .0) (c .before .before .before .before .before .before .before .before .before .before .before .before .before .before .before .before .before .before .before .before .before .before .before .before .args .places .now) (c .before .before .before .before .before .before .before .before .before .before .before .before .before .before .before .before .before .before .before .before .before .before .before .before .args .loads .now) sized rp rl
+    (c .before .before .before .before .before .before .before .before .before .before .before .before .before .own-loads .ensures) (c .before .before .before .before .before .before .before .before .before .widen .ensures) (c .before .before .before .before .widen2 .ensures) (c .greatest .ensures)
+
+pub write-plan-spec : {M : Type 1} → statement M
+write-plan-spec =
+    tie.close
+    (tie.spec
+    slice-aggregate-from-bytes
+    from-bytes-requires
+    slice-aggregate-own-loads
+    slice-aggregate-own-loads-2
+    slice-aggregate-own-loads-3
+    own-loads-requires
+    slice-aggregate-widen
+    widen-requires
+    slice-aggregate-widen-2
+    widen-requires-2
+    slice-aggregate-greatest
+    greatest-requires
+    same-length
+    same-length-2
+    returns)
