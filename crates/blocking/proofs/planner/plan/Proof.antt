@@ -1,5 +1,5 @@
--- The equations of the planning crate, and what follows from them (Claim).
-use Rattle.blocking.proofs.Claim.{equations-claim}
+-- The equation of the planning crate, and what follows from it (Claim).
+use Rattle.blocking.proofs.Claim.{answered-claim}
 use borrow.Author.Needs.{needs}
 use Rattle.blocking.proofs.planner.plan.Statement.{statement}
 use Rattle.blocking.proofs.planner.plan.Tie as tie
@@ -14,7 +14,9 @@ same-length-2 : tie.Need-same-length-2
 same-length-2 c = search needs
 
 returns : tie.Need-returns
-returns c = let E = c .before .before .before .before .plan .ensures in (E, equations-claim (c .before .before .before .before .before .before .before .before .before .before .args .s .now) (c .before .before .before .before .before .before .before .before .before .before .args .places .now) (c .before .before .before .before .before .before .before .before .before .before .args .loads .now) _ _ _ (E .answer) (E .new-places) (E .new-loads))
+returns c =
+    let called = c .before .before .before .before .plan .ensures in
+    (called, answered-claim (c .before .before .before .before .before .before .before .before .before .before .args .s .now) (c .before .before .before .before .before .before .before .before .before .before .args .places .now) (c .before .before .before .before .before .before .before .before .before .before .args .loads .now) _ _ _ called)
 
 pub plan-spec : {M : Type 1} → statement M
 plan-spec = tie.close (tie.spec plan-requires same-length same-length-2 returns)
