@@ -34,7 +34,8 @@ abbrev pub fakeAt : ℕ → List ℕ → List ℕ → ℕ → ℕ → Bool
 fakeAt benches dir joined r v = eqb (getD dir r 0) 0 && withinAt benches joined v
 
 abbrev pub ruleOneAt : Limits → List ℕ → List ℕ → List ℕ → List ℕ → List ℕ → List ℕ → ℕ → ℕ → Bool
-ruleOneAt n low high weight own dir joined r v = fatherAt (n .benches) low high dir joined r v && ltb (n .bound) (getD own v 0 + getD weight r 0)
+ruleOneAt n low high weight own dir joined r v =
+    fatherAt (n .benches) low high dir joined r v && ltb (n .bound) (getD own v 0 + getD weight r 0)
 
 abbrev pub ruleTwoAt : Limits → List ℕ → List ℕ → List ℕ → List ℕ → List ℕ → List ℕ → ℕ → ℕ → Bool
 ruleTwoAt n low high weight dir joined level r v =
@@ -52,11 +53,13 @@ activatesAt n low high weight own dir joined level r v =
 
 abbrev pub addedAt : List Bool → List ℕ → List ℕ → List ℕ → ℕ → List ℕ
 addedAt pebble allowed place reach j =
-    cond (getD pebble j false) (set reach (getD place j 0) (bitOr (getD reach (getD place j 0) 0) (getD allowed j 0))) reach
+    cond (getD pebble j false)
+    (set reach (getD place j 0) (bitOr (getD reach (getD place j 0) 0) (getD allowed j 0))) reach
 
 abbrev pub opensAt : Limits → ℕ → ℕ → ℕ → ℕ → List ℕ → ℕ → Bool
 opensAt n i all active reached load v =
-    cond (eqb i 0) (ltb v (n .benches) && ltb (n .bound) (getD load v 0)) (isSet 64 all v && (isSet 64 reached v && not (isSet 64 active v)))
+    cond (eqb i 0) (ltb v (n .benches) && ltb (n .bound) (getD load v 0))
+    (isSet 64 all v && (isSet 64 reached v && not (isSet 64 active v)))
 
 -- The sets of the benches that the pebbles on each bench allow.
 pub record Reaches (b : Board) (reach : List ℕ) : Type 0 where
@@ -69,7 +72,8 @@ abbrev pub openedLevels : Board → ℕ → Explored → List ℕ
 openedLevels b i x = table (b .benches) (λ v. cond (typeA b i x v) i (roundOf b (x .level) v))
 
 abbrev pub openedJoined : Board → ℕ → Explored → List ℕ
-openedJoined b i x = table (b .benches) (λ v. cond (typeA b i x v && not (inConflict b x v)) i (roundOf b (x .joined) v))
+openedJoined b i x =
+    table (b .benches) (λ v. cond (typeA b i x v && not (inConflict b x v)) i (roundOf b (x .joined) v))
 
 pub record Begun (b : Board) (i : ℕ) (x : Explored) (opened : ℕ) (rounds levels : List ℕ) : Type 0 where
   pub some : (v : ℕ) → v < 64 → isSet 64 opened v ≡ (ltb v (b .benches) && typeA b i x v)
@@ -84,8 +88,10 @@ pub record Built (b : Board) (c : Constructed) (dir loads rounds : List ℕ) : T
 
 abbrev pub Grew : Limits → List ℕ → List ℕ → ℕ → Type 0
 Grew n rounds rounds′ set =
-    (v : ℕ) → v < n .benches → withinAt (n .benches) rounds v ≡ false → withinAt (n .benches) rounds′ v ≡ true → isSet 64 set v ≡ true
+    (v : ℕ) → v < n .benches → withinAt (n .benches) rounds v ≡ false → withinAt (n .benches) rounds′ v ≡ true
+    → isSet 64 set v ≡ true
 
 abbrev pub Waits : Limits → List ℕ → List ℕ → ℕ → Type 0
 Waits n joined level set =
-    (v : ℕ) → v < n .benches → withinAt (n .benches) joined v ≡ true → withinAt (n .benches) level v ≡ false → isSet 64 set v ≡ true
+    (v : ℕ) → v < n .benches → withinAt (n .benches) joined v ≡ true → withinAt (n .benches) level v ≡ false
+    → isSet 64 set v ≡ true

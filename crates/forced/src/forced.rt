@@ -41,7 +41,9 @@ fn forced_rock<'a>(
     load: &'a [usize],
     v: usize,
 ) -> usize
-    ensures { λ r. ⌜ ((n : Limits) → (low : List ℕ) → (high : List ℕ) → (dir : List ℕ) → Incident n low high (now (incident .entry)) → Neutral n dir neutral → v < 64 → r ≡ rockOf (now (incident .entry)) (forcesAt bound (now (weight .entry)) dir (now (load .entry))) v) ⌝ }
+    ensures { λ r. ⌜ ((n : Limits) → (low : List ℕ) → (high : List ℕ) → (dir : List ℕ)
+        → Incident n low high (now (incident .entry)) → Neutral n dir neutral → v < 64
+        → r ≡ rockOf (now (incident .entry)) (forcesAt bound (now (weight .entry)) dir (now (load .entry))) v) ⌝ }
 {
     let mut left = sets::common(arrays::at(incident, v), neutral);
     while 0 < left {
@@ -63,7 +65,17 @@ fn first_forcing<'a>(
     load: &'a [usize],
     cand: usize,
 ) -> Found
-    ensures { λ f. ⌜ ((n : Limits) → (low : List ℕ) → (high : List ℕ) → (dir : List ℕ) → Incident n low high (now (incident .entry)) → Neutral n dir neutral → (f .bench ≡ benchOf (now (incident .entry)) (forcesAt bound (now (weight .entry)) dir (now (load .entry))) cand) × (f .bench < 64 → (f .rock < 64) × (f .rock ≡ rockOf (now (incident .entry)) (forcesAt bound (now (weight .entry)) dir (now (load .entry))) (f .bench))) × Left (now (incident .entry)) (forcesAt bound (now (weight .entry)) dir (now (load .entry))) cand (f .left)) ⌝ }
+    ensures { λ f. ⌜ ((n : Limits) → (low : List ℕ) → (high : List ℕ) → (dir : List ℕ)
+        → Incident n low high (now (incident .entry)) → Neutral n dir neutral
+        → (f .bench
+        ≡ benchOf (now (incident .entry)) (forcesAt bound (now (weight .entry)) dir (now (load .entry))) cand)
+        × (f .bench < 64
+        → (f .rock < 64)
+        × (f .rock
+        ≡ rockOf (now (incident .entry)) (forcesAt bound (now (weight .entry)) dir (now (load .entry)))
+        (f .bench)))
+        × Left (now (incident .entry)) (forcesAt bound (now (weight .entry)) dir (now (load .entry))) cand
+        (f .left)) ⌝ }
 {
     let mut left = cand;
     while 0 < left {
@@ -97,7 +109,19 @@ fn force_marked<'a>(
     load: &mut [usize],
     first: usize,
 ) -> Sources
-    ensures { λ s. ⌜ ((b : Board) → (dirs : Directions) → Rocks b n (now (low .entry)) (now (high .entry)) (now (weight .entry)) → rocksOf b ≤ 64 → Incident n (now (low .entry)) (now (high .entry)) (now (incident .entry)) → Neutral n (now (dir .entry)) (sources .neutral) → CoversBut n (now (low .entry)) (now (high .entry)) (forcesAt (n .bound) (now (weight .entry)) (now (dir .entry)) (now (load .entry))) (sources .watch) first → first < 64 → Seen b dirs (now (dir .entry)) (now (load .entry)) → Seen b (inner (b .jobs) b dirs (set (nobody b) first true)) (now (dir .exit)) (now (load .exit)) × Covers n (now (low .entry)) (now (high .entry)) (forcesAt (n .bound) (now (weight .entry)) (now (dir .exit)) (now (load .exit))) (s .watch) × ((dir₀ : List ℕ) → Tails n (now (low .entry)) (now (high .entry)) dir₀ (now (dir .entry)) (sources .tails) → Tails n (now (low .entry)) (now (high .entry)) dir₀ (now (dir .exit)) (s .tails)) × Neutral n (now (dir .exit)) (s .neutral)) ⌝ }
+    ensures { λ s. ⌜ ((b : Board) → (dirs : Directions)
+        → Rocks b n (now (low .entry)) (now (high .entry)) (now (weight .entry)) → rocksOf b ≤ 64
+        → Incident n (now (low .entry)) (now (high .entry)) (now (incident .entry))
+        → Neutral n (now (dir .entry)) (sources .neutral)
+        → CoversBut n (now (low .entry)) (now (high .entry))
+        (forcesAt (n .bound) (now (weight .entry)) (now (dir .entry)) (now (load .entry))) (sources .watch) first
+        → first < 64 → Seen b dirs (now (dir .entry)) (now (load .entry))
+        → Seen b (inner (b .jobs) b dirs (set (nobody b) first true)) (now (dir .exit)) (now (load .exit))
+        × Covers n (now (low .entry)) (now (high .entry))
+        (forcesAt (n .bound) (now (weight .entry)) (now (dir .exit)) (now (load .exit))) (s .watch)
+        × ((dir₀ : List ℕ) → Tails n (now (low .entry)) (now (high .entry)) dir₀ (now (dir .entry)) (sources .tails)
+        → Tails n (now (low .entry)) (now (high .entry)) dir₀ (now (dir .exit)) (s .tails))
+        × Neutral n (now (dir .exit)) (s .neutral)) ⌝ }
 {
     let watch = sources.watch;
     let mut tails = sources.tails;
@@ -138,7 +162,18 @@ pub fn force<'a>(
     dir: &mut [usize],
     load: &mut [usize],
 ) -> Forced
-    ensures { λ t. ⌜ ((b : Board) → (dirs : Directions) → Rocks b n (now (low .entry)) (now (high .entry)) (now (weight .entry)) → rocksOf b ≤ 64 → Incident n (now (low .entry)) (now (high .entry)) (now (incident .entry)) → Neutral n (now (dir .entry)) before → Covers n (now (low .entry)) (now (high .entry)) (forcesAt (n .bound) (now (weight .entry)) (now (dir .entry)) (now (load .entry))) watch → Seen b dirs (now (dir .entry)) (now (load .entry)) → Seen b (forcedOrientations b dirs) (now (dir .exit)) (now (load .exit)) × Tails n (now (low .entry)) (now (high .entry)) (now (dir .entry)) (now (dir .exit)) (t .tails) × Nowhere n (now (low .entry)) (now (high .entry)) (forcesAt (n .bound) (now (weight .entry)) (now (dir .exit)) (now (load .exit))) × Neutral n (now (dir .exit)) (t .neutral)) ⌝ }
+    ensures { λ t. ⌜ ((b : Board) → (dirs : Directions)
+        → Rocks b n (now (low .entry)) (now (high .entry)) (now (weight .entry)) → rocksOf b ≤ 64
+        → Incident n (now (low .entry)) (now (high .entry)) (now (incident .entry))
+        → Neutral n (now (dir .entry)) before
+        → Covers n (now (low .entry)) (now (high .entry))
+        (forcesAt (n .bound) (now (weight .entry)) (now (dir .entry)) (now (load .entry))) watch
+        → Seen b dirs (now (dir .entry)) (now (load .entry))
+        → Seen b (forcedOrientations b dirs) (now (dir .exit)) (now (load .exit))
+        × Tails n (now (low .entry)) (now (high .entry)) (now (dir .entry)) (now (dir .exit)) (t .tails)
+        × Nowhere n (now (low .entry)) (now (high .entry))
+        (forcesAt (n .bound) (now (weight .entry)) (now (dir .exit)) (now (load .exit)))
+        × Neutral n (now (dir .exit)) (t .neutral)) ⌝ }
 {
     let mut left = watch;
     let mut tails = 0;

@@ -14,11 +14,13 @@ use Rattle.rocks.specs.declared.rocks.Limits.{Limits}
 use Rattle.rocks.specs.RockArrays.{touchesAt, otherAt}
 
 pub record Incident (n : Limits) (low high incident : List ℕ) : Type 0 where
-  pub rocks-at : (v r : ℕ) → v < 64 → r < 64 → isSet 64 (getD incident v 0) r ≡ (ltb r (n .rocks) && touchesAt low high r v)
+  pub rocks-at : (v r : ℕ) → v < 64 → r < 64
+      → isSet 64 (getD incident v 0) r ≡ (ltb r (n .rocks) && touchesAt low high r v)
 
 abbrev pub Neighbours : Limits → List ℕ → List ℕ → List ℕ → Type 0
 Neighbours n low high neighbours =
-    (r u : ℕ) → r < n .rocks → r < 64 → u < 64 → touchesAt low high r u ≡ true → otherAt low high r u < 64 → isSet 64 (getD neighbours u 0) (otherAt low high r u) ≡ true
+    (r u : ℕ) → r < n .rocks → r < 64 → u < 64 → touchesAt low high r u ≡ true → otherAt low high r u < 64
+    → isSet 64 (getD neighbours u 0) (otherAt low high r u) ≡ true
 
 pub record Mapped (n : Limits) (low high incident neighbours : List ℕ) (all touched : ℕ) : Type 0 where
   pub rocks : Incident n low high incident

@@ -1,5 +1,5 @@
 -- What the program's arrays hold after an exploration.
---     Shown b x dir loads rounds levels     the directions, the loads under them, and the two rounds of each bench are those of x
+--     Shown b x dir loads rounds levels     directions, loads under them, and both rounds of each bench are those of x
 use Prim.Native.Nat.{ℕ}
 use mathlib.Core.List.{List}
 use Rattle.algorithm.specs.Board.{Board}

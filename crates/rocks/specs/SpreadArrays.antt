@@ -5,7 +5,7 @@
 --     joinOf, widenOf, changedOf  the set after one rock, after the first k rocks; whether any of them added a bench
 --     linksAt, linkedAt           two benches joined by rock r, which is neutral; by some neutral rock
 --     treeBalance, cycleBalance, crowdedBalance, unknownBalance     the four numbers of a balance
---     balanceOf rocks size        a tree where there are fewer rocks than benches, one cycle where as many, crowded where more
+--     balanceOf rocks size        a tree where there are fewer rocks than benches, a cycle where as many, else crowded
 --     Within m k low high         the ends of the first k rocks are below m
 --     Shows m S xs                the array shows the set S of numbers below m
 use Prim.Native.Nat.{ℕ, zero, suc, _≤_, _<_}

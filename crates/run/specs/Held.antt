@@ -1,6 +1,6 @@
 -- What the program's tables hold of a day, and its state of a state of the run.
 --     isLeft d j, leftJob d r   the jobs of the rocks that are left after the start; the r-th of them
---     Ready d n ..              the tables that the run reads: numbers, rocks, weights, pebbles and allowed benches of the day
+--     Ready d n ..              what the run reads: numbers, rocks, weights, pebbles, allowed benches of the day
 --     Pushed, Last              what a push makes of a state; the state at which the turns end
 --     Held d m s left place     the state's tables hold the state s, to which the run comes after m moves
 use Prim.Native.Nat.{ℕ, suc, _≤_, _<_, _^_}
@@ -30,7 +30,8 @@ isLeft d j = getD (start d .left) j false
 abbrev pub leftJob : Day → ℕ → ℕ
 leftJob d r = getD (members (d .jobs) (isLeft d)) r 0
 
-pub record Ready (d : Day) (n : Limits) (low high weights amount : List ℕ) (pebbles : List Bool) (allowed : List ℕ) : Type 0 where
+pub record Ready (d : Day) (n : Limits) (low high weights amount : List ℕ) (pebbles : List Bool)
+    (allowed : List ℕ) : Type 0 where
   pub sound : SoundDay d
   pub uncrowded : Uncrowded d
   pub unbooked : (v : ℕ) → d .booked v ≡ 0
@@ -59,7 +60,8 @@ pub record Held (d : Day) (m : ℕ) (s : State) (left : List Bool) (place : List
 -- What a push makes of the program's state: the next state and one move more, or nothing where there is no move.
 pub data Pushed (d : Day) (m : ℕ) (s : State) (before after : Kept) : Type 0 where
   a-move : canMove d s ≡ true → Held d (suc m) (nextState d s) (after .left) (after .place) → after .moves ≡ suc m
-      → Owned (boardOf d (nextState d s)) (after .own) → Reaches (boardOf d (nextState d s)) (after .reach) → Pushed d m s before after
+      → Owned (boardOf d (nextState d s)) (after .own) → Reaches (boardOf d (nextState d s)) (after .reach)
+      → Pushed d m s before after
   no-move : pushJob (boardOf d s) (explored d s) ≡ d .jobs → after ≡ before → Pushed d m s before after
 
 -- The program's state at which the turns of the run end.

@@ -8,7 +8,8 @@ ghost use Rattle.algorithm.specs.Start.{start as startOf};
 ghost use Rattle.algorithm.specs.Run.{budget as budgetOf};
 ghost use Rattle.run.specs.Held.{Ready, Held, Last};
 
-// Explorations and pushes one after another, until no bench is overloaded or no push is possible. The tables and sets that every turn reads are made first.
+// Explorations and pushes one after another, until no bench is overloaded or no push is possible. The tables and sets
+// that every turn reads are made first.
 pub fn turns<'a>(
     first: State,
     budget: usize,
@@ -20,7 +21,10 @@ pub fn turns<'a>(
     pebble: &'a [bool],
     allowed: &'a [usize],
 ) -> State
-    ensures { λ r. ⌜ ((d : Day) → Ready d n (now (low .entry)) (now (high .entry)) (now (weight .entry)) (now (amount .entry)) (now (pebble .entry)) (now (allowed .entry)) → Held d 0 (startOf d) (first .left) (first .place) → first .moves ≡ 0 → budget ≡ budgetOf d → Last d r) ⌝ }
+    ensures { λ r. ⌜ ((d : Day)
+        → Ready d n (now (low .entry)) (now (high .entry)) (now (weight .entry)) (now (amount .entry))
+        (now (pebble .entry)) (now (allowed .entry)) → Held d 0 (startOf d) (first .left) (first .place)
+        → first .moves ≡ 0 → budget ≡ budgetOf d → Last d r) ⌝ }
 {
     let mut incident = [0usize; 64];
     rocks::fill_incident(n, low, high, &mut incident);

@@ -32,7 +32,8 @@ pub struct State {
 }
 
 impl State {
-    // start d: every job on its lowest bench, and rocks hanging off a cycle peeled. Not weighed, and no exploration yet.
+    // start d: every job on its lowest bench, and rocks hanging off a cycle peeled. Not weighed, and no exploration
+    // yet.
     pub fn start<'a>(
         n: Limits,
         rock: [bool; 512],
@@ -42,7 +43,11 @@ impl State {
         high: &'a [usize],
         balance: &'a [usize],
     ) -> State
-        ensures { λ r. ⌜ (r .moves ≡ 0) × ((d : Day) → (minutes : List ℕ) → Fields d (n .jobs) minutes (now (allowed .entry)) → DayRocks d n (now (low .entry)) (now (high .entry)) → JobsOf d (now (job .entry)) → Cycles d (now (balance .entry)) → ((j : ℕ) → j < d .jobs → getD rock j false ≡ isRock d j) → Placed d (startOf d) (r .left) (r .place)) ⌝ }
+        ensures { λ r. ⌜ (r .moves ≡ 0)
+            × ((d : Day) → (minutes : List ℕ) → Fields d (n .jobs) minutes (now (allowed .entry))
+            → DayRocks d n (now (low .entry)) (now (high .entry)) → JobsOf d (now (job .entry))
+            → Cycles d (now (balance .entry)) → ((j : ℕ) → j < d .jobs → getD rock j false ≡ isRock d j)
+            → Placed d (startOf d) (r .left) (r .place)) ⌝ }
     {
         let mut left = rock;
         let mut place = [0usize; 512];
@@ -72,7 +77,13 @@ impl State {
         pebble: &'a [bool],
         allowed: &'a [usize],
     ) -> State
-        ensures { λ r. ⌜ (r .left ≡ self .left) × (r .place ≡ self .place) × (r .moves ≡ self .moves) × ((d : Day) → (m : ℕ) → (s : RunState) → (low : List ℕ) → (high : List ℕ) → (weight : List ℕ) → Ready d n low high weight (now (amount .entry)) (now (pebble .entry)) (now (allowed .entry)) → Held d m s (self .left) (self .place) → Owned (boardOf d s) (r .own) × Reaches (boardOf d s) (r .reach)) ⌝ }
+        ensures { λ r. ⌜ (r .left ≡ self .left)
+            × (r .place ≡ self .place)
+            × (r .moves ≡ self .moves)
+            × ((d : Day) → (m : ℕ) → (s : RunState) → (low : List ℕ) → (high : List ℕ) → (weight : List ℕ)
+            → Ready d n low high weight (now (amount .entry)) (now (pebble .entry)) (now (allowed .entry))
+            → Held d m s (self .left) (self .place)
+            → Owned (boardOf d s) (r .own) × Reaches (boardOf d s) (r .reach)) ⌝ }
     {
         let mut place = [0usize; 512];
         arrays::from_bytes(n.jobs, &self.place, &mut place);
@@ -97,7 +108,17 @@ impl State {
         all: usize,
         touched: usize,
     ) -> State
-        ensures { λ r. ⌜ (r .left ≡ self .left) × (r .place ≡ self .place) × (r .moves ≡ self .moves) × (r .own ≡ self .own) × (r .reach ≡ self .reach) × ((d : Day) → (m : ℕ) → (s : RunState) → (amount : List ℕ) → (pebble : List Bool) → (allowed : List ℕ) → Ready d n (now (low .entry)) (now (high .entry)) (now (weight .entry)) amount pebble allowed → Mapped n (now (low .entry)) (now (high .entry)) (now (incident .entry)) (now (neighbours .entry)) all touched → Held d m s (self .left) (self .place) → Owned (boardOf d s) (self .own) → Reaches (boardOf d s) (self .reach) → Shown (boardOf d s) (explored d s) (r .dir) (r .load) (r .joined) (r .level)) ⌝ }
+        ensures { λ r. ⌜ (r .left ≡ self .left)
+            × (r .place ≡ self .place)
+            × (r .moves ≡ self .moves)
+            × (r .own ≡ self .own)
+            × (r .reach ≡ self .reach)
+            × ((d : Day) → (m : ℕ) → (s : RunState) → (amount : List ℕ) → (pebble : List Bool) → (allowed : List ℕ)
+            → Ready d n (now (low .entry)) (now (high .entry)) (now (weight .entry)) amount pebble allowed
+            → Mapped n (now (low .entry)) (now (high .entry)) (now (incident .entry)) (now (neighbours .entry)) all
+            touched → Held d m s (self .left) (self .place) → Owned (boardOf d s) (self .own)
+            → Reaches (boardOf d s) (self .reach)
+            → Shown (boardOf d s) (explored d s) (r .dir) (r .load) (r .joined) (r .level)) ⌝ }
     {
         let own = self.own;
         let never = arrays::plus(n.benches, 1);
@@ -138,7 +159,12 @@ impl State {
         amount: &'a [usize],
         choice: &'a [usize],
     ) -> State
-        ensures { λ r. ⌜ ((d : Day) → (m : ℕ) → (s : RunState) → (pebble : List Bool) → (allowed : List ℕ) → Ready d n (now (low .entry)) (now (high .entry)) (now (weight .entry)) (now (amount .entry)) pebble allowed → Chosen (n .jobs) pebble allowed (now (choice .entry)) → Held d m s (self .left) (self .place) → Owned (boardOf d s) (self .own) → Reaches (boardOf d s) (self .reach) → Shown (boardOf d s) (explored d s) (self .dir) (self .load) (self .joined) (self .level) → self .moves ≡ m → Pushed d m s self r) ⌝ }
+        ensures { λ r. ⌜ ((d : Day) → (m : ℕ) → (s : RunState) → (pebble : List Bool) → (allowed : List ℕ)
+            → Ready d n (now (low .entry)) (now (high .entry)) (now (weight .entry)) (now (amount .entry)) pebble
+            allowed → Chosen (n .jobs) pebble allowed (now (choice .entry)) → Held d m s (self .left) (self .place)
+            → Owned (boardOf d s) (self .own) → Reaches (boardOf d s) (self .reach)
+            → Shown (boardOf d s) (explored d s) (self .dir) (self .load) (self .joined) (self .level) → self .moves ≡ m
+            → Pushed d m s self r) ⌝ }
     {
         let mut wanted = [0usize; 66];
         push::mark_levels(

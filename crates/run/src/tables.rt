@@ -8,7 +8,8 @@ ghost use Rattle.sums.specs.Search.{any};
 
 // Entry r becomes the weight of the job of rock r.
 pub fn pick<'a>(rocks: usize, job: &'a [usize], amount: &'a [usize], weight: &mut [usize])
-    ensures { λ _. ⌜ now (weight .exit) ≡ filled rocks (λ r. getD (now (amount .entry)) (getD (now (job .entry)) r 0) 0) (now (weight .entry)) ⌝ }
+    ensures { λ _. ⌜ now (weight .exit)
+        ≡ filled rocks (λ r. getD (now (amount .entry)) (getD (now (job .entry)) r 0) 0) (now (weight .entry)) ⌝ }
 {
     let mut r = 0;
     while r < rocks {
@@ -31,7 +32,8 @@ pub fn place_rocks<'a>(rocks: usize, job: &'a [usize], dir: &'a [usize], place: 
 
 // Entry v becomes whether bench v is activated.
 pub fn mark_active(benches: usize, level: &[usize], marked: &mut [bool])
-    ensures { λ _. ⌜ now (marked .exit) ≡ filled benches (withinAt benches (now (level .entry))) (now (marked .entry)) ⌝ }
+    ensures { λ _. ⌜ now (marked .exit)
+        ≡ filled benches (withinAt benches (now (level .entry))) (now (marked .entry)) ⌝ }
 {
     let mut v = 0;
     while v < benches {
