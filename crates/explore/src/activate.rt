@@ -8,9 +8,9 @@ ghost use lib.ListN.{getD, length};
 ghost use Rattle.bits.specs.Bits.{isSet};
 ghost use Rattle.algorithm.specs.Board.{Board, Directions};
 ghost use Rattle.algorithm.specs.Explore.{activate as activated};
-ghost use Rattle.rocks.specs.BoardArrays.{rocksOf, Rocks, Directed, Owned, Rounds};
+ghost use Rattle.rocks.specs.BoardArrays.{Directed, Owned, Rounds};
+ghost use Rattle.rocks.specs.Neighbours.{RockGraph};
 ghost use Rattle.explore.specs.ExploreArrays.{ruleOneAt, ruleTwoAt, activatesAt, Waits};
-ghost use Rattle.rocks.specs.Neighbours.{Incident};
 ghost use Rattle.forced.specs.CandidateArrays.{someRock, benchOf};
 
 // rule1 b dir joined v, by the rock r.
@@ -168,9 +168,8 @@ pub fn activate<'a>(
         → getD (now (level .exit)) v 0
         ≡ cond (isSet 64 wait v && not (isSet 64 left v)) i (getD (now (level .entry)) v 0))
         × ((b : Board) → (dirs : Directions) → (xs : List ℕ) → (ys : List ℕ)
-        → Rocks b n (now (low .entry)) (now (high .entry)) (now (weight .entry)) → rocksOf b ≤ 64
-        → Incident n (now (low .entry)) (now (high .entry)) (now (incident .entry)) → i ≤ n .benches
-        → Waits n (now (joined .entry)) (now (level .entry)) wait → Owned b (now (own .entry))
+        → RockGraph b n (now (low .entry)) (now (high .entry)) (now (weight .entry)) (now (incident .entry))
+        → i ≤ n .benches → Waits n (now (joined .entry)) (now (level .entry)) wait → Owned b (now (own .entry))
         → Directed b dirs (now (dir .entry)) → Rounds b xs (now (joined .entry)) → Rounds b ys (now (level .entry))
         → Rounds b (activated (b .benches) b i dirs xs ys) (now (level .exit))) ⌝ }
 {

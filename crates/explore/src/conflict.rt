@@ -5,9 +5,9 @@ ghost use Prim.Native.Nat.{ℕ, _≤_, _<_};
 ghost use mathlib.Core.List.{List};
 ghost use Rattle.algorithm.specs.Board.{Board, Directions};
 ghost use Rattle.algorithm.specs.Explore.{conflictSet, construct as constructed};
-ghost use Rattle.rocks.specs.BoardArrays.{rocksOf, Rocks, Directed, Seen, Rounds};
-ghost use Rattle.explore.specs.ExploreArrays.{joinsAt, fakeAt, Built, Grew};
-ghost use Rattle.rocks.specs.Neighbours.{Incident, Neighbours};
+ghost use Rattle.rocks.specs.BoardArrays.{Directed, Rounds};
+ghost use Rattle.explore.specs.ExploreArrays.{joinsAt, fakeAt, Opened, Built, Grew};
+ghost use Rattle.rocks.specs.Neighbours.{Incident, Neighbours, RockGraph};
 ghost use Rattle.forced.specs.SetArrays.{Covers, Nowhere, forcesAt};
 ghost use Rattle.forced.specs.CandidateArrays.{Neutral, rockOf, benchOf};
 
@@ -78,9 +78,8 @@ fn close<'a>(
     joined: &mut [usize],
 ) -> usize
     ensures { λ grown. ⌜ ((b : Board) → (weight : List ℕ) → (dirs : Directions) → (xs : List ℕ)
-        → Rocks b n (now (low .entry)) (now (high .entry)) weight → rocksOf b ≤ 64 → i ≤ b .benches
-        → Incident n (now (low .entry)) (now (high .entry)) (now (incident .entry))
-        → Neighbours n (now (low .entry)) (now (high .entry)) (now (neighbours .entry))
+        → RockGraph b n (now (low .entry)) (now (high .entry)) weight (now (incident .entry))
+        → i ≤ b .benches → Neighbours n (now (low .entry)) (now (high .entry)) (now (neighbours .entry))
         → Covers n (now (low .entry)) (now (high .entry))
         (joinsAt (n .benches) (now (low .entry)) (now (high .entry)) (now (dir .entry)) (now (joined .entry))) cand
         → Directed b dirs (now (dir .entry)) → Rounds b xs (now (joined .entry))
@@ -171,17 +170,10 @@ pub fn construct<'a>(
     joined: &mut [usize],
 ) -> Grown
     ensures { λ grown. ⌜ ((b : Board) → (dirs : Directions) → (xs : List ℕ)
-        → Rocks b n (now (low .entry)) (now (high .entry)) (now (weight .entry)) → rocksOf b ≤ 64 → i ≤ b .benches
-        → Incident n (now (low .entry)) (now (high .entry)) (now (incident .entry))
+        → RockGraph b n (now (low .entry)) (now (high .entry)) (now (weight .entry)) (now (incident .entry))
         → Neighbours n (now (low .entry)) (now (high .entry)) (now (neighbours .entry))
-        → Neutral n (now (dir .entry)) before
-        → Covers n (now (low .entry)) (now (high .entry))
-        (joinsAt (n .benches) (now (low .entry)) (now (high .entry)) (now (dir .entry)) (now (joined .entry))) cand
-        → Covers n (now (low .entry)) (now (high .entry)) (fakeAt (n .benches) (now (dir .entry)) (now (joined .entry)))
-        fakes
-        → Nowhere n (now (low .entry)) (now (high .entry))
-        (forcesAt (n .bound) (now (weight .entry)) (now (dir .entry)) (now (load .entry)))
-        → Seen b dirs (now (dir .entry)) (now (load .entry)) → Rounds b xs (now (joined .entry))
+        → Opened b n (now (low .entry)) (now (high .entry)) (now (weight .entry)) i dirs xs
+        (now (dir .entry)) (now (load .entry)) (now (joined .entry)) cand fakes before
         → Built b (constructed (b .jobs) b i dirs xs) (now (dir .exit)) (now (load .exit)) (now (joined .exit))
         × Grew n (now (joined .entry)) (now (joined .exit)) (grown .benches)
         × Nowhere n (now (low .entry)) (now (high .entry))

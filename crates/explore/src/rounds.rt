@@ -10,10 +10,9 @@ ghost use lib.ListN.{getD, length, set, replicate};
 ghost use Rattle.bits.specs.Bits.{isSet};
 ghost use Rattle.algorithm.specs.Board.{Board};
 ghost use Rattle.algorithm.specs.Explore.{explore as explored};
-ghost use Rattle.arrays.specs.Arrays.{plusOf};
 ghost use Rattle.rocks.specs.RockArrays.{withinAt};
 ghost use Rattle.rocks.specs.BoardArrays.{rocksOf, Rocks, Owned, Pebbles};
-ghost use Rattle.explore.specs.ExploreArrays.{addedAt, opensAt, Reaches};
+ghost use Rattle.explore.specs.ExploreArrays.{addedAt, opensAt, Reaches, Blank};
 ghost use Rattle.rocks.specs.Neighbours.{Mapped};
 ghost use Rattle.rocks.specs.Shown.{Shown};
 
@@ -159,10 +158,8 @@ pub fn explore<'a>(
 )
     ensures { λ _. ⌜ ((b : Board) → Rocks b n (now (low .entry)) (now (high .entry)) (now (weight .entry))
         → Mapped n (now (low .entry)) (now (high .entry)) (now (incident .entry)) (now (neighbours .entry)) all touched
-        → Owned b (now (own .entry)) → Reaches b (now (reach .entry)) → rocksOf b ≤ 64 → length (now (own .entry)) ≡ 64
-        → now (dir .entry) ≡ replicate 64 0 → now (load .entry) ≡ now (own .entry)
-        → now (joined .entry) ≡ replicate 64 (plusOf (n .benches) 1)
-        → now (level .entry) ≡ replicate 64 (plusOf (n .benches) 1)
+        → Owned b (now (own .entry)) → Reaches b (now (reach .entry)) → rocksOf b ≤ 64
+        → Blank n (now (own .entry)) (now (dir .entry)) (now (load .entry)) (now (joined .entry)) (now (level .entry))
         → Shown b (explored b) (now (dir .exit)) (now (load .exit)) (now (joined .exit)) (now (level .exit))) ⌝ }
 {
     let all_rocks = sets::everywhere(n.rocks);

@@ -3,13 +3,13 @@ use rocks::Limits;
 ghost use mathlib.Core.Path.{_≡_};
 ghost use mathlib.Core.Bool.{true};
 ghost use mathlib.Core.List.{List};
-ghost use Prim.Native.Nat.{ℕ, _<_, _≤_};
+ghost use Prim.Native.Nat.{ℕ, _<_};
 ghost use lib.ListN.{set};
 ghost use Rattle.algorithm.specs.Board.{Board, Directions};
 ghost use Rattle.algorithm.specs.Forced.{inner, nobody, forcedOrientations};
-ghost use Rattle.rocks.specs.BoardArrays.{rocksOf, Rocks, Seen};
+ghost use Rattle.rocks.specs.BoardArrays.{Seen};
 ghost use Rattle.forced.specs.SetArrays.{forcesAt, Covers, Nowhere, Tails};
-ghost use Rattle.rocks.specs.Neighbours.{Incident};
+ghost use Rattle.rocks.specs.Neighbours.{Incident, RockGraph};
 ghost use Rattle.forced.specs.CandidateArrays.{Neutral, rockOf, benchOf, Left, CoversBut};
 
 // A bench and a rock at it, and the candidates that are left.
@@ -110,8 +110,7 @@ fn force_marked<'a>(
     first: usize,
 ) -> Sources
     ensures { λ s. ⌜ ((b : Board) → (dirs : Directions)
-        → Rocks b n (now (low .entry)) (now (high .entry)) (now (weight .entry)) → rocksOf b ≤ 64
-        → Incident n (now (low .entry)) (now (high .entry)) (now (incident .entry))
+        → RockGraph b n (now (low .entry)) (now (high .entry)) (now (weight .entry)) (now (incident .entry))
         → Neutral n (now (dir .entry)) (sources .neutral)
         → CoversBut n (now (low .entry)) (now (high .entry))
         (forcesAt (n .bound) (now (weight .entry)) (now (dir .entry)) (now (load .entry))) (sources .watch) first
@@ -163,8 +162,7 @@ pub fn force<'a>(
     load: &mut [usize],
 ) -> Forced
     ensures { λ t. ⌜ ((b : Board) → (dirs : Directions)
-        → Rocks b n (now (low .entry)) (now (high .entry)) (now (weight .entry)) → rocksOf b ≤ 64
-        → Incident n (now (low .entry)) (now (high .entry)) (now (incident .entry))
+        → RockGraph b n (now (low .entry)) (now (high .entry)) (now (weight .entry)) (now (incident .entry))
         → Neutral n (now (dir .entry)) before
         → Covers n (now (low .entry)) (now (high .entry))
         (forcesAt (n .bound) (now (weight .entry)) (now (dir .entry)) (now (load .entry))) watch

@@ -29,7 +29,7 @@ explore-requires : tie.Need-explore-requires
 explore-requires c κs = search needs
 
 returns : tie.Need-returns
-returns c = let at-args = c .before .before .before .before .before .before .before .before .before .before .before .before .before .before .before .before .before .before .before .before .args in let at-explore = c .before .before .before .before .explore in let at-plus = c .before .before .before .before .before .before .before .before .before .before .before .before .before .plus in let sized : length (at-args .t1 .own) ≡ 64 = search needs in (refl, refl, refl, refl, refl, λ d m s amount pebble allowed R M H O F. oriented-shown d (at-args .n) (at-args .low .now) (at-args .high .now) (at-args .weight .now) amount pebble allowed R m s (at-args .t1 .left) (at-args .t1 .place) H _ _ _ _ _ _ O F (λ rocks owned reaches few. at-explore .ensures (boardOf d s) rocks M owned reaches few sized refl refl (ap (replicate 64) (at-plus .ensures)) (ap (replicate 64) (at-plus .ensures))))
+returns c = let at-args = c .before .before .before .before .before .before .before .before .before .before .before .before .before .before .before .before .before .before .before .before .args in let at-explore = c .before .before .before .before .explore in let at-plus = c .before .before .before .before .before .before .before .before .before .before .before .before .before .plus in let sized : length (at-args .t1 .own) ≡ 64 = search needs in (refl, refl, refl, refl, refl, λ d m s amount pebble allowed R M H O F. oriented-shown d (at-args .n) (at-args .low .now) (at-args .high .now) (at-args .weight .now) amount pebble allowed R m s (at-args .t1 .left) (at-args .t1 .place) H _ _ _ _ _ _ O F (λ rocks owned reaches few. at-explore .ensures (boardOf d s) rocks M owned reaches few (record { own-room = sized; undirected = refl; unloaded = refl; never-joined = ap (replicate 64) (at-plus .ensures); never-active = ap (replicate 64) (at-plus .ensures) })))
 
 pub orient-spec : {M : Type 1} → statement M
 orient-spec = tie.close (tie.spec plus-requires slice-aggregate-explore slice-aggregate-explore-2 slice-aggregate-explore-3 slice-aggregate-explore-4 slice-aggregate-explore-5 explore-requires returns)
