@@ -1,4 +1,5 @@
-// Arrays read and written at any index, and sums that stop at the greatest number: none of these asks anything of its caller.
+// Arrays read and written at any index, and sums that stop at the greatest number. None of these asks anything of its
+// caller.
 ghost use mathlib.Core.Path.{_≡_};
 ghost use Prim.Native.Nat.{ℕ, _+_, _-_, _%_, _<_, _≤_, min};
 ghost use mathlib.Core.Bool.{false, cond};
@@ -181,7 +182,8 @@ pub fn put_byte(t: &mut [u8], i: usize, v: usize)
 
 // The first n entries of one table, which has as many, go to the other.
 pub fn from_bytes(n: usize, from: &[u8], to: &mut [usize])
-    ensures { λ _. ⌜ (n ≤ length (now (from .entry)) → n ≤ length (now (to .entry)) → now (to .exit) ≡ filled n (λ i. getD (now (from .entry)) i 0) (now (to .entry))) ⌝ }
+    ensures { λ _. ⌜ (n ≤ length (now (from .entry)) → n ≤ length (now (to .entry))
+        → now (to .exit) ≡ filled n (λ i. getD (now (from .entry)) i 0) (now (to .entry))) ⌝ }
 {
     let end = least(n, least(from.len(), to.len()));
     let mut i = 0;
@@ -193,7 +195,9 @@ pub fn from_bytes(n: usize, from: &[u8], to: &mut [usize])
 
 // The same, where every entry is below 256.
 pub fn to_bytes(n: usize, from: &[usize], to: &mut [u8])
-    ensures { λ _. ⌜ (n ≤ length (now (from .entry)) → n ≤ length (now (to .entry)) → ((i : ℕ) → i < n → getD (now (from .entry)) i 0 < 256) → now (to .exit) ≡ filled n (λ i. getD (now (from .entry)) i 0) (now (to .entry))) ⌝ }
+    ensures { λ _. ⌜ (n ≤ length (now (from .entry)) → n ≤ length (now (to .entry))
+        → ((i : ℕ) → i < n → getD (now (from .entry)) i 0 < 256)
+        → now (to .exit) ≡ filled n (λ i. getD (now (from .entry)) i 0) (now (to .entry))) ⌝ }
 {
     let end = least(n, least(from.len(), to.len()));
     let mut i = 0;

@@ -1,4 +1,5 @@
-// Arrays read and written at any index, and numbers that stop at the greatest: none of these asks anything of its caller.
+// Arrays read and written at any index, and numbers that stop at the greatest. None of these asks anything of its
+// caller.
 mod arrays;
 mod loads;
 

@@ -8,7 +8,8 @@ ghost use Rattle.arrays.specs.Loads.{amountOn, addedAt};
 
 // Job j's amount is put on its bench, unless the job is left.
 fn add<'a>(amount: &'a [usize], left: &'a [bool], place: &'a [usize], own: &mut [usize], j: usize)
-    ensures { λ _. ⌜ now (own .exit) ≡ addedAt (now (amount .entry)) (now (left .entry)) (now (place .entry)) (now (own .entry)) j ⌝ }
+    ensures { λ _. ⌜ now (own .exit)
+        ≡ addedAt (now (amount .entry)) (now (left .entry)) (now (place .entry)) (now (own .entry)) j ⌝ }
 {
     if arrays::holds(left, j) {
         return;
@@ -26,7 +27,12 @@ pub fn own_loads<'a>(
     place: &'a [usize],
     own: &mut [usize],
 )
-    ensures { λ _. ⌜ ((v : ℕ) → v < length (now (own .entry)) → getD (now (own .entry)) v 0 + sum jobs (amountOn (now (amount .entry)) (now (left .entry)) (now (place .entry)) v) < 2 ^ 63 → getD (now (own .exit)) v 0 ≡ getD (now (own .entry)) v 0 + sum jobs (amountOn (now (amount .entry)) (now (left .entry)) (now (place .entry)) v)) ⌝ }
+    ensures { λ _. ⌜ ((v : ℕ) → v < length (now (own .entry))
+        → getD (now (own .entry)) v 0 + sum jobs
+        (amountOn (now (amount .entry)) (now (left .entry)) (now (place .entry)) v) < 2 ^ 63
+        → getD (now (own .exit)) v 0
+        ≡ getD (now (own .entry)) v 0 + sum jobs
+        (amountOn (now (amount .entry)) (now (left .entry)) (now (place .entry)) v)) ⌝ }
 {
     let mut j = 0;
     while j < jobs {

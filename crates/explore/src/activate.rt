@@ -8,9 +8,9 @@ ghost use lib.ListN.{getD, length};
 ghost use Rattle.bits.specs.Bits.{isSet};
 ghost use Rattle.algorithm.specs.Board.{Board, Directions};
 ghost use Rattle.algorithm.specs.Explore.{activate as activated};
-ghost use Rattle.rocks.specs.BoardArrays.{rocksOf, Rocks, Directed, Owned, Rounds};
+ghost use Rattle.rocks.specs.BoardArrays.{Directed, Owned, Rounds};
+ghost use Rattle.rocks.specs.Neighbours.{RockGraph};
 ghost use Rattle.explore.specs.ExploreArrays.{ruleOneAt, ruleTwoAt, activatesAt, Waits};
-ghost use Rattle.rocks.specs.Neighbours.{Incident};
 ghost use Rattle.forced.specs.CandidateArrays.{someRock, benchOf};
 
 // rule1 b dir joined v, by the rock r.
@@ -25,7 +25,9 @@ fn rule_one<'a>(
     r: usize,
     v: usize,
 ) -> bool
-    ensures { λ t. ⌜ t ≡ ruleOneAt n (now (low .entry)) (now (high .entry)) (now (weight .entry)) (now (own .entry)) (now (dir .entry)) (now (joined .entry)) r v ⌝ }
+    ensures { λ t. ⌜ t
+        ≡ ruleOneAt n (now (low .entry)) (now (high .entry)) (now (weight .entry)) (now (own .entry)) (now (dir .entry))
+        (now (joined .entry)) r v ⌝ }
 {
     if !rocks::father(n.benches, low, high, dir, joined, r, v) {
         return false;
@@ -45,7 +47,9 @@ fn rule_two<'a>(
     r: usize,
     v: usize,
 ) -> bool
-    ensures { λ t. ⌜ t ≡ ruleTwoAt n (now (low .entry)) (now (high .entry)) (now (weight .entry)) (now (dir .entry)) (now (joined .entry)) (now (level .entry)) r v ⌝ }
+    ensures { λ t. ⌜ t
+        ≡ ruleTwoAt n (now (low .entry)) (now (high .entry)) (now (weight .entry)) (now (dir .entry))
+        (now (joined .entry)) (now (level .entry)) r v ⌝ }
 {
     if n.small <= arrays::at(weight, r) {
         return false;
@@ -72,7 +76,9 @@ fn activates<'a>(
     r: usize,
     v: usize,
 ) -> bool
-    ensures { λ t. ⌜ t ≡ activatesAt n (now (low .entry)) (now (high .entry)) (now (weight .entry)) (now (own .entry)) (now (dir .entry)) (now (joined .entry)) (now (level .entry)) r v ⌝ }
+    ensures { λ t. ⌜ t
+        ≡ activatesAt n (now (low .entry)) (now (high .entry)) (now (weight .entry)) (now (own .entry))
+        (now (dir .entry)) (now (joined .entry)) (now (level .entry)) r v ⌝ }
 {
     if !rocks::within(n.benches, joined, v) {
         return false;
@@ -99,7 +105,10 @@ fn active_by<'a>(
     level: &'a [usize],
     v: usize,
 ) -> bool
-    ensures { λ t. ⌜ t ≡ someRock (now (incident .entry)) (activatesAt n (now (low .entry)) (now (high .entry)) (now (weight .entry)) (now (own .entry)) (now (dir .entry)) (now (joined .entry)) (now (level .entry))) v ⌝ }
+    ensures { λ t. ⌜ t
+        ≡ someRock (now (incident .entry))
+        (activatesAt n (now (low .entry)) (now (high .entry)) (now (weight .entry)) (now (own .entry))
+        (now (dir .entry)) (now (joined .entry)) (now (level .entry))) v ⌝ }
 {
     let mut left = arrays::at(incident, v);
     while 0 < left {
@@ -125,7 +134,10 @@ fn first_active<'a>(
     joined: &'a [usize],
     level: &'a [usize],
 ) -> usize
-    ensures { λ v. ⌜ v ≡ benchOf (now (incident .entry)) (activatesAt n (now (low .entry)) (now (high .entry)) (now (weight .entry)) (now (own .entry)) (now (dir .entry)) (now (joined .entry)) (now (level .entry))) wait ⌝ }
+    ensures { λ v. ⌜ v
+        ≡ benchOf (now (incident .entry))
+        (activatesAt n (now (low .entry)) (now (high .entry)) (now (weight .entry)) (now (own .entry))
+        (now (dir .entry)) (now (joined .entry)) (now (level .entry))) wait ⌝ }
 {
     let mut left = wait;
     while 0 < left {
@@ -152,7 +164,14 @@ pub fn activate<'a>(
     joined: &'a [usize],
     level: &mut [usize],
 ) -> usize
-    ensures { λ left. ⌜ ((v : ℕ) → v < length (now (level .entry)) → v < 64 → getD (now (level .exit)) v 0 ≡ cond (isSet 64 wait v && not (isSet 64 left v)) i (getD (now (level .entry)) v 0)) × ((b : Board) → (dirs : Directions) → (xs : List ℕ) → (ys : List ℕ) → Rocks b n (now (low .entry)) (now (high .entry)) (now (weight .entry)) → rocksOf b ≤ 64 → Incident n (now (low .entry)) (now (high .entry)) (now (incident .entry)) → i ≤ n .benches → Waits n (now (joined .entry)) (now (level .entry)) wait → Owned b (now (own .entry)) → Directed b dirs (now (dir .entry)) → Rounds b xs (now (joined .entry)) → Rounds b ys (now (level .entry)) → Rounds b (activated (b .benches) b i dirs xs ys) (now (level .exit))) ⌝ }
+    ensures { λ left. ⌜ ((v : ℕ) → v < length (now (level .entry)) → v < 64
+        → getD (now (level .exit)) v 0
+        ≡ cond (isSet 64 wait v && not (isSet 64 left v)) i (getD (now (level .entry)) v 0))
+        × ((b : Board) → (dirs : Directions) → (xs : List ℕ) → (ys : List ℕ)
+        → RockGraph b n (now (low .entry)) (now (high .entry)) (now (weight .entry)) (now (incident .entry))
+        → i ≤ n .benches → Waits n (now (joined .entry)) (now (level .entry)) wait → Owned b (now (own .entry))
+        → Directed b dirs (now (dir .entry)) → Rounds b xs (now (joined .entry)) → Rounds b ys (now (level .entry))
+        → Rounds b (activated (b .benches) b i dirs xs ys) (now (level .exit))) ⌝ }
 {
     let mut left = wait;
     let mut turns = n.benches;

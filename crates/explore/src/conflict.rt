@@ -5,9 +5,9 @@ ghost use Prim.Native.Nat.{ℕ, _≤_, _<_};
 ghost use mathlib.Core.List.{List};
 ghost use Rattle.algorithm.specs.Board.{Board, Directions};
 ghost use Rattle.algorithm.specs.Explore.{conflictSet, construct as constructed};
-ghost use Rattle.rocks.specs.BoardArrays.{rocksOf, Rocks, Directed, Seen, Rounds};
-ghost use Rattle.explore.specs.ExploreArrays.{joinsAt, fakeAt, Built, Grew};
-ghost use Rattle.rocks.specs.Neighbours.{Incident, Neighbours};
+ghost use Rattle.rocks.specs.BoardArrays.{Directed, Rounds};
+ghost use Rattle.explore.specs.ExploreArrays.{joinsAt, fakeAt, Opened, Built, Grew};
+ghost use Rattle.rocks.specs.Neighbours.{Incident, Neighbours, RockGraph};
 ghost use Rattle.forced.specs.SetArrays.{Covers, Nowhere, forcesAt};
 ghost use Rattle.forced.specs.CandidateArrays.{Neutral, rockOf, benchOf};
 
@@ -21,7 +21,9 @@ fn joining_rock<'a>(
     joined: &'a [usize],
     v: usize,
 ) -> usize
-    ensures { λ r. ⌜ r ≡ rockOf (now (incident .entry)) (joinsAt benches (now (low .entry)) (now (high .entry)) (now (dir .entry)) (now (joined .entry))) v ⌝ }
+    ensures { λ r. ⌜ r
+        ≡ rockOf (now (incident .entry))
+        (joinsAt benches (now (low .entry)) (now (high .entry)) (now (dir .entry)) (now (joined .entry))) v ⌝ }
 {
     if rocks::within(benches, joined, v) {
         return 64;
@@ -47,7 +49,9 @@ fn first_joining<'a>(
     dir: &'a [usize],
     joined: &'a [usize],
 ) -> usize
-    ensures { λ v. ⌜ v ≡ benchOf (now (incident .entry)) (joinsAt benches (now (low .entry)) (now (high .entry)) (now (dir .entry)) (now (joined .entry))) cand ⌝ }
+    ensures { λ v. ⌜ v
+        ≡ benchOf (now (incident .entry))
+        (joinsAt benches (now (low .entry)) (now (high .entry)) (now (dir .entry)) (now (joined .entry))) cand ⌝ }
 {
     let mut left = cand;
     while 0 < left {
@@ -60,7 +64,8 @@ fn first_joining<'a>(
     64
 }
 
-// conflictSet benches b i dir joined, where every bench that joins is a candidate. The result has the benches that joined.
+// conflictSet benches b i dir joined, where every bench that joins is a candidate. The result has the benches that
+// joined.
 fn close<'a>(
     n: Limits,
     i: usize,
@@ -72,7 +77,16 @@ fn close<'a>(
     dir: &'a [usize],
     joined: &mut [usize],
 ) -> usize
-    ensures { λ grown. ⌜ ((b : Board) → (weight : List ℕ) → (dirs : Directions) → (xs : List ℕ) → Rocks b n (now (low .entry)) (now (high .entry)) weight → rocksOf b ≤ 64 → i ≤ b .benches → Incident n (now (low .entry)) (now (high .entry)) (now (incident .entry)) → Neighbours n (now (low .entry)) (now (high .entry)) (now (neighbours .entry)) → Covers n (now (low .entry)) (now (high .entry)) (joinsAt (n .benches) (now (low .entry)) (now (high .entry)) (now (dir .entry)) (now (joined .entry))) cand → Directed b dirs (now (dir .entry)) → Rounds b xs (now (joined .entry)) → Rounds b (conflictSet (b .benches) b i dirs xs) (now (joined .exit)) × Grew n (now (joined .entry)) (now (joined .exit)) grown × Nowhere n (now (low .entry)) (now (high .entry)) (joinsAt (n .benches) (now (low .entry)) (now (high .entry)) (now (dir .entry)) (now (joined .exit)))) ⌝ }
+    ensures { λ grown. ⌜ ((b : Board) → (weight : List ℕ) → (dirs : Directions) → (xs : List ℕ)
+        → RockGraph b n (now (low .entry)) (now (high .entry)) weight (now (incident .entry))
+        → i ≤ b .benches → Neighbours n (now (low .entry)) (now (high .entry)) (now (neighbours .entry))
+        → Covers n (now (low .entry)) (now (high .entry))
+        (joinsAt (n .benches) (now (low .entry)) (now (high .entry)) (now (dir .entry)) (now (joined .entry))) cand
+        → Directed b dirs (now (dir .entry)) → Rounds b xs (now (joined .entry))
+        → Rounds b (conflictSet (b .benches) b i dirs xs) (now (joined .exit))
+        × Grew n (now (joined .entry)) (now (joined .exit)) grown
+        × Nowhere n (now (low .entry)) (now (high .entry))
+        (joinsAt (n .benches) (now (low .entry)) (now (high .entry)) (now (dir .entry)) (now (joined .exit)))) ⌝ }
 {
     let mut cands = cand;
     let mut grown = 0;
@@ -98,7 +112,9 @@ fn fake_rock<'a>(
     joined: &'a [usize],
     v: usize,
 ) -> usize
-    ensures { λ r. ⌜ ((n : Limits) → (low : List ℕ) → (high : List ℕ) → (dir : List ℕ) → Incident n low high (now (incident .entry)) → Neutral n dir neutral → v < 64 → r ≡ rockOf (now (incident .entry)) (fakeAt benches dir (now (joined .entry))) v) ⌝ }
+    ensures { λ r. ⌜ ((n : Limits) → (low : List ℕ) → (high : List ℕ) → (dir : List ℕ)
+        → Incident n low high (now (incident .entry)) → Neutral n dir neutral → v < 64
+        → r ≡ rockOf (now (incident .entry)) (fakeAt benches dir (now (joined .entry))) v) ⌝ }
 {
     if !rocks::within(benches, joined, v) {
         return 64;
@@ -114,7 +130,9 @@ fn first_fake<'a>(
     neutral: usize,
     joined: &'a [usize],
 ) -> usize
-    ensures { λ v. ⌜ ((n : Limits) → (low : List ℕ) → (high : List ℕ) → (dir : List ℕ) → Incident n low high (now (incident .entry)) → Neutral n dir neutral → v ≡ benchOf (now (incident .entry)) (fakeAt benches dir (now (joined .entry))) fakes) ⌝ }
+    ensures { λ v. ⌜ ((n : Limits) → (low : List ℕ) → (high : List ℕ) → (dir : List ℕ)
+        → Incident n low high (now (incident .entry)) → Neutral n dir neutral
+        → v ≡ benchOf (now (incident .entry)) (fakeAt benches dir (now (joined .entry))) fakes) ⌝ }
 {
     let mut left = fakes;
     while 0 < left {
@@ -133,7 +151,8 @@ pub struct Grown {
     pub neutral: usize,
 }
 
-// construct jobs b i dir joined, where every bench that joins is in cand and every one with a rock for a fake orientation in fakes.
+// construct jobs b i dir joined, where every bench that joins is in cand and every one with a rock for a fake
+// orientation in fakes.
 // The result has the benches that joined, and the neutral rocks.
 pub fn construct<'a>(
     n: Limits,
@@ -150,7 +169,20 @@ pub fn construct<'a>(
     load: &mut [usize],
     joined: &mut [usize],
 ) -> Grown
-    ensures { λ grown. ⌜ ((b : Board) → (dirs : Directions) → (xs : List ℕ) → Rocks b n (now (low .entry)) (now (high .entry)) (now (weight .entry)) → rocksOf b ≤ 64 → i ≤ b .benches → Incident n (now (low .entry)) (now (high .entry)) (now (incident .entry)) → Neighbours n (now (low .entry)) (now (high .entry)) (now (neighbours .entry)) → Neutral n (now (dir .entry)) before → Covers n (now (low .entry)) (now (high .entry)) (joinsAt (n .benches) (now (low .entry)) (now (high .entry)) (now (dir .entry)) (now (joined .entry))) cand → Covers n (now (low .entry)) (now (high .entry)) (fakeAt (n .benches) (now (dir .entry)) (now (joined .entry))) fakes → Nowhere n (now (low .entry)) (now (high .entry)) (forcesAt (n .bound) (now (weight .entry)) (now (dir .entry)) (now (load .entry))) → Seen b dirs (now (dir .entry)) (now (load .entry)) → Rounds b xs (now (joined .entry)) → Built b (constructed (b .jobs) b i dirs xs) (now (dir .exit)) (now (load .exit)) (now (joined .exit)) × Grew n (now (joined .entry)) (now (joined .exit)) (grown .benches) × Nowhere n (now (low .entry)) (now (high .entry)) (joinsAt (n .benches) (now (low .entry)) (now (high .entry)) (now (dir .exit)) (now (joined .exit))) × Nowhere n (now (low .entry)) (now (high .entry)) (fakeAt (n .benches) (now (dir .exit)) (now (joined .exit))) × Nowhere n (now (low .entry)) (now (high .entry)) (forcesAt (n .bound) (now (weight .entry)) (now (dir .exit)) (now (load .exit))) × Neutral n (now (dir .exit)) (grown .neutral)) ⌝ }
+    ensures { λ grown. ⌜ ((b : Board) → (dirs : Directions) → (xs : List ℕ)
+        → RockGraph b n (now (low .entry)) (now (high .entry)) (now (weight .entry)) (now (incident .entry))
+        → Neighbours n (now (low .entry)) (now (high .entry)) (now (neighbours .entry))
+        → Opened b n (now (low .entry)) (now (high .entry)) (now (weight .entry)) i dirs xs
+        (now (dir .entry)) (now (load .entry)) (now (joined .entry)) cand fakes before
+        → Built b (constructed (b .jobs) b i dirs xs) (now (dir .exit)) (now (load .exit)) (now (joined .exit))
+        × Grew n (now (joined .entry)) (now (joined .exit)) (grown .benches)
+        × Nowhere n (now (low .entry)) (now (high .entry))
+        (joinsAt (n .benches) (now (low .entry)) (now (high .entry)) (now (dir .exit)) (now (joined .exit)))
+        × Nowhere n (now (low .entry)) (now (high .entry))
+        (fakeAt (n .benches) (now (dir .exit)) (now (joined .exit)))
+        × Nowhere n (now (low .entry)) (now (high .entry))
+        (forcesAt (n .bound) (now (weight .entry)) (now (dir .exit)) (now (load .exit)))
+        × Neutral n (now (dir .exit)) (grown .neutral)) ⌝ }
 {
     let mut joining = cand;
     let mut faking = fakes;

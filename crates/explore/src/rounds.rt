@@ -10,10 +10,9 @@ ghost use lib.ListN.{getD, length, set, replicate};
 ghost use Rattle.bits.specs.Bits.{isSet};
 ghost use Rattle.algorithm.specs.Board.{Board};
 ghost use Rattle.algorithm.specs.Explore.{explore as explored};
-ghost use Rattle.arrays.specs.Arrays.{plusOf};
 ghost use Rattle.rocks.specs.RockArrays.{withinAt};
 ghost use Rattle.rocks.specs.BoardArrays.{rocksOf, Rocks, Owned, Pebbles};
-ghost use Rattle.explore.specs.ExploreArrays.{addedAt, opensAt, Reaches};
+ghost use Rattle.explore.specs.ExploreArrays.{addedAt, opensAt, Reaches, Blank};
 ghost use Rattle.rocks.specs.Neighbours.{Mapped};
 ghost use Rattle.rocks.specs.Shown.{Shown, ShowsActive};
 
@@ -25,7 +24,8 @@ fn add_pebble<'a>(
     reach: &mut [usize],
     j: usize,
 )
-    ensures { λ _. ⌜ now (reach .exit) ≡ addedAt (now (pebble .entry)) (now (allowed .entry)) (now (place .entry)) (now (reach .entry)) j ⌝ }
+    ensures { λ _. ⌜ now (reach .exit)
+        ≡ addedAt (now (pebble .entry)) (now (allowed .entry)) (now (place .entry)) (now (reach .entry)) j ⌝ }
 {
     if arrays::holds(pebble, j) {
         let u = arrays::at(place, j);
@@ -42,7 +42,9 @@ pub fn fill_reach<'a>(
     place: &'a [usize],
     reach: &mut [usize],
 )
-    ensures { λ _. ⌜ ((b : Board) → n .jobs ≡ b .jobs → b .benches ≤ 64 → Pebbles b (now (pebble .entry)) (now (allowed .entry)) (now (place .entry)) → now (reach .entry) ≡ replicate 64 0 → Reaches b (now (reach .exit))) ⌝ }
+    ensures { λ _. ⌜ ((b : Board) → n .jobs ≡ b .jobs → b .benches ≤ 64
+        → Pebbles b (now (pebble .entry)) (now (allowed .entry)) (now (place .entry))
+        → now (reach .entry) ≡ replicate 64 0 → Reaches b (now (reach .exit))) ⌝ }
 {
     let mut j = 0;
     while j < n.jobs {
@@ -53,7 +55,8 @@ pub fn fill_reach<'a>(
 
 // The overloaded benches, as a set.
 fn overloaded(n: Limits, load: &[usize]) -> usize
-    ensures { λ r. ⌜ ((v : ℕ) → v < 64 → isSet 64 r v ≡ (ltb v (n .benches) && ltb (n .bound) (getD (now (load .entry)) v 0))) ⌝ }
+    ensures { λ r. ⌜ ((v : ℕ) → v < 64
+        → isSet 64 r v ≡ (ltb v (n .benches) && ltb (n .bound) (getD (now (load .entry)) v 0))) ⌝ }
 {
     let mut over = 0;
     let mut v = 0;
@@ -83,7 +86,8 @@ fn opening<'a>(
 
 // Bench v joins the conflict set in round i, unless it is in it.
 fn enter(benches: usize, i: usize, joined: &mut [usize], v: usize)
-    ensures { λ _. ⌜ now (joined .exit) ≡ cond (withinAt benches (now (joined .entry)) v) (now (joined .entry)) (set (now (joined .entry)) v i) ⌝ }
+    ensures { λ _. ⌜ now (joined .exit)
+        ≡ cond (withinAt benches (now (joined .entry)) v) (now (joined .entry)) (set (now (joined .entry)) v i) ⌝ }
 {
     if !rocks::within(benches, joined, v) {
         arrays::put(joined, v, i);
@@ -92,7 +96,12 @@ fn enter(benches: usize, i: usize, joined: &mut [usize], v: usize)
 
 // The benches of the set are activated in round i, and join the conflict set unless they are in it.
 fn enter_all(benches: usize, i: usize, set: usize, joined: &mut [usize], level: &mut [usize])
-    ensures { λ _. ⌜ ((v : ℕ) → v < length (now (joined .entry)) → v < 64 → getD (now (joined .exit)) v 0 ≡ cond (isSet 64 set v && not (withinAt benches (now (joined .entry)) v)) i (getD (now (joined .entry)) v 0)) × ((v : ℕ) → v < length (now (level .entry)) → getD (now (level .exit)) v 0 ≡ cond (ltb v 64 && isSet 64 set v) i (getD (now (level .entry)) v 0)) ⌝ }
+    ensures { λ _. ⌜ ((v : ℕ) → v < length (now (joined .entry)) → v < 64
+        → getD (now (joined .exit)) v 0
+        ≡ cond (isSet 64 set v && not (withinAt benches (now (joined .entry)) v)) i
+        (getD (now (joined .entry)) v 0))
+        × ((v : ℕ) → v < length (now (level .entry))
+        → getD (now (level .exit)) v 0 ≡ cond (ltb v 64 && isSet 64 set v) i (getD (now (level .entry)) v 0)) ⌝ }
 {
     let mut left = set;
     while 0 < left {
@@ -114,7 +123,13 @@ fn open_round<'a>(
     joined: &mut [usize],
     level: &mut [usize],
 ) -> usize
-    ensures { λ r. ⌜ ((v : ℕ) → v < 64 → isSet 64 r v ≡ opensAt n i all active reached (now (load .entry)) v) × ((v : ℕ) → v < length (now (joined .entry)) → v < 64 → getD (now (joined .exit)) v 0 ≡ cond (isSet 64 r v && not (withinAt (n .benches) (now (joined .entry)) v)) i (getD (now (joined .entry)) v 0)) × ((v : ℕ) → v < length (now (level .entry)) → getD (now (level .exit)) v 0 ≡ cond (ltb v 64 && isSet 64 r v) i (getD (now (level .entry)) v 0)) ⌝ }
+    ensures { λ r. ⌜ ((v : ℕ) → v < 64 → isSet 64 r v ≡ opensAt n i all active reached (now (load .entry)) v)
+        × ((v : ℕ) → v < length (now (joined .entry)) → v < 64
+        → getD (now (joined .exit)) v 0
+        ≡ cond (isSet 64 r v && not (withinAt (n .benches) (now (joined .entry)) v)) i
+        (getD (now (joined .entry)) v 0))
+        × ((v : ℕ) → v < length (now (level .entry))
+        → getD (now (level .exit)) v 0 ≡ cond (ltb v 64 && isSet 64 r v) i (getD (now (level .entry)) v 0)) ⌝ }
 {
     let opened = opening(n, i, all, active, reached, load);
     enter_all(n.benches, i, opened, joined, level);
@@ -123,7 +138,8 @@ fn open_round<'a>(
 
 // explore b, where dir is 0 everywhere, load is own, and joined and level are never everywhere.
 // Given: the rocks at each bench, their other ends, all benches, and those with a rock.
-// Kept in the rounds: the neutral rocks, the activated benches, those of the round before, and those of the conflict set that may be activated yet.
+// Kept in the rounds: the neutral rocks, the activated benches, those of the round before, and those of the conflict
+// set that may be activated yet.
 pub fn explore<'a>(
     n: Limits,
     low: &'a [usize],
@@ -140,13 +156,10 @@ pub fn explore<'a>(
     joined: &mut [usize],
     level: &mut [usize],
 ) -> usize
-    ensures { λ r. ⌜ ((b : Board)
-        → Rocks b n (now (low .entry)) (now (high .entry)) (now (weight .entry))
+    ensures { λ r. ⌜ ((b : Board) → Rocks b n (now (low .entry)) (now (high .entry)) (now (weight .entry))
         → Mapped n (now (low .entry)) (now (high .entry)) (now (incident .entry)) (now (neighbours .entry)) all touched
-        → Owned b (now (own .entry)) → Reaches b (now (reach .entry)) → rocksOf b ≤ 64 → length (now (own .entry)) ≡ 64
-        → now (dir .entry) ≡ replicate 64 0 → now (load .entry) ≡ now (own .entry)
-        → now (joined .entry) ≡ replicate 64 (plusOf (n .benches) 1)
-        → now (level .entry) ≡ replicate 64 (plusOf (n .benches) 1)
+        → Owned b (now (own .entry)) → Reaches b (now (reach .entry)) → rocksOf b ≤ 64
+        → Blank n (now (own .entry)) (now (dir .entry)) (now (load .entry)) (now (joined .entry)) (now (level .entry))
         → Shown b (explored b) (now (dir .exit)) (now (load .exit)) (now (joined .exit)) (now (level .exit))
         × ShowsActive b (explored b) r) ⌝ }
 {

@@ -16,7 +16,8 @@ use Rattle.arrays.specs.Arrays.{plusOf}
 use Rattle.rocks.specs.RockArrays.{touchesAt, otherAt}
 
 abbrev pub Covers : Limits → List ℕ → List ℕ → (ℕ → ℕ → Bool) → ℕ → Type 0
-Covers n low high P set = (r v : ℕ) → r < n .rocks → touchesAt low high r v ≡ true → P r v ≡ true → isSet 64 set v ≡ true
+Covers n low high P set =
+    (r v : ℕ) → r < n .rocks → touchesAt low high r v ≡ true → P r v ≡ true → isSet 64 set v ≡ true
 
 abbrev pub Nowhere : Limits → List ℕ → List ℕ → (ℕ → ℕ → Bool) → Type 0
 Nowhere n low high P = (r v : ℕ) → r < n .rocks → touchesAt low high r v ≡ true → P r v ≡ false
@@ -30,4 +31,5 @@ forcedAt bound weight dir load marked r v =
 
 abbrev pub Tails : Limits → List ℕ → List ℕ → List ℕ → List ℕ → ℕ → Type 0
 Tails n low high dir dir′ set =
-    (r v : ℕ) → r < n .rocks → touchesAt low high r v ≡ true → getD dir r 0 ≡ 0 → getD dir′ r 0 ≡ plusOf (otherAt low high r v) 1 → isSet 64 set v ≡ true
+    (r v : ℕ) → r < n .rocks → touchesAt low high r v ≡ true → getD dir r 0 ≡ 0
+    → getD dir′ r 0 ≡ plusOf (otherAt low high r v) 1 → isSet 64 set v ≡ true

@@ -23,10 +23,13 @@ liesAt choice place u v j = eqb (getD place j 0) u && isSet 64 (getD choice j 0)
 -- Bench u, which lost a job, reached all that it reaches now.
 abbrev pub ReachShifted : ℕ → List ℕ → List ℕ → List ℕ → ℕ → ℕ → ℕ → List ℕ → Type 0
 ReachShifted jobs choice place reach u v j reach′ =
-    (w x : ℕ) → w < length reach → x < 64 → (any jobs (liesAt choice place u x) ≡ true → isSet 64 (getD reach u 0) x ≡ true)
+    (w x : ℕ) → w < length reach → x < 64
+    → (any jobs (liesAt choice place u x) ≡ true → isSet 64 (getD reach u 0) x ≡ true)
     → isSet 64 (getD reach′ w 0) x
-    ≡ cond (eqb w u) (any jobs (liesAt choice place u x)) (cond (eqb w v) (isSet 64 (getD reach v 0) x || isSet 64 (getD choice j 0) x) (isSet 64 (getD reach w 0) x))
+    ≡ cond (eqb w u) (any jobs (liesAt choice place u x))
+    (cond (eqb w v) (isSet 64 (getD reach v 0) x || isSet 64 (getD choice j 0) x) (isSet 64 (getD reach w 0) x))
 
 -- The choice of each job: the benches that it allows where it is a pebble, and else none.
 abbrev pub Chosen : ℕ → List Bool → List ℕ → List ℕ → Type 0
-Chosen jobs pebble allowed choice = (j : ℕ) → j < jobs → getD choice j 0 ≡ cond (getD pebble j false) (getD allowed j 0) 0
+Chosen jobs pebble allowed choice =
+    (j : ℕ) → j < jobs → getD choice j 0 ≡ cond (getD pebble j false) (getD allowed j 0) 0

@@ -33,12 +33,14 @@ receiving b x v = activated b x v && leb (load b (x .dir) v) (b .limit) && (leaf
 
 -- One entry for each level: there are at most 64 benches, so levels up to 65.
 pub record Wanted (b : Board) (x : Explored) (wanted : List ℕ) : Type 0 where
-  pub entries : (l v : ℕ) → l < 66 → v < b .benches → isSet 64 (getD wanted l 0) v ≡ (eqb l (roundOf b (x .level) v) && receiving b x v)
+  pub entries : (l v : ℕ) → l < 66 → v < b .benches
+      → isSet 64 (getD wanted l 0) v ≡ (eqb l (roundOf b (x .level) v) && receiving b x v)
 
 -- One entry for each bench u: the benches of the next level that may receive, if u is activated.
 pub record Goals (b : Board) (x : Explored) (goals : List ℕ) : Type 0 where
   pub entries : (u v : ℕ) → u < b .benches → v < b .benches
-      → isSet 64 (getD goals u 0) v ≡ (activated b x u && (eqb (roundOf b (x .level) v) (roundOf b (x .level) u + 1) && receiving b x v))
+      → isSet 64 (getD goals u 0) v
+      ≡ (activated b x u && (eqb (roundOf b (x .level) v) (roundOf b (x .level) u + 1) && receiving b x v))
 
 -- One entry for each job: the benches that it allows if it is a pebble, and else none; and where it lies.
 pub record Choices (b : Board) (choice place : List ℕ) : Type 0 where

@@ -27,7 +27,8 @@ fn shift_load(own: &mut [usize], u: usize, v: usize, w: usize)
 
 // The set, and where job j is on u also its choice.
 fn reach_more<'a>(choice: &'a [usize], place: &'a [u8], u: usize, j: usize, set: usize) -> usize
-    ensures { λ r. ⌜ r ≡ cond (eqb (getD (now (place .entry)) j 0) u) (bitOr set (getD (now (choice .entry)) j 0)) set ⌝ }
+    ensures { λ r. ⌜ r
+        ≡ cond (eqb (getD (now (place .entry)) j 0) u) (bitOr set (getD (now (choice .entry)) j 0)) set ⌝ }
 {
     if arrays::byte(place, j) == u {
         return set | arrays::at(choice, j);
@@ -37,7 +38,9 @@ fn reach_more<'a>(choice: &'a [usize], place: &'a [u8], u: usize, j: usize, set:
 
 // The benches that the pebbles on u allow, all of which are in the set `full`.
 fn reach_from<'a>(jobs: usize, choice: &'a [usize], place: &'a [u8], u: usize, full: usize) -> usize
-    ensures { λ r. ⌜ ((v : ℕ) → v < 64 → (any jobs (liesAt (now (choice .entry)) (now (place .entry)) u v) ≡ true → isSet 64 full v ≡ true) → isSet 64 r v ≡ any jobs (liesAt (now (choice .entry)) (now (place .entry)) u v)) ⌝ }
+    ensures { λ r. ⌜ ((v : ℕ) → v < 64
+        → (any jobs (liesAt (now (choice .entry)) (now (place .entry)) u v) ≡ true → isSet 64 full v ≡ true)
+        → isSet 64 r v ≡ any jobs (liesAt (now (choice .entry)) (now (place .entry)) u v)) ⌝ }
 {
     let end = arrays::least(jobs, choice.len());
     let mut set = 0;
@@ -62,7 +65,8 @@ fn shift_reach<'a>(
     v: usize,
     j: usize,
 )
-    ensures { λ _. ⌜ ReachShifted jobs (now (choice .entry)) (now (place .entry)) (now (reach .entry)) u v j (now (reach .exit)) ⌝ }
+    ensures { λ _. ⌜ ReachShifted jobs (now (choice .entry)) (now (place .entry)) (now (reach .entry)) u v j
+        (now (reach .exit)) ⌝ }
 {
     let there = reach_from(jobs, choice, place, u, arrays::at(reach, u));
     let more = arrays::at(reach, v) | arrays::at(choice, j);
@@ -82,7 +86,10 @@ pub fn shifted<'a>(
     v: usize,
     j: usize,
 ) -> Kept
-    ensures { λ r. ⌜ (length own ≡ 64) × (length reach ≡ 64) × (r .own ≡ shiftedOf own u v (getD (now (amount .entry)) j 0)) × ReachShifted jobs (now (choice .entry)) (now (place .entry)) reach u v j (r .reach) ⌝ }
+    ensures { λ r. ⌜ (length own ≡ 64)
+        × (length reach ≡ 64)
+        × (r .own ≡ shiftedOf own u v (getD (now (amount .entry)) j 0))
+        × ReachShifted jobs (now (choice .entry)) (now (place .entry)) reach u v j (r .reach) ⌝ }
 {
     let mut loads = own;
     shift_load(&mut loads, u, v, arrays::at(amount, j));

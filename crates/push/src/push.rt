@@ -40,7 +40,14 @@ fn mark_edge<'a>(
     h: usize,
     w: usize,
 ) -> Marks
-    ensures { λ r. ⌜ ((v : ℕ) → v < 64 → isSet 64 (r .children) v ≡ (isSet 64 (m .children) v || (withinAt (n .benches) (now (joined .entry)) t && eqb v h))) × ((v : ℕ) → v < 64 → isSet 64 (r .heavy) v ≡ (isSet 64 (m .heavy) v || ((withinAt (n .benches) (now (joined .entry)) h && ltb (n .limit) (getD (now (own .entry)) t 0 + w)) && eqb v t))) ⌝ }
+    ensures { λ r. ⌜ ((v : ℕ) → v < 64
+        → isSet 64 (r .children) v
+        ≡ (isSet 64 (m .children) v || (withinAt (n .benches) (now (joined .entry)) t && eqb v h)))
+        × ((v : ℕ) → v < 64
+        → isSet 64 (r .heavy) v
+        ≡ (isSet 64 (m .heavy) v
+        || ((withinAt (n .benches) (now (joined .entry)) h && ltb (n .limit) (getD (now (own .entry)) t 0 + w))
+        && eqb v t))) ⌝ }
 {
     let mut children = m.children;
     let mut heavy = m.heavy;
@@ -70,7 +77,18 @@ fn mark_rock<'a>(
     m: Marks,
     r: usize,
 ) -> Marks
-    ensures { λ s. ⌜ ((v : ℕ) → v < 64 → isSet 64 (s .children) v ≡ (isSet 64 (m .children) v || (touchesAt (now (low .entry)) (now (high .entry)) r v && childAt (n .benches) (now (low .entry)) (now (high .entry)) (now (dir .entry)) (now (joined .entry)) r v))) × ((v : ℕ) → v < 64 → isSet 64 (s .heavy) v ≡ (isSet 64 (m .heavy) v || (touchesAt (now (low .entry)) (now (high .entry)) r v && heavyAt (n .benches) (n .limit) (now (low .entry)) (now (high .entry)) (now (weight .entry)) (now (own .entry)) (now (dir .entry)) (now (joined .entry)) r v))) ⌝ }
+    ensures { λ s. ⌜ ((v : ℕ) → v < 64
+        → isSet 64 (s .children) v
+        ≡ (isSet 64 (m .children) v
+        || (touchesAt (now (low .entry)) (now (high .entry)) r v
+        && childAt (n .benches) (now (low .entry)) (now (high .entry)) (now (dir .entry)) (now (joined .entry))
+        r v)))
+        × ((v : ℕ) → v < 64
+        → isSet 64 (s .heavy) v
+        ≡ (isSet 64 (m .heavy) v
+        || (touchesAt (now (low .entry)) (now (high .entry)) r v
+        && heavyAt (n .benches) (n .limit) (now (low .entry)) (now (high .entry)) (now (weight .entry))
+        (now (own .entry)) (now (dir .entry)) (now (joined .entry)) r v))) ⌝ }
 {
     let d = arrays::at(dir, r);
     let lo = arrays::at(low, r);
@@ -95,7 +113,18 @@ fn mark_all<'a>(
     dir: &'a [usize],
     joined: &'a [usize],
 ) -> Marks
-    ensures { λ s. ⌜ ((v : ℕ) → v < 64 → isSet 64 (s .children) v ≡ any (n .rocks) (λ r. touchesAt (now (low .entry)) (now (high .entry)) r v && childAt (n .benches) (now (low .entry)) (now (high .entry)) (now (dir .entry)) (now (joined .entry)) r v)) × ((v : ℕ) → v < 64 → isSet 64 (s .heavy) v ≡ any (n .rocks) (λ r. touchesAt (now (low .entry)) (now (high .entry)) r v && heavyAt (n .benches) (n .limit) (now (low .entry)) (now (high .entry)) (now (weight .entry)) (now (own .entry)) (now (dir .entry)) (now (joined .entry)) r v)) ⌝ }
+    ensures { λ s. ⌜ ((v : ℕ) → v < 64
+        → isSet 64 (s .children) v
+        ≡ any (n .rocks)
+        (λ r. touchesAt (now (low .entry)) (now (high .entry)) r v
+        && childAt (n .benches) (now (low .entry)) (now (high .entry)) (now (dir .entry)) (now (joined .entry))
+        r v))
+        × ((v : ℕ) → v < 64
+        → isSet 64 (s .heavy) v
+        ≡ any (n .rocks)
+        (λ r. touchesAt (now (low .entry)) (now (high .entry)) r v
+        && heavyAt (n .benches) (n .limit) (now (low .entry)) (now (high .entry)) (now (weight .entry))
+        (now (own .entry)) (now (dir .entry)) (now (joined .entry)) r v)) ⌝ }
 {
     let mut m = Marks {
         children: 0,
@@ -111,7 +140,8 @@ fn mark_all<'a>(
 
 // What canPush b x j v asks of v alone: activated, load within the limit, leaf or light fathers.
 fn receives<'a>(n: Limits, load: &'a [usize], level: &'a [usize], m: Marks, v: usize) -> bool
-    ensures { λ t. ⌜ t ≡ receivesAt (n .benches) (n .limit) (now (load .entry)) (now (level .entry)) (m .children) (m .heavy) v ⌝ }
+    ensures { λ t. ⌜ t
+        ≡ receivesAt (n .benches) (n .limit) (now (load .entry)) (now (level .entry)) (m .children) (m .heavy) v ⌝ }
 {
     if !rocks::within(n.benches, level, v) {
         return false;
@@ -134,7 +164,13 @@ fn add_receiver<'a>(
     wanted: &mut [usize],
     v: usize,
 )
-    ensures { λ _. ⌜ ((l : ℕ) → (u : ℕ) → l < length (now (wanted .entry)) → u < 64 → isSet 64 (getD (now (wanted .exit)) l 0) u ≡ (isSet 64 (getD (now (wanted .entry)) l 0) u || (eqb u v && (eqb l (getD (now (level .entry)) v 0) && receivesAt (n .benches) (n .limit) (now (load .entry)) (now (level .entry)) (m .children) (m .heavy) v)))) ⌝ }
+    ensures { λ _. ⌜ ((l : ℕ) → (u : ℕ) → l < length (now (wanted .entry)) → u < 64
+        → isSet 64 (getD (now (wanted .exit)) l 0) u
+        ≡ (isSet 64 (getD (now (wanted .entry)) l 0) u
+        || (eqb u v
+        && (eqb l (getD (now (level .entry)) v 0)
+        && receivesAt (n .benches) (n .limit) (now (load .entry)) (now (level .entry)) (m .children) (m .heavy)
+        v)))) ⌝ }
 {
     if receives(n, load, level, m, v) {
         let l = arrays::at(level, v);
@@ -156,7 +192,10 @@ pub fn mark_levels<'a>(
     level: &'a [usize],
     wanted: &mut [usize],
 )
-    ensures { λ _. ⌜ ((b : Board) → (x : Explored) → Rocks b n (now (low .entry)) (now (high .entry)) (now (weight .entry)) → Owned b (now (own .entry)) → Shown b x (now (dir .entry)) (now (load .entry)) (now (joined .entry)) (now (level .entry)) → now (wanted .entry) ≡ replicate 66 0 → Wanted b x (now (wanted .exit))) ⌝ }
+    ensures { λ _. ⌜ ((b : Board) → (x : Explored)
+        → Rocks b n (now (low .entry)) (now (high .entry)) (now (weight .entry)) → Owned b (now (own .entry))
+        → Shown b x (now (dir .entry)) (now (load .entry)) (now (joined .entry)) (now (level .entry))
+        → now (wanted .entry) ≡ replicate 66 0 → Wanted b x (now (wanted .exit))) ⌝ }
 {
     let m = mark_all(n, low, high, weight, own, dir, joined);
     let mut v = 0;
@@ -168,7 +207,9 @@ pub fn mark_levels<'a>(
 
 // The benches that may receive a pebble from u.
 fn goal<'a>(benches: usize, level: &'a [usize], wanted: &'a [usize], u: usize) -> usize
-    ensures { λ r. ⌜ r ≡ cond (withinAt benches (now (level .entry)) u) (getD (now (wanted .entry)) (plusOf (getD (now (level .entry)) u 0) 1) 0) 0 ⌝ }
+    ensures { λ r. ⌜ r
+        ≡ cond (withinAt benches (now (level .entry)) u)
+        (getD (now (wanted .entry)) (plusOf (getD (now (level .entry)) u 0) 1) 0) 0 ⌝ }
 {
     let l = arrays::at(level, u);
     if benches < l {
@@ -179,7 +220,9 @@ fn goal<'a>(benches: usize, level: &'a [usize], wanted: &'a [usize], u: usize) -
 
 // Entry u: the benches that may receive a pebble from u, as a set.
 pub fn fill_goals<'a>(n: Limits, level: &'a [usize], wanted: &'a [usize], goals: &mut [usize])
-    ensures { λ _. ⌜ ((b : Board) → (x : Explored) → (low : List ℕ) → (high : List ℕ) → (weight : List ℕ) → Rocks b n low high weight → Rounds b (x .level) (now (level .entry)) → Wanted b x (now (wanted .entry)) → b .benches ≤ length (now (goals .entry)) → Goals b x (now (goals .exit))) ⌝ }
+    ensures { λ _. ⌜ ((b : Board) → (x : Explored) → (low : List ℕ) → (high : List ℕ) → (weight : List ℕ)
+        → Rocks b n low high weight → Rounds b (x .level) (now (level .entry)) → Wanted b x (now (wanted .entry))
+        → b .benches ≤ length (now (goals .entry)) → Goals b x (now (goals .exit))) ⌝ }
 {
     let mut u = 0;
     while u < n.benches {
@@ -191,14 +234,17 @@ pub fn fill_goals<'a>(n: Limits, level: &'a [usize], wanted: &'a [usize], goals:
 
 // The benches to which job j may go.
 fn goals_of<'a>(choice: &'a [usize], place: &'a [u8], goals: &'a [usize], j: usize) -> usize
-    ensures { λ r. ⌜ r ≡ bitAnd (getD (now (choice .entry)) j 0) (getD (now (goals .entry)) (getD (now (place .entry)) j 0) 0) ⌝ }
+    ensures { λ r. ⌜ r
+        ≡ bitAnd (getD (now (choice .entry)) j 0) (getD (now (goals .entry)) (getD (now (place .entry)) j 0) 0) ⌝ }
 {
     arrays::at(choice, j) & arrays::at(goals, arrays::byte(place, j))
 }
 
 // pushJob b x and pushBench b x; the number of jobs where there is no move.
 pub fn first_push<'a>(n: Limits, choice: &'a [usize], place: &'a [u8], goals: &'a [usize]) -> Move
-    ensures { λ r. ⌜ ((b : Board) → (x : Explored) → (low : List ℕ) → (high : List ℕ) → (weight : List ℕ) → Rocks b n low high weight → Choices b (now (choice .entry)) (now (place .entry)) → Goals b x (now (goals .entry)) → (r .job ≡ pushJob b x) × (r .job < b .jobs → r .bench ≡ pushBench b x)) ⌝ }
+    ensures { λ r. ⌜ ((b : Board) → (x : Explored) → (low : List ℕ) → (high : List ℕ) → (weight : List ℕ)
+        → Rocks b n low high weight → Choices b (now (choice .entry)) (now (place .entry))
+        → Goals b x (now (goals .entry)) → (r .job ≡ pushJob b x) × (r .job < b .jobs → r .bench ≡ pushBench b x)) ⌝ }
 {
     let mut j = 0;
     let mut v = 0;

@@ -1,4 +1,5 @@
--- Tests at a rock, in arrays. Rock r is the one with the r-th lowest job; dir has 0 for a neutral rock, else its bench plus 1.
+-- Tests at a rock, in arrays. Rock r is the one with the r-th lowest job; dir has 0 for a neutral rock, and else the
+-- bench that the rock is directed to, plus 1.
 --     touchesAt, otherAt             an end of rock r, and its other end
 --     withinAt                       the round of a bench is one of the exploration
 --     fatherAt, childAt              father and child, at an end of rock r
@@ -13,7 +14,8 @@ use Rattle.arrays.specs.Arrays.{plusOf, lowerOf}
 unfoldable pub lowestEnd : ℕ → ℕ → List ℕ → List ℕ → (ℕ → ℕ → Bool) → ℕ
 lowestEnd m zero low high P = m
 lowestEnd m (suc k) low high P =
-    lowerOf (P k (getD high k 0)) (getD high k 0) (lowerOf (P k (getD low k 0)) (getD low k 0) (lowestEnd m k low high P))
+    lowerOf (P k (getD high k 0)) (getD high k 0)
+    (lowerOf (P k (getD low k 0)) (getD low k 0) (lowestEnd m k low high P))
 
 abbrev pub touchesAt : List ℕ → List ℕ → ℕ → ℕ → Bool
 touchesAt low high r v = eqb v (getD low r 0) || eqb v (getD high r 0)
@@ -27,8 +29,10 @@ withinAt benches rounds v = leb (getD rounds v 0) benches
 
 -- Rock r leads from its end v to a bench of the conflict set.
 abbrev pub fatherAt : ℕ → List ℕ → List ℕ → List ℕ → List ℕ → ℕ → ℕ → Bool
-fatherAt benches low high dir joined r v = eqb (getD dir r 0) (plusOf (otherAt low high r v) 1) && withinAt benches joined (otherAt low high r v)
+fatherAt benches low high dir joined r v =
+    eqb (getD dir r 0) (plusOf (otherAt low high r v) 1) && withinAt benches joined (otherAt low high r v)
 
 -- Rock r leads from a bench of the conflict set to its end v.
 abbrev pub childAt : ℕ → List ℕ → List ℕ → List ℕ → List ℕ → ℕ → ℕ → Bool
-childAt benches low high dir joined r v = eqb (getD dir r 0) (plusOf v 1) && withinAt benches joined (otherAt low high r v)
+childAt benches low high dir joined r v =
+    eqb (getD dir r 0) (plusOf v 1) && withinAt benches joined (otherAt low high r v)

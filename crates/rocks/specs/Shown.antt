@@ -1,6 +1,6 @@
 -- What the program's arrays and sets hold after an exploration.
---     Shown b x dir loads rounds levels     the directions, the loads under them, and the two rounds of each bench are those of x
---     ShowsActive b x set       the set has the activated benches of x
+--     Shown b x dir loads rounds levels     directions, loads under them, and both rounds of each bench are those of x
+--     ShowsActive b x set                   the set has the activated benches of x
 use Prim.Native.Nat.{ℕ, _<_}
 use mathlib.Core.Path.{_≡_}
 use mathlib.Core.Bool.{_&&_}

@@ -1,11 +1,12 @@
 -- Sets of benches that neutral rocks join, in arrays.
 --     neutralRock dir r           rock r is neutral
 --     insideAt                    and its lower end is in the set
---     crossesAt                   and one of its ends is in the set, the other is not
+--     differ, crossesAt           one of two holds and not the other; one end of a neutral rock is in the set, and not the
+--                                 other
 --     joinOf, widenOf, changedOf  the set after one rock, after the first k rocks; whether any of them added a bench
 --     linksAt, linkedAt           two benches joined by rock r, which is neutral; by some neutral rock
 --     treeBalance, cycleBalance, crowdedBalance, unknownBalance     the four numbers of a balance
---     balanceOf rocks size        a tree where there are fewer rocks than benches, one cycle where as many, crowded where more
+--     balanceOf rocks size        a tree where there are fewer rocks than benches, a cycle where as many, else crowded
 --     Within m k low high         the ends of the first k rocks are below m
 --     Shows m S xs                the array shows the set S of numbers below m
 use Prim.Native.Nat.{ℕ, zero, suc, _≤_, _<_}

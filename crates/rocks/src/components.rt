@@ -15,7 +15,9 @@ ghost use Rattle.rocks.specs.DayArrays.{DayRocks, balanceIn, BalancesTo}
 
 // component d v, in a set that was empty.
 pub fn component<'a>(n: Limits, low: &'a [usize], high: &'a [usize], v: usize, set: &mut [bool])
-    ensures { λ _. ⌜ ((d : Day) → DayRocks d n (now (low .entry)) (now (high .entry)) → v < d .benches → d .benches ≤ length (now (set .entry)) → ((u : ℕ) → u < d .benches → getD (now (set .entry)) u false ≡ false) → (u : ℕ) → u < d .benches → getD (now (set .exit)) u false ≡ componentOf d v u) ⌝ }
+    ensures { λ _. ⌜ ((d : Day) → DayRocks d n (now (low .entry)) (now (high .entry)) → v < d .benches
+        → d .benches ≤ length (now (set .entry)) → ((u : ℕ) → u < d .benches → getD (now (set .entry)) u false ≡ false)
+        → (u : ℕ) → u < d .benches → getD (now (set .exit)) u false ≡ componentOf d v u) ⌝ }
 {
     let neutral = [0usize; 512];
     arrays::mark(set, v, true);
@@ -24,7 +26,8 @@ pub fn component<'a>(n: Limits, low: &'a [usize], high: &'a [usize], v: usize, s
 
 // Every marked entry below n becomes x.
 fn put_where(n: usize, set: &[bool], x: usize, to: &mut [usize])
-    ensures { λ _. ⌜ now (to .exit) ≡ filled n (λ v. cond (getD (now (set .entry)) v false) x (getD (now (to .entry)) v 0)) (now (to .entry)) ⌝ }
+    ensures { λ _. ⌜ now (to .exit)
+        ≡ filled n (λ v. cond (getD (now (set .entry)) v false) x (getD (now (to .entry)) v 0)) (now (to .entry)) ⌝ }
 {
     let mut v = 0;
     while v < n {
@@ -42,7 +45,9 @@ fn balance_from<'a>(
     balance: &mut [usize],
     v: usize,
 )
-    ensures { λ _. ⌜ ((d : Day) → DayRocks d n (now (low .entry)) (now (high .entry)) → ((i : ℕ) → getD (now (neutral .entry)) i 0 ≡ 0) → v < d .benches → BalancesTo d v (now (balance .entry)) → BalancesTo d (v + 1) (now (balance .exit))) ⌝ }
+    ensures { λ _. ⌜ ((d : Day) → DayRocks d n (now (low .entry)) (now (high .entry))
+        → ((i : ℕ) → getD (now (neutral .entry)) i 0 ≡ 0) → v < d .benches → BalancesTo d v (now (balance .entry))
+        → BalancesTo d (v + 1) (now (balance .exit))) ⌝ }
 {
     if arrays::at(balance, v) != spreading::UNKNOWN {
         return;
@@ -60,7 +65,10 @@ fn balance_from<'a>(
 
 // Entry v: the balance of the component of v. Every entry is unknown before.
 pub fn balances<'a>(n: Limits, low: &'a [usize], high: &'a [usize], balance: &mut [usize])
-    ensures { λ _. ⌜ ((d : Day) → DayRocks d n (now (low .entry)) (now (high .entry)) → d .benches ≤ length (now (balance .entry)) → ((v : ℕ) → v < d .benches → getD (now (balance .entry)) v 0 ≡ unknownBalance) → (v : ℕ) → v < d .benches → getD (now (balance .exit)) v 0 ≡ balanceIn d v) ⌝ }
+    ensures { λ _. ⌜ ((d : Day) → DayRocks d n (now (low .entry)) (now (high .entry))
+        → d .benches ≤ length (now (balance .entry))
+        → ((v : ℕ) → v < d .benches → getD (now (balance .entry)) v 0 ≡ unknownBalance) → (v : ℕ) → v < d .benches
+        → getD (now (balance .exit)) v 0 ≡ balanceIn d v) ⌝ }
 {
     let neutral = [0usize; 512];
     let mut v = 0;

@@ -13,7 +13,8 @@ ghost use lib.Dec.{eqb};
 
 // The other ends of the rocks of a set, which are at bench v.
 fn others<'a>(low: &'a [usize], high: &'a [usize], set: usize, v: usize) -> usize
-    ensures { λ s. ⌜ ((r : ℕ) → r < 64 → isSet 64 set r ≡ true → otherAt (now (low .entry)) (now (high .entry)) r v < 64 → isSet 64 s (otherAt (now (low .entry)) (now (high .entry)) r v) ≡ true) ⌝ }
+    ensures { λ s. ⌜ ((r : ℕ) → r < 64 → isSet 64 set r ≡ true → otherAt (now (low .entry)) (now (high .entry)) r v < 64
+        → isSet 64 s (otherAt (now (low .entry)) (now (high .entry)) r v) ≡ true) ⌝ }
 {
     let mut found = 0;
     let mut left = set;
@@ -32,7 +33,9 @@ pub fn fill_neighbours<'a>(
     incident: &'a [usize],
     neighbours: &mut [usize],
 )
-    ensures { λ _. ⌜ ((n : Limits) → Incident n (now (low .entry)) (now (high .entry)) (now (incident .entry)) → length (now (neighbours .entry)) ≡ 64 → Neighbours n (now (low .entry)) (now (high .entry)) (now (neighbours .exit))) ⌝ }
+    ensures { λ _. ⌜ ((n : Limits) → Incident n (now (low .entry)) (now (high .entry)) (now (incident .entry))
+        → length (now (neighbours .entry)) ≡ 64
+        → Neighbours n (now (low .entry)) (now (high .entry)) (now (neighbours .exit))) ⌝ }
 {
     let mut v = 0;
     while v < 64 {
@@ -44,14 +47,17 @@ pub fn fill_neighbours<'a>(
 
 // Entry v gets r.
 fn add_rock(incident: &mut [usize], v: usize, r: usize)
-    ensures { λ _. ⌜ ((w u : ℕ) → w < length (now (incident .entry)) → u < 64 → isSet 64 (getD (now (incident .exit)) w 0) u ≡ (isSet 64 (getD (now (incident .entry)) w 0) u || (eqb w v && eqb u r))) ⌝ }
+    ensures { λ _. ⌜ ((w u : ℕ) → w < length (now (incident .entry)) → u < 64
+        → isSet 64 (getD (now (incident .exit)) w 0) u
+        ≡ (isSet 64 (getD (now (incident .entry)) w 0) u || (eqb w v && eqb u r))) ⌝ }
 {
     arrays::put(incident, v, sets::with(arrays::at(incident, v), r));
 }
 
 // Entry v becomes the set of the rocks at bench v.
 pub fn fill_incident<'a>(n: Limits, low: &'a [usize], high: &'a [usize], incident: &mut [usize])
-    ensures { λ _. ⌜ (now (incident .entry) ≡ replicate 64 0 → Incident n (now (low .entry)) (now (high .entry)) (now (incident .exit))) ⌝ }
+    ensures { λ _. ⌜ (now (incident .entry) ≡ replicate 64 0
+        → Incident n (now (low .entry)) (now (high .entry)) (now (incident .exit))) ⌝ }
 {
     let mut r = 0;
     while r < n.rocks {

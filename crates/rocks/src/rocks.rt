@@ -41,7 +41,10 @@ pub fn direct<'a>(
     r: usize,
     v: usize,
 ) -> usize
-    ensures { λ u. ⌜ (u ≡ otherAt (now (low .entry)) (now (high .entry)) r v) × (now (dir .exit) ≡ set (now (dir .entry)) r (plusOf u 1)) × (now (load .exit) ≡ set (now (load .entry)) u (plusOf (getD (now (load .entry)) u 0) (getD (now (weight .entry)) r 0))) ⌝ }
+    ensures { λ u. ⌜ (u ≡ otherAt (now (low .entry)) (now (high .entry)) r v)
+        × (now (dir .exit) ≡ set (now (dir .entry)) r (plusOf u 1))
+        × (now (load .exit)
+        ≡ set (now (load .entry)) u (plusOf (getD (now (load .entry)) u 0) (getD (now (weight .entry)) r 0))) ⌝ }
 {
     let u = other(low, high, r, v);
     arrays::put(dir, r, arrays::plus(u, 1));
@@ -67,7 +70,8 @@ pub fn father<'a>(
     r: usize,
     v: usize,
 ) -> bool
-    ensures { λ t. ⌜ t ≡ fatherAt benches (now (low .entry)) (now (high .entry)) (now (dir .entry)) (now (joined .entry)) r v ⌝ }
+    ensures { λ t. ⌜ t
+        ≡ fatherAt benches (now (low .entry)) (now (high .entry)) (now (dir .entry)) (now (joined .entry)) r v ⌝ }
 {
     let u = other(low, high, r, v);
     if arrays::at(dir, r) != arrays::plus(u, 1) {
@@ -86,7 +90,8 @@ pub fn child<'a>(
     r: usize,
     v: usize,
 ) -> bool
-    ensures { λ t. ⌜ t ≡ childAt benches (now (low .entry)) (now (high .entry)) (now (dir .entry)) (now (joined .entry)) r v ⌝ }
+    ensures { λ t. ⌜ t
+        ≡ childAt benches (now (low .entry)) (now (high .entry)) (now (dir .entry)) (now (joined .entry)) r v ⌝ }
 {
     if arrays::at(dir, r) != arrays::plus(v, 1) {
         return false;

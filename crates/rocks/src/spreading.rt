@@ -7,7 +7,8 @@ ghost use lib.ListN.{getD};
 ghost use Rattle.sums.specs.Sum.{count};
 ghost use Rattle.sums.specs.Search.{least};
 ghost use Rattle.closure.specs.Closure.{closure};
-ghost use Rattle.rocks.specs.SpreadArrays.{insideAt, crossesAt, joinOf, widenOf, changedOf, linkedAt, balanceOf, Within, Shows};
+ghost use Rattle.rocks.specs.SpreadArrays.{insideAt, crossesAt, joinOf, widenOf, changedOf};
+ghost use Rattle.rocks.specs.SpreadArrays.{linkedAt, balanceOf, Within, Shows};
 
 // The balance of a set of benches: a tree has fewer rocks than benches, one cycle as many, a crowded set more.
 pub const TREE: usize = 0;
@@ -47,7 +48,10 @@ fn join<'a>(
     r: usize,
     changed: bool,
 ) -> bool
-    ensures { λ t. ⌜ (t ≡ (changed || crossesAt (now (low .entry)) (now (high .entry)) (now (dir .entry)) (now (chosen .entry)) r)) × (now (chosen .exit) ≡ joinOf (now (low .entry)) (now (high .entry)) (now (dir .entry)) (now (chosen .entry)) r) ⌝ }
+    ensures { λ t. ⌜ (t
+        ≡ (changed || crossesAt (now (low .entry)) (now (high .entry)) (now (dir .entry)) (now (chosen .entry)) r))
+        × (now (chosen .exit)
+        ≡ joinOf (now (low .entry)) (now (high .entry)) (now (dir .entry)) (now (chosen .entry)) r) ⌝ }
 {
     if !crosses(low, high, dir, chosen, r) {
         return changed;
@@ -65,7 +69,10 @@ fn widen<'a>(
     dir: &'a [usize],
     chosen: &mut [bool],
 ) -> bool
-    ensures { λ t. ⌜ (t ≡ changedOf (now (low .entry)) (now (high .entry)) (now (dir .entry)) (now (chosen .entry)) (n .rocks)) × (now (chosen .exit) ≡ widenOf (now (low .entry)) (now (high .entry)) (now (dir .entry)) (now (chosen .entry)) (n .rocks)) ⌝ }
+    ensures { λ t. ⌜ (t
+        ≡ changedOf (now (low .entry)) (now (high .entry)) (now (dir .entry)) (now (chosen .entry)) (n .rocks))
+        × (now (chosen .exit)
+        ≡ widenOf (now (low .entry)) (now (high .entry)) (now (dir .entry)) (now (chosen .entry)) (n .rocks)) ⌝ }
 {
     let mut changed = false;
     let mut r = 0;
@@ -84,7 +91,11 @@ pub fn spread<'a>(
     dir: &'a [usize],
     chosen: &mut [bool],
 )
-    ensures { λ _. ⌜ ((S : ℕ → Bool) → Within (n .benches) (n .rocks) (now (low .entry)) (now (high .entry)) → Shows (n .benches) S (now (chosen .entry)) → Shows (n .benches) (closure (n .benches) (linkedAt (n .rocks) (now (low .entry)) (now (high .entry)) (now (dir .entry))) S) (now (chosen .exit))) ⌝ }
+    ensures { λ _. ⌜ ((S : ℕ → Bool) → Within (n .benches) (n .rocks) (now (low .entry)) (now (high .entry))
+        → Shows (n .benches) S (now (chosen .entry))
+        → Shows (n .benches)
+        (closure (n .benches) (linkedAt (n .rocks) (now (low .entry)) (now (high .entry)) (now (dir .entry))) S)
+        (now (chosen .exit))) ⌝ }
 {
     let mut turns = n.benches;
     while 0 < turns {
@@ -135,7 +146,9 @@ pub fn first_inside<'a>(n: Limits, low: &'a [usize], dir: &'a [usize], chosen: &
 
 // The balance of the set: isTree, oneCycle or crowded.
 pub fn balance<'a>(n: Limits, low: &'a [usize], dir: &'a [usize], chosen: &'a [bool]) -> usize
-    ensures { λ k. ⌜ k ≡ balanceOf (count (n .rocks) (insideAt (now (low .entry)) (now (dir .entry)) (now (chosen .entry)))) (count (n .benches) (λ v. getD (now (chosen .entry)) v false)) ⌝ }
+    ensures { λ k. ⌜ k
+        ≡ balanceOf (count (n .rocks) (insideAt (now (low .entry)) (now (dir .entry)) (now (chosen .entry))))
+        (count (n .benches) (λ v. getD (now (chosen .entry)) v false)) ⌝ }
 {
     let rocks = rocks_in(n, low, dir, chosen);
     let size = arrays::count(n.benches, chosen);

@@ -12,7 +12,7 @@ use Prim.Native.Nat.{ℕ, suc, _+_, _*_, _≤_, _<_, _^_}
 use mathlib.Core.Path.{_≡_}
 use mathlib.Core.Bool.{Bool, true, false}
 use mathlib.Core.List.{List}
-use lib.ListN.{length, getD, replicate}
+use lib.ListN.{length, getD}
 use lib.Dec.{ltb}
 use Rattle.bits.specs.Bits.{isSet}
 use Rattle.sums.specs.Sum.{sum, count}
@@ -24,13 +24,12 @@ use Rattle.algorithm.specs.Start.{State, start, crowdedBench}
 use Rattle.algorithm.specs.Run.{boardOf, explored, canMove, nextState, answerAt, turns, budget}
 use Rattle.algorithm.specs.States.{Reached}
 use Rattle.algorithm.specs.Push.{pushJob}
-use Rattle.arrays.specs.Arrays.{plusOf}
 use Rattle.rocks.specs.declared.rocks.Limits.{Limits}
 use Rattle.rocks.specs.BoardArrays.{Owned}
 use Rattle.rocks.specs.DayArrays.{DayRocks, Cycles}
 use Rattle.rocks.specs.Shown.{Shown, ShowsActive}
 use Rattle.start.specs.StartArrays.{Fields, JobsOf}
-use Rattle.explore.specs.ExploreArrays.{Reaches}
+use Rattle.explore.specs.ExploreArrays.{Reaches, Blank}
 use Rattle.run.specs.declared.state.State.{State as Kept}
 
 -- A rock is left after the start.
@@ -95,10 +94,7 @@ pub record Holds (d : Day) (m : ℕ) (s : State) (k : Kept) : Type 0 where
 
 -- No rock is directed, and no bench is in the conflict set or activated.
 pub record Unexplored (n : Limits) (k : Kept) : Type 0 where
-  pub undirected : k .dir ≡ replicate 64 0
-  pub without-rocks : k .load ≡ k .own
-  pub none-joined : k .joined ≡ replicate 64 (plusOf (n .benches) 1)
-  pub none-leveled : k .level ≡ replicate 64 (plusOf (n .benches) 1)
+  pub blank : Blank n (k .own) (k .dir) (k .load) (k .joined) (k .level)
   pub none-active : k .active ≡ 0
 
 pub record Explores (d : Day) (s : State) (k : Kept) : Type 0 where

@@ -11,7 +11,8 @@ ghost use Rattle.sets.specs.Sets.{bitOf, setMore, setUpTo};
 
 // The benches that some entry of the set has; of those that are not in `full` only some.
 pub fn reach_of(table: &[usize], benches: usize, full: usize) -> usize
-    ensures { λ r. ⌜ ((v : ℕ) → v < 64 → isSet 64 full v ≡ true → isSet 64 r v ≡ any 64 (λ u. isSet 64 benches u && isSet 64 (getD (now (table .entry)) u 0) v)) ⌝ }
+    ensures { λ r. ⌜ ((v : ℕ) → v < 64 → isSet 64 full v ≡ true
+        → isSet 64 r v ≡ any 64 (λ u. isSet 64 benches u && isSet 64 (getD (now (table .entry)) u 0) v)) ⌝ }
 {
     let mut reach = 0;
     let mut left = benches;

@@ -29,7 +29,8 @@ pub fn lowest(set: usize) -> usize
 
 // The set without v, which is its lowest number.
 pub fn after(set: usize, v: usize) -> usize
-    ensures { λ r. ⌜ (v ≡ lowestOf set → (u : ℕ) → u < 64 → isSet 64 r u ≡ (isSet 64 set u && not (eqb u v))) × (v ≡ lowestOf set → v < 64 → r < set) ⌝ }
+    ensures { λ r. ⌜ (v ≡ lowestOf set → (u : ℕ) → u < 64 → isSet 64 r u ≡ (isSet 64 set u && not (eqb u v)))
+        × (v ≡ lowestOf set → v < 64 → r < set) ⌝ }
 {
     if 63 < v {
         return set;

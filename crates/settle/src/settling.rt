@@ -32,7 +32,9 @@ fn first_neutral<'a>(
     dir: &'a [usize],
     marked: &'a [bool],
 ) -> usize
-    ensures { λ v. ⌜ v ≡ lowestEnd (n .benches) (n .rocks) (now (low .entry)) (now (high .entry)) (followsAt (now (dir .entry)) (now (marked .entry))) ⌝ }
+    ensures { λ v. ⌜ v
+        ≡ lowestEnd (n .benches) (n .rocks) (now (low .entry)) (now (high .entry))
+        (followsAt (now (dir .entry)) (now (marked .entry))) ⌝ }
 {
     let mut v = n.benches;
     let mut r = 0;
@@ -70,7 +72,9 @@ fn neutral_rock<'a>(
     dir: &'a [usize],
     v: usize,
 ) -> usize
-    ensures { λ r. ⌜ r ≡ least (n .rocks) (λ i. touchesAt (now (low .entry)) (now (high .entry)) i v && neutralRock (now (dir .entry)) i) ⌝ }
+    ensures { λ r. ⌜ r
+        ≡ least (n .rocks)
+        (λ i. touchesAt (now (low .entry)) (now (high .entry)) i v && neutralRock (now (dir .entry)) i) ⌝ }
 {
     let mut r = 0;
     while r < n.rocks {
@@ -84,7 +88,8 @@ fn neutral_rock<'a>(
 
 // Directs rock r away from v, and says where to.
 fn turn<'a>(low: &'a [usize], high: &'a [usize], dir: &mut [usize], r: usize, v: usize) -> usize
-    ensures { λ u. ⌜ (u ≡ otherAt (now (low .entry)) (now (high .entry)) r v) × (now (dir .exit) ≡ set (now (dir .entry)) r (plusOf u 1)) ⌝ }
+    ensures { λ u. ⌜ (u ≡ otherAt (now (low .entry)) (now (high .entry)) r v)
+        × (now (dir .exit) ≡ set (now (dir .entry)) r (plusOf u 1)) ⌝ }
 {
     let u = rocks::other(low, high, r, v);
     arrays::put(dir, r, arrays::plus(u, 1));
@@ -99,7 +104,9 @@ fn follow<'a>(
     dir: &mut [usize],
     marked: &mut [bool],
 )
-    ensures { λ _. ⌜ ((b : Board) → (weight : List ℕ) → (dirs : Directions) → (ms : List Bool) → Rocks b n (now (low .entry)) (now (high .entry)) weight → Directed b dirs (now (dir .entry)) → Marked b ms (now (marked .entry)) → Directed b (follow (b .jobs) b dirs ms) (now (dir .exit))) ⌝ }
+    ensures { λ _. ⌜ ((b : Board) → (weight : List ℕ) → (dirs : Directions) → (ms : List Bool)
+        → Rocks b n (now (low .entry)) (now (high .entry)) weight → Directed b dirs (now (dir .entry))
+        → Marked b ms (now (marked .entry)) → Directed b (follow (b .jobs) b dirs ms) (now (dir .exit))) ⌝ }
 {
     let mut turns = n.jobs;
     while 0 < turns {
@@ -116,7 +123,9 @@ fn follow<'a>(
 
 // Settles the neutral tree or cycle of bench v.
 fn settle_system<'a>(n: Limits, low: &'a [usize], high: &'a [usize], dir: &mut [usize], v: usize)
-    ensures { λ _. ⌜ ((b : Board) → (weight : List ℕ) → (dirs : Directions) → Rocks b n (now (low .entry)) (now (high .entry)) weight → Directed b dirs (now (dir .entry)) → v < b .benches → Directed b (settleSystem b dirs v) (now (dir .exit))) ⌝ }
+    ensures { λ _. ⌜ ((b : Board) → (weight : List ℕ) → (dirs : Directions)
+        → Rocks b n (now (low .entry)) (now (high .entry)) weight → Directed b dirs (now (dir .entry)) → v < b .benches
+        → Directed b (settleSystem b dirs v) (now (dir .exit))) ⌝ }
 {
     let mut system = [false; 64];
     arrays::mark(&mut system, v, true);
@@ -136,7 +145,9 @@ fn settle_system<'a>(n: Limits, low: &'a [usize], high: &'a [usize], dir: &mut [
 
 // One neutral tree or cycle after another, by lowest bench.
 pub fn settle<'a>(n: Limits, low: &'a [usize], high: &'a [usize], dir: &mut [usize])
-    ensures { λ _. ⌜ ((b : Board) → (weight : List ℕ) → (dirs : Directions) → Rocks b n (now (low .entry)) (now (high .entry)) weight → Directed b dirs (now (dir .entry)) → Directed b (settle b dirs) (now (dir .exit))) ⌝ }
+    ensures { λ _. ⌜ ((b : Board) → (weight : List ℕ) → (dirs : Directions)
+        → Rocks b n (now (low .entry)) (now (high .entry)) weight → Directed b dirs (now (dir .entry))
+        → Directed b (settle b dirs) (now (dir .exit))) ⌝ }
 {
     let everywhere = [true; 64];
     let mut turns = n.jobs;

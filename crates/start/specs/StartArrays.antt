@@ -80,7 +80,8 @@ abbrev pub leftCount : ℕ → List ℕ → List ℕ → List ℕ → List Bool 
 leftCount rocks job low high left v = count rocks (leftRock job low high left v)
 
 abbrev pub hangingOf : ℕ → List ℕ → List ℕ → List ℕ → List ℕ → List Bool → ℕ → Bool
-hangingOf rocks job low high balance left v = eqb (getD balance v 0) cycleBalance && eqb (leftCount rocks job low high left v) 1
+hangingOf rocks job low high balance left v =
+    eqb (getD balance v 0) cycleBalance && eqb (leftCount rocks job low high left v) 1
 
 -- One entry for each job. Only rocks are left.
 pub record Placed (d : Day) (s : State) (left : List Bool) (place : List ℕ) : Type 0 where

@@ -33,7 +33,8 @@ fn count_left<'a>(
     left: &'a [bool],
     v: usize,
 ) -> usize
-    ensures { λ k. ⌜ k ≡ leftCount (n .rocks) (now (job .entry)) (now (low .entry)) (now (high .entry)) (now (left .entry)) v ⌝ }
+    ensures { λ k. ⌜ k
+        ≡ leftCount (n .rocks) (now (job .entry)) (now (low .entry)) (now (high .entry)) (now (left .entry)) v ⌝ }
 {
     let mut k = 0;
     let mut r = 0;
@@ -56,7 +57,9 @@ fn hanging_at<'a>(
     left: &'a [bool],
     v: usize,
 ) -> bool
-    ensures { λ t. ⌜ t ≡ hangingOf (n .rocks) (now (job .entry)) (now (low .entry)) (now (high .entry)) (now (balance .entry)) (now (left .entry)) v ⌝ }
+    ensures { λ t. ⌜ t
+        ≡ hangingOf (n .rocks) (now (job .entry)) (now (low .entry)) (now (high .entry)) (now (balance .entry))
+        (now (left .entry)) v ⌝ }
 {
     if arrays::at(balance, v) != rocks::ONE_CYCLE {
         return false;
@@ -73,7 +76,10 @@ fn first_hanging<'a>(
     balance: &'a [usize],
     left: &'a [bool],
 ) -> usize
-    ensures { λ v. ⌜ v ≡ least (n .benches) (hangingOf (n .rocks) (now (job .entry)) (now (low .entry)) (now (high .entry)) (now (balance .entry)) (now (left .entry))) ⌝ }
+    ensures { λ v. ⌜ v
+        ≡ least (n .benches)
+        (hangingOf (n .rocks) (now (job .entry)) (now (low .entry)) (now (high .entry)) (now (balance .entry))
+        (now (left .entry))) ⌝ }
 {
     let mut v = 0;
     while v < n.benches {
@@ -94,7 +100,9 @@ fn hanging_rock<'a>(
     left: &'a [bool],
     v: usize,
 ) -> usize
-    ensures { λ r. ⌜ r ≡ least (n .rocks) (leftRock (now (job .entry)) (now (low .entry)) (now (high .entry)) (now (left .entry)) v) ⌝ }
+    ensures { λ r. ⌜ r
+        ≡ least (n .rocks)
+        (leftRock (now (job .entry)) (now (low .entry)) (now (high .entry)) (now (left .entry)) v) ⌝ }
 {
     let mut r = 0;
     while r < n.rocks {
@@ -116,7 +124,10 @@ pub fn peel<'a>(
     left: &mut [bool],
     place: &mut [usize],
 )
-    ensures { λ _. ⌜ ((d : Day) → (s : State) → DayRocks d n (now (low .entry)) (now (high .entry)) → JobsOf d (now (job .entry)) → Cycles d (now (balance .entry)) → Placed d s (now (left .entry)) (now (place .entry)) → Placed d (peelOf (d .jobs) d s) (now (left .exit)) (now (place .exit))) ⌝ }
+    ensures { λ _. ⌜ ((d : Day) → (s : State) → DayRocks d n (now (low .entry)) (now (high .entry))
+        → JobsOf d (now (job .entry)) → Cycles d (now (balance .entry))
+        → Placed d s (now (left .entry)) (now (place .entry))
+        → Placed d (peelOf (d .jobs) d s) (now (left .exit)) (now (place .exit))) ⌝ }
 {
     let mut turns = n.jobs;
     while 0 < turns {

@@ -55,7 +55,8 @@ pub fn limits(benches: usize, jobs: usize, p: usize, q: usize, target: usize) ->
 
 // Entry j: weight d j.
 pub fn weigh(jobs: usize, q: usize, minutes: &[usize], weight: &mut [usize])
-    ensures { λ _. ⌜ now (weight .exit) ≡ filled jobs (λ j. timesOf (timesOf 3 q) (getD (now (minutes .entry)) j 0)) (now (weight .entry)) ⌝ }
+    ensures { λ _. ⌜ now (weight .exit)
+        ≡ filled jobs (λ j. timesOf (timesOf 3 q) (getD (now (minutes .entry)) j 0)) (now (weight .entry)) ⌝ }
 {
     let scale = arrays::times(3, q);
     let end = arrays::least(jobs, weight.len());
@@ -76,7 +77,9 @@ pub fn mark_rocks<'a>(
     allowed: &'a [usize],
     rock: &mut [bool],
 )
-    ensures { λ _. ⌜ now (rock .exit) ≡ filled jobs (λ j. rockOf p q target (getD (now (minutes .entry)) j 0) (getD (now (allowed .entry)) j 0)) (now (rock .entry)) ⌝ }
+    ensures { λ _. ⌜ now (rock .exit)
+        ≡ filled jobs (λ j. rockOf p q target (getD (now (minutes .entry)) j 0) (getD (now (allowed .entry)) j 0))
+        (now (rock .entry)) ⌝ }
 {
     let end = arrays::least(jobs, rock.len());
     let mut j = 0;
@@ -97,7 +100,9 @@ pub fn mark_pebbles<'a>(
     allowed: &'a [usize],
     pebble: &mut [bool],
 )
-    ensures { λ _. ⌜ now (pebble .exit) ≡ filled jobs (λ j. pebbleOf p q target (getD (now (minutes .entry)) j 0) (getD (now (allowed .entry)) j 0)) (now (pebble .entry)) ⌝ }
+    ensures { λ _. ⌜ now (pebble .exit)
+        ≡ filled jobs (λ j. pebbleOf p q target (getD (now (minutes .entry)) j 0) (getD (now (allowed .entry)) j 0))
+        (now (pebble .entry)) ⌝ }
 {
     let end = arrays::least(jobs, pebble.len());
     let mut j = 0;
@@ -110,7 +115,9 @@ pub fn mark_pebbles<'a>(
 
 // Entry j: the benches that job j allows where it is a pebble, and else none.
 pub fn choose<'a>(jobs: usize, pebble: &'a [bool], allowed: &'a [usize], choices: &mut [usize])
-    ensures { λ _. ⌜ now (choices .exit) ≡ filled jobs (λ j. cond (getD (now (pebble .entry)) j false) (getD (now (allowed .entry)) j 0) 0) (now (choices .entry)) ⌝ }
+    ensures { λ _. ⌜ now (choices .exit)
+        ≡ filled jobs (λ j. cond (getD (now (pebble .entry)) j false) (getD (now (allowed .entry)) j 0) 0)
+        (now (choices .entry)) ⌝ }
 {
     let end = arrays::least(jobs, choices.len());
     let mut j = 0;
@@ -126,7 +133,8 @@ pub fn choose<'a>(jobs: usize, pebble: &'a [bool], allowed: &'a [usize], choices
 
 // Entry j: lowest d j.
 pub fn place_lowest(jobs: usize, allowed: &[usize], place: &mut [usize])
-    ensures { λ _. ⌜ now (place .exit) ≡ filled jobs (λ j. lowestOf (getD (now (allowed .entry)) j 0)) (now (place .entry)) ⌝ }
+    ensures { λ _. ⌜ now (place .exit)
+        ≡ filled jobs (λ j. lowestOf (getD (now (allowed .entry)) j 0)) (now (place .entry)) ⌝ }
 {
     let end = arrays::least(jobs, place.len());
     let mut j = 0;
@@ -146,7 +154,14 @@ fn gather_job<'a>(
     j: usize,
     k: usize,
 ) -> usize
-    ensures { λ l. ⌜ (l ≡ cond (getD (now (marked .entry)) j false) (plusOf k 1) k) × (now (job .exit) ≡ cond (getD (now (marked .entry)) j false) (set (now (job .entry)) k j) (now (job .entry))) × (now (low .exit) ≡ cond (getD (now (marked .entry)) j false) (set (now (low .entry)) k (lowestOf (getD (now (allowed .entry)) j 0))) (now (low .entry))) × (now (high .exit) ≡ cond (getD (now (marked .entry)) j false) (set (now (high .entry)) k (highestOf (getD (now (allowed .entry)) j 0))) (now (high .entry))) ⌝ }
+    ensures { λ l. ⌜ (l ≡ cond (getD (now (marked .entry)) j false) (plusOf k 1) k)
+        × (now (job .exit) ≡ cond (getD (now (marked .entry)) j false) (set (now (job .entry)) k j) (now (job .entry)))
+        × (now (low .exit)
+        ≡ cond (getD (now (marked .entry)) j false)
+        (set (now (low .entry)) k (lowestOf (getD (now (allowed .entry)) j 0))) (now (low .entry)))
+        × (now (high .exit)
+        ≡ cond (getD (now (marked .entry)) j false)
+        (set (now (high .entry)) k (highestOf (getD (now (allowed .entry)) j 0))) (now (high .entry))) ⌝ }
 {
     if !arrays::holds(marked, j) {
         return k;
@@ -167,7 +182,19 @@ pub fn gather<'a>(
     low: &mut [usize],
     high: &mut [usize],
 ) -> usize
-    ensures { λ k. ⌜ (k ≡ count jobs (λ j. getD (now (marked .entry)) j false)) × (now (job .exit) ≡ filled k (λ r. getD (members jobs (λ j. getD (now (marked .entry)) j false)) r 0) (now (job .entry))) × (now (low .exit) ≡ filled k (λ r. lowestOf (getD (now (allowed .entry)) (getD (members jobs (λ j. getD (now (marked .entry)) j false)) r 0) 0)) (now (low .entry))) × (now (high .exit) ≡ filled k (λ r. highestOf (getD (now (allowed .entry)) (getD (members jobs (λ j. getD (now (marked .entry)) j false)) r 0) 0)) (now (high .entry))) ⌝ }
+    ensures { λ k. ⌜ (k ≡ count jobs (λ j. getD (now (marked .entry)) j false))
+        × (now (job .exit)
+        ≡ filled k (λ r. getD (members jobs (λ j. getD (now (marked .entry)) j false)) r 0) (now (job .entry)))
+        × (now (low .exit)
+        ≡ filled k
+        (λ r. lowestOf
+        (getD (now (allowed .entry)) (getD (members jobs (λ j. getD (now (marked .entry)) j false)) r 0) 0))
+        (now (low .entry)))
+        × (now (high .exit)
+        ≡ filled k
+        (λ r. highestOf
+        (getD (now (allowed .entry)) (getD (members jobs (λ j. getD (now (marked .entry)) j false)) r 0) 0))
+        (now (high .entry))) ⌝ }
 {
     let mut k = 0;
     let mut j = 0;

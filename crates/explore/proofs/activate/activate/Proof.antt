@@ -30,7 +30,7 @@ same-length : tie.Need-same-length Inv-loop μ-loop
 same-length c = c .before .before .before .before .loop .inv .0 .long
 
 returns : tie.Need-returns Inv-loop μ-loop
-returns c = (c .before .before .before .before .loop .inv .0 .gone, λ b dirs xs ys R few H t W O D X Y. active-ends b (c .before .before .before .before .before .before .before .before .before .before .before .before .before .args .n) (c .before .before .before .before .before .before .before .before .before .before .before .before .before .args .low .now) (c .before .before .before .before .before .before .before .before .before .before .before .before .before .args .high .now) (c .before .before .before .before .before .before .before .before .before .before .before .before .before .args .weight .now) (c .before .before .before .before .before .before .before .before .before .before .before .before .before .args .own .now) R few (c .before .before .before .before .before .before .before .before .before .before .before .before .before .args .incident .now) H O dirs (c .before .before .before .before .before .before .before .before .before .before .before .before .before .args .dir .now) D xs (c .before .before .before .before .before .before .before .before .before .before .before .before .before .args .joined .now) X (c .before .before .before .before .before .before .before .before .before .before .before .before .before .args .i) (c .before .before .before .before .before .before .before .before .before .before .before .before .before .args .wait) t (c .before .before .before .before .before .before .before .before .before .before .before .before .before .args .level .now) ys Y W (c .before .before .before .before .loop .inv .1 b dirs xs ys R few H t W O D X Y) (c .before .before .before .before .loop .left) (c .before .before .before .before .loop .inv .0) (c .before .first-active .result) (c .before .first-active .ensures) (c .if1 .taken))
+returns c = (c .before .before .before .before .loop .inv .0 .gone, λ b dirs xs ys G t W O D X Y. let R = G .rocks in let few = G .few-rocks in let H = G .incidence in active-ends b (c .before .before .before .before .before .before .before .before .before .before .before .before .before .args .n) (c .before .before .before .before .before .before .before .before .before .before .before .before .before .args .low .now) (c .before .before .before .before .before .before .before .before .before .before .before .before .before .args .high .now) (c .before .before .before .before .before .before .before .before .before .before .before .before .before .args .weight .now) (c .before .before .before .before .before .before .before .before .before .before .before .before .before .args .own .now) R few (c .before .before .before .before .before .before .before .before .before .before .before .before .before .args .incident .now) H O dirs (c .before .before .before .before .before .before .before .before .before .before .before .before .before .args .dir .now) D xs (c .before .before .before .before .before .before .before .before .before .before .before .before .before .args .joined .now) X (c .before .before .before .before .before .before .before .before .before .before .before .before .before .args .i) (c .before .before .before .before .before .before .before .before .before .before .before .before .before .args .wait) t (c .before .before .before .before .before .before .before .before .before .before .before .before .before .args .level .now) ys Y W (c .before .before .before .before .loop .inv .1 b dirs xs ys R few H t W O D X Y) (c .before .before .before .before .loop .left) (c .before .before .before .before .loop .inv .0) (c .before .first-active .result) (c .before .first-active .ensures) (c .if1 .taken))
 
 put-requires : tie.Need-put-requires Inv-loop μ-loop
 put-requires c κs = search needs
@@ -54,7 +54,7 @@ same-length-2 : tie.Need-same-length-2 Inv-loop μ-loop
 same-length-2 c = c .before .loop .inv .0 .long
 
 returns-2 : tie.Need-returns-2 Inv-loop μ-loop
-returns-2 c = (c .before .loop .inv .0 .gone, λ b dirs xs ys R few H t W O D X Y. activating-spent b (c .before .before .before .before .before .before .before .before .before .before .args .n) (c .before .before .before .before .before .before .before .before .before .before .args .low .now) (c .before .before .before .before .before .before .before .before .before .before .args .high .now) (c .before .before .before .before .before .before .before .before .before .before .args .weight .now) (c .before .before .before .before .before .before .before .before .before .before .args .own .now) R O dirs (c .before .before .before .before .before .before .before .before .before .before .args .dir .now) D xs (c .before .before .before .before .before .before .before .before .before .before .args .joined .now) X (c .before .loop .inv .1 b dirs xs ys R few H t W O D X Y) (omega arith))
+returns-2 c = (c .before .loop .inv .0 .gone, λ b dirs xs ys G t W O D X Y. let R = G .rocks in let few = G .few-rocks in let H = G .incidence in activating-spent b (c .before .before .before .before .before .before .before .before .before .before .args .n) (c .before .before .before .before .before .before .before .before .before .before .args .low .now) (c .before .before .before .before .before .before .before .before .before .before .args .high .now) (c .before .before .before .before .before .before .before .before .before .before .args .weight .now) (c .before .before .before .before .before .before .before .before .before .before .args .own .now) R O dirs (c .before .before .before .before .before .before .before .before .before .before .args .dir .now) D xs (c .before .before .before .before .before .before .before .before .before .before .args .joined .now) X (c .before .loop .inv .1 b dirs xs ys R few H t W O D X Y) (omega arith))
 
 pub activate-spec : {M : Type 1} → statement M
 activate-spec =

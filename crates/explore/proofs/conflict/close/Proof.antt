@@ -30,7 +30,7 @@ same-length : tie.Need-same-length Inv-loop μ-loop
 same-length c = c .before .before .before .before .loop .inv .0
 
 returns : tie.Need-returns Inv-loop μ-loop
-returns c = λ b weight dirs xs R few hi H N C D X. let at-args = c .before .before .before .before .before .before .before .before .before .before .before .args in let at-first = c .before .first-joining in closes-ends b (at-args .n) (at-args .low .now) (at-args .high .now) weight R few (at-args .incident .now) H (at-args .i) dirs xs (at-args .dir .now) (at-args .joined .now) hi D X (c .before .before .before .before .loop .inv .1 b weight dirs xs R few hi H N C D X) (at-first .result) (at-first .ensures) (omega arith)
+returns c = λ b weight dirs xs G hi N C D X. let R = G .rocks in let few = G .few-rocks in let H = G .incidence in let at-args = c .before .before .before .before .before .before .before .before .before .before .before .args in let at-first = c .before .first-joining in closes-ends b (at-args .n) (at-args .low .now) (at-args .high .now) weight R few (at-args .incident .now) H (at-args .i) dirs xs (at-args .dir .now) (at-args .joined .now) hi D X (c .before .before .before .before .loop .inv .1 b weight dirs xs R few hi H N C D X) (at-first .result) (at-first .ensures) (omega arith)
 
 put-requires : tie.Need-put-requires Inv-loop μ-loop
 put-requires c κs = search needs
@@ -57,7 +57,7 @@ same-length-2 : tie.Need-same-length-2 Inv-loop μ-loop
 same-length-2 c = c .before .loop .inv .0
 
 returns-2 : tie.Need-returns-2 Inv-loop μ-loop
-returns-2 c = λ b weight dirs xs R few hi H N C D X. let at-args = c .before .before .before .before .before .before .before .before .args in closes-spent b (at-args .n) (at-args .low .now) (at-args .high .now) weight R few (at-args .incident .now) H (at-args .i) dirs xs (at-args .dir .now) (at-args .joined .now) hi D X (c .before .loop .inv .1 b weight dirs xs R few hi H N C D X) (omega arith)
+returns-2 c = λ b weight dirs xs G hi N C D X. let R = G .rocks in let few = G .few-rocks in let H = G .incidence in let at-args = c .before .before .before .before .before .before .before .before .args in closes-spent b (at-args .n) (at-args .low .now) (at-args .high .now) weight R few (at-args .incident .now) H (at-args .i) dirs xs (at-args .dir .now) (at-args .joined .now) hi D X (c .before .loop .inv .1 b weight dirs xs R few hi H N C D X) (omega arith)
 
 pub close-spec : {M : Type 1} → statement M
 close-spec =

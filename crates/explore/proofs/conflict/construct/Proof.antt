@@ -40,7 +40,7 @@ same-length-3 : tie.Need-same-length-3 Inv-loop μ-loop
 same-length-3 c = c .before .before .before .before .before .close .kept .1 .1 .1 .1 .1 .1 .1 .1 .0 ∙ c .before .before .before .before .before .before .before .before .before .loop .inv .2
 
 returns : tie.Need-returns Inv-loop μ-loop
-returns c = λ b dirs xs R few hi H N A C F Q S X. let at-args = c .before .before .before .before .before .before .before .before .before .before .before .before .before .before .before .before .before .before .args in let at-loop = c .before .before .before .before .before .before .before .before .before .loop in let at-close = c .before .before .before .before .before .close in let at-fake = c .before .first-fake in let now-is = at-loop .inv .3 b dirs xs R few hi H N A C F Q S X in builds-ends b (at-args .n) (at-args .low .now) (at-args .high .now) (at-args .weight .now) R few (at-args .incident .now) H now-is _ (at-close .result) (at-close .ensures b (at-args .weight .now) (now-is .building .now-dirs) (now-is .building .now-xs) R few hi H N (now-is .joining) (now-is .building .seen .directed) (now-is .building .rounds)) (at-fake .result) (at-fake .ensures (at-args .n) (at-args .low .now) (at-args .high .now) (at-loop .dir) H (now-is .free)) (omega arith)
+returns c = λ b dirs xs G N P. let R = G .rocks in let few = G .few-rocks in let H = G .incidence in let hi = P .round in let A = P .free in let C = P .joins in let F = P .fakes in let Q = P .unforced in let S = P .seen in let X = P .joined in let at-args = c .before .before .before .before .before .before .before .before .before .before .before .before .before .before .before .before .before .before .args in let at-loop = c .before .before .before .before .before .before .before .before .before .loop in let at-close = c .before .before .before .before .before .close in let at-fake = c .before .first-fake in let now-is = at-loop .inv .3 b dirs xs R few hi H N A C F Q S X in builds-ends b (at-args .n) (at-args .low .now) (at-args .high .now) (at-args .weight .now) R few (at-args .incident .now) H now-is _ (at-close .result) (at-close .ensures b (at-args .weight .now) (now-is .building .now-dirs) (now-is .building .now-xs) (record { rocks = R; few-rocks = few; incidence = H }) hi N (now-is .joining) (now-is .building .seen .directed) (now-is .building .rounds)) (at-fake .result) (at-fake .ensures (at-args .n) (at-args .low .now) (at-args .high .now) (at-loop .dir) H (now-is .free)) (omega arith)
 
 fake-rock-requires : tie.Need-fake-rock-requires Inv-loop μ-loop
 fake-rock-requires c κs = search needs
@@ -73,7 +73,7 @@ loop-less : tie.Need-loop-less Inv-loop μ-loop
 loop-less c = omega (arith, c .before .before .before .before .before .before .before .before .before .before .before .before .before .before .before .before .before .before .before .before .before .before .before .before .before .before .before .before .before .loop-test .taken)
 
 loop-again : tie.Need-loop-again Inv-loop μ-loop
-loop-again c = let at-args = c .before .before .before .before .before .before .before .before .before .before .before .before .before .before .before .before .before .before .before .before .before .before .before .before .before .before .before .before .before .before .before .before .before .before .before .before .before .before .before .args in let at-loop = c .before .before .before .before .before .before .before .before .before .before .before .before .before .before .before .before .before .before .before .before .before .before .before .before .before .before .before .before .before .before .loop in let at-close = c .before .before .before .before .before .before .before .before .before .before .before .before .before .before .before .before .before .before .before .before .before .before .before .before .before .before .close in let at-fake = c .before .before .before .before .before .before .before .before .before .before .before .before .before .before .before .before .before .before .before .before .before .before .first-fake in let at-rock = c .before .before .before .before .before .before .before .before .before .before .before .before .before .before .before .before .before .before .before .fake-rock in let at-direct = c .before .before .before .before .before .before .before .before .before .before .before .before .before .before .before .before .direct in let at-with = c .before .before .before .before .before .before .before .before .before .before .before .with in let at-less = c .before .before .before .before .before .before .before .before .before .before .less in let at-with2 = c .before .before .before .before .before .before .before .before .before .with2 in let at-force = c .before .before .before .before .before .before .force in let at-above = c .before .above in let at-with3 = c .with3 in (at-force .kept .1 .1 .1 .1 .1 .1 .1 .0 ∙ ap length (at-direct .ensures .1) ∙ simp length-set (at-loop .inv .0), at-force .kept .1 .1 .1 .1 .1 .1 .1 .1 .0 ∙ ap length (at-direct .ensures .2) ∙ simp length-set (at-loop .inv .1), at-close .kept .1 .1 .1 .1 .1 .1 .1 .1 .0 ∙ at-loop .inv .2, λ b dirs xs R few hi H N A C F Q S X. let now-is = at-loop .inv .3 b dirs xs R few hi H N A C F Q S X in builds-goes-on b (at-args .n) (at-args .low .now) (at-args .high .now) (at-args .weight .now) R few (at-args .incident .now) H now-is _ (at-close .result) (at-close .ensures b (at-args .weight .now) (now-is .building .now-dirs) (now-is .building .now-xs) R few hi H N (now-is .joining) (now-is .building .seen .directed) (now-is .building .rounds)) (at-fake .result) (at-fake .ensures (at-args .n) (at-args .low .now) (at-args .high .now) (at-loop .dir) H (now-is .free)) (omega (arith, c .before .before .before .before .before .before .before .before .before .before .before .before .before .before .before .before .before .before .before .before .before .if1 .left)) (at-rock .result) (at-direct .result) (at-rock .ensures (at-args .n) (at-args .low .now) (at-args .high .now) (at-loop .dir) H (now-is .free) (omega (arith, c .before .before .before .before .before .before .before .before .before .before .before .before .before .before .before .before .before .before .before .before .before .if1 .left))) (at-direct .ensures .0) 0 (at-with2 .result) (at-above .result) (at-with3 .result) (at-force .result .tails) (at-with .result) (at-less .result) (at-force .result .neutral) (c .before .before .before .before .before .before .before .before .before .before .before .before .before .before .before .before .before .before .before .before .before .before .before .before .before .before .before .before .before .loop-test .taken) refl (at-with2 .ensures) (at-direct .ensures .1) (at-direct .ensures .2) (at-with .ensures) (at-less .ensures) (λ x free W Y. at-force .ensures b x R few H free W Y) (at-above .ensures) (at-with3 .ensures))
+loop-again c = let at-args = c .before .before .before .before .before .before .before .before .before .before .before .before .before .before .before .before .before .before .before .before .before .before .before .before .before .before .before .before .before .before .before .before .before .before .before .before .before .before .before .args in let at-loop = c .before .before .before .before .before .before .before .before .before .before .before .before .before .before .before .before .before .before .before .before .before .before .before .before .before .before .before .before .before .before .loop in let at-close = c .before .before .before .before .before .before .before .before .before .before .before .before .before .before .before .before .before .before .before .before .before .before .before .before .before .before .close in let at-fake = c .before .before .before .before .before .before .before .before .before .before .before .before .before .before .before .before .before .before .before .before .before .before .first-fake in let at-rock = c .before .before .before .before .before .before .before .before .before .before .before .before .before .before .before .before .before .before .before .fake-rock in let at-direct = c .before .before .before .before .before .before .before .before .before .before .before .before .before .before .before .before .direct in let at-with = c .before .before .before .before .before .before .before .before .before .before .before .with in let at-less = c .before .before .before .before .before .before .before .before .before .before .less in let at-with2 = c .before .before .before .before .before .before .before .before .before .with2 in let at-force = c .before .before .before .before .before .before .force in let at-above = c .before .above in let at-with3 = c .with3 in (at-force .kept .1 .1 .1 .1 .1 .1 .1 .0 ∙ ap length (at-direct .ensures .1) ∙ simp length-set (at-loop .inv .0), at-force .kept .1 .1 .1 .1 .1 .1 .1 .1 .0 ∙ ap length (at-direct .ensures .2) ∙ simp length-set (at-loop .inv .1), at-close .kept .1 .1 .1 .1 .1 .1 .1 .1 .0 ∙ at-loop .inv .2, λ b dirs xs R few hi H N A C F Q S X. let now-is = at-loop .inv .3 b dirs xs R few hi H N A C F Q S X in builds-goes-on b (at-args .n) (at-args .low .now) (at-args .high .now) (at-args .weight .now) R few (at-args .incident .now) H now-is _ (at-close .result) (at-close .ensures b (at-args .weight .now) (now-is .building .now-dirs) (now-is .building .now-xs) (record { rocks = R; few-rocks = few; incidence = H }) hi N (now-is .joining) (now-is .building .seen .directed) (now-is .building .rounds)) (at-fake .result) (at-fake .ensures (at-args .n) (at-args .low .now) (at-args .high .now) (at-loop .dir) H (now-is .free)) (omega (arith, c .before .before .before .before .before .before .before .before .before .before .before .before .before .before .before .before .before .before .before .before .before .if1 .left)) (at-rock .result) (at-direct .result) (at-rock .ensures (at-args .n) (at-args .low .now) (at-args .high .now) (at-loop .dir) H (now-is .free) (omega (arith, c .before .before .before .before .before .before .before .before .before .before .before .before .before .before .before .before .before .before .before .before .before .if1 .left))) (at-direct .ensures .0) 0 (at-with2 .result) (at-above .result) (at-with3 .result) (at-force .result .tails) (at-with .result) (at-less .result) (at-force .result .neutral) (c .before .before .before .before .before .before .before .before .before .before .before .before .before .before .before .before .before .before .before .before .before .before .before .before .before .before .before .before .before .loop-test .taken) refl (at-with2 .ensures) (at-direct .ensures .1) (at-direct .ensures .2) (at-with .ensures) (at-less .ensures) (λ x free W Y. at-force .ensures b x (record { rocks = R; few-rocks = few; incidence = H }) free W Y) (at-above .ensures) (at-with3 .ensures))
 
 close-requires-2 : tie.Need-close-requires-2 Inv-loop μ-loop
 close-requires-2 c κs = search needs
@@ -88,7 +88,7 @@ same-length-6 : tie.Need-same-length-6 Inv-loop μ-loop
 same-length-6 c = c .before .before .close2 .kept .1 .1 .1 .1 .1 .1 .1 .1 .0 ∙ c .before .before .before .before .before .before .loop .inv .2
 
 returns-2 : tie.Need-returns-2 Inv-loop μ-loop
-returns-2 c = λ b dirs xs R few hi H N A C F Q S X. let at-args = c .before .before .before .before .before .before .before .before .before .before .before .before .before .before .before .args in let at-loop = c .before .before .before .before .before .before .loop in let at-close = c .before .before .close2 in let now-is = at-loop .inv .3 b dirs xs R few hi H N A C F Q S X in builds-spent b (at-args .n) (at-args .low .now) (at-args .high .now) (at-args .weight .now) R few (at-args .incident .now) H now-is _ (at-close .result) (at-close .ensures b (at-args .weight .now) (now-is .building .now-dirs) (now-is .building .now-xs) R few hi H N (now-is .joining) (now-is .building .seen .directed) (now-is .building .rounds)) (omega (arith, c .before .before .before .before .before .loop-test .left))
+returns-2 c = λ b dirs xs G N P. let R = G .rocks in let few = G .few-rocks in let H = G .incidence in let hi = P .round in let A = P .free in let C = P .joins in let F = P .fakes in let Q = P .unforced in let S = P .seen in let X = P .joined in let at-args = c .before .before .before .before .before .before .before .before .before .before .before .before .before .before .before .args in let at-loop = c .before .before .before .before .before .before .loop in let at-close = c .before .before .close2 in let now-is = at-loop .inv .3 b dirs xs R few hi H N A C F Q S X in builds-spent b (at-args .n) (at-args .low .now) (at-args .high .now) (at-args .weight .now) R few (at-args .incident .now) H now-is _ (at-close .result) (at-close .ensures b (at-args .weight .now) (now-is .building .now-dirs) (now-is .building .now-xs) (record { rocks = R; few-rocks = few; incidence = H }) hi N (now-is .joining) (now-is .building .seen .directed) (now-is .building .rounds)) (omega (arith, c .before .before .before .before .before .loop-test .left))
 
 pub construct-spec : {M : Type 1} → statement M
 construct-spec =

@@ -59,7 +59,7 @@ same-length-4 : tie.Need-same-length-4 Inv-loop μ-loop
 same-length-4 c = c .before .before .before .before .before .open-round .kept .1 .1 .1 .1 .1 .1 .1 .0 ∙ c .before .before .before .before .before .before .before .before .before .before .before .before .loop .inv .3
 
 returns : tie.Need-returns Inv-loop μ-loop
-returns c = λ b R M O T few room d l j k. let at-args = c .before .before .before .before .before .before .before .before .before .before .before .before .before .before .before .before .before .before .before .before .before .before .before .before .before .before .before .before .before .before .before .before .before .args in let at-loop = c .before .before .before .before .before .before .before .before .before .before .before .before .loop in let at-force = c .before .before .before .before .before .before .before .before .before .before .before .before .before .before .before .before .before .before .force in let at-loop-test = c .before .before .before .before .before .before .before .before .before .before .before .loop-test in let at-plus = c .before .before .before .before .before .before .before .before .before .before .before .before .before .plus in let at-less = c .before .before .before .before .before .before .before .before .before .before .less in let at-reach-of = c .before .before .before .before .before .before .before .before .before .reach-of in let at-open-round = c .before .before .before .before .before .open-round in let at-if1 = c .if1 in let forced = at-force .ensures b (replicate (b .jobs) 0) R few (M .rocks) (neutral-starts (at-args .n) (at-args .dir .now) (c .before .before .before .before .before .before .before .before .before .before .before .before .before .before .before .before .before .before .before .before .before .everywhere .result) (c .before .before .before .before .before .before .before .before .before .before .before .before .before .before .before .before .before .before .before .before .before .everywhere .ensures) d) (covers-touched b (at-args .n) (at-args .low .now) (at-args .high .now) (at-args .weight .now) R (forcesAt (at-args .n .bound) (at-args .weight .now) (at-args .dir .now) (at-args .load .now)) (at-args .incident .now) (at-args .neighbours .now) (at-args .all) (at-args .touched) few M) (seen-none b (at-args .n) (at-args .low .now) (at-args .high .now) (at-args .weight .now) R 64 (at-args .own .now) few (omega (arith, room, R .few-benches)) O d l) in exploration-ends b (at-args .n) (at-args .low .now) (at-args .high .now) (at-args .weight .now) R (at-less .result) T (at-loop .inv .4 b R M few O T (forced .0) (forced .2) (forced .3) j k) (at-loop-test .taken) (at-plus .ensures) (at-less .ensures) (at-reach-of .ensures) (record { opens = at-open-round .ensures .0; entered = at-open-round .ensures .1; raised = at-open-round .ensures .2; long-joined = at-open-round .kept .1 .1 .1 .1 .1 .1 .0; long-level = at-open-round .kept .1 .1 .1 .1 .1 .1 .1 .0 }) (at-if1 .taken)
+returns c = λ b R M O T few Z. let room = Z .own-room in let d = Z .undirected in let l = Z .unloaded in let j = Z .never-joined in let k = Z .never-active in let at-args = c .before .before .before .before .before .before .before .before .before .before .before .before .before .before .before .before .before .before .before .before .before .before .before .before .before .before .before .before .before .before .before .before .before .args in let at-loop = c .before .before .before .before .before .before .before .before .before .before .before .before .loop in let at-force = c .before .before .before .before .before .before .before .before .before .before .before .before .before .before .before .before .before .before .force in let at-loop-test = c .before .before .before .before .before .before .before .before .before .before .before .loop-test in let at-plus = c .before .before .before .before .before .before .before .before .before .before .before .before .before .plus in let at-less = c .before .before .before .before .before .before .before .before .before .before .less in let at-reach-of = c .before .before .before .before .before .before .before .before .before .reach-of in let at-open-round = c .before .before .before .before .before .open-round in let at-if1 = c .if1 in let forced = at-force .ensures b (replicate (b .jobs) 0) (record { rocks = R; few-rocks = few; incidence = M .rocks }) (neutral-starts (at-args .n) (at-args .dir .now) (c .before .before .before .before .before .before .before .before .before .before .before .before .before .before .before .before .before .before .before .before .before .everywhere .result) (c .before .before .before .before .before .before .before .before .before .before .before .before .before .before .before .before .before .before .before .before .before .everywhere .ensures) d) (covers-touched b (at-args .n) (at-args .low .now) (at-args .high .now) (at-args .weight .now) R (forcesAt (at-args .n .bound) (at-args .weight .now) (at-args .dir .now) (at-args .load .now)) (at-args .incident .now) (at-args .neighbours .now) (at-args .all) (at-args .touched) few M) (seen-none b (at-args .n) (at-args .low .now) (at-args .high .now) (at-args .weight .now) R 64 (at-args .own .now) few (omega (arith, room, R .few-benches)) O d l) in exploration-ends b (at-args .n) (at-args .low .now) (at-args .high .now) (at-args .weight .now) R (at-less .result) T (at-loop .inv .4 b R M few O T (forced .0) (forced .2) (forced .3) j k) (at-loop-test .taken) (at-plus .ensures) (at-less .ensures) (at-reach-of .ensures) (record { opens = at-open-round .ensures .0; entered = at-open-round .ensures .1; raised = at-open-round .ensures .2; long-joined = at-open-round .kept .1 .1 .1 .1 .1 .1 .0; long-level = at-open-round .kept .1 .1 .1 .1 .1 .1 .1 .0 }) (at-if1 .taken)
 
 reach-of-requires-2 : tie.Need-reach-of-requires-2 Inv-loop μ-loop
 reach-of-requires-2 c κs = search needs
@@ -89,7 +89,7 @@ loop-less : tie.Need-loop-less Inv-loop μ-loop
 loop-less c = omega (arith, c .before .before .before .before .before .before .before .before .before .before .before .before .before .before .before .before .before .before .before .before .before .before .before .before .before .before .before .before .before .before .before .before .before .loop-test .taken)
 
 loop-again : tie.Need-loop-again Inv-loop μ-loop
-loop-again c = let at-args = c .before .before .before .before .before .before .before .before .before .before .before .before .before .before .before .before .before .before .before .before .before .before .before .before .before .before .before .before .before .before .before .before .before .before .before .before .before .before .before .before .before .before .before .before .before .before .before .before .before .before .before .before .before .before .before .args in let at-loop = c .before .before .before .before .before .before .before .before .before .before .before .before .before .before .before .before .before .before .before .before .before .before .before .before .before .before .before .before .before .before .before .before .before .before .loop in let at-loop-test = c .before .before .before .before .before .before .before .before .before .before .before .before .before .before .before .before .before .before .before .before .before .before .before .before .before .before .before .before .before .before .before .before .before .loop-test in let at-plus = c .before .before .before .before .before .before .before .before .before .before .before .before .before .before .before .before .before .before .before .before .before .before .before .before .before .before .before .before .before .before .before .before .before .before .before .plus in let at-less = c .before .before .before .before .before .before .before .before .before .before .before .before .before .before .before .before .before .before .before .before .before .before .before .before .before .before .before .before .before .before .before .before .less in let at-reach-of = c .before .before .before .before .before .before .before .before .before .before .before .before .before .before .before .before .before .before .before .before .before .before .before .before .before .before .before .before .before .before .before .reach-of in let at-open-round = c .before .before .before .before .before .before .before .before .before .before .before .before .before .before .before .before .before .before .before .before .before .before .before .before .before .before .before .open-round in let at-if1 = c .before .before .before .before .before .before .before .before .before .before .before .before .before .before .before .before .before .before .before .before .before .before .if1 in let at-reach-of2 = c .before .before .before .before .before .before .before .before .before .before .before .before .before .before .before .before .before .before .before .before .before .reach-of2 in let at-common = c .before .before .before .before .before .before .before .before .before .before .before .before .before .before .before .before .before .before .before .before .common in let at-construct = c .before .before .before .before .before .before .before .before .before .before .before .before .before .before .before .before .construct in let at-less2 = c .before .before .before .before .before .before .before .before .less2 in let at-common2 = c .before .before .before .before .before .before .before .common2 in let at-activate = c .before .before .before .activate in let at-less3 = c .less3 in (at-construct .kept .1 .1 .1 .1 .1 .1 .1 .1 .1 .1 .0 ∙ at-loop .inv .0, at-construct .kept .1 .1 .1 .1 .1 .1 .1 .1 .1 .1 .1 .0 ∙ at-loop .inv .1, at-construct .kept .1 .1 .1 .1 .1 .1 .1 .1 .1 .1 .1 .1 .0 ∙ at-open-round .kept .1 .1 .1 .1 .1 .1 .0 ∙ at-loop .inv .2, at-activate .kept .1 .1 .1 .1 .1 .1 .1 .1 .1 .1 .0 ∙ at-open-round .kept .1 .1 .1 .1 .1 .1 .1 .0 ∙ at-loop .inv .3, λ b R M few O T S N A j k. exploration-goes-on b (at-args .n) (at-args .low .now) (at-args .high .now) (at-args .weight .now) R (at-less .result) T (at-loop .inv .4 b R M few O T S N A j k) (at-loop-test .taken) (at-plus .ensures) (at-less .ensures) (at-reach-of .ensures) (record { opens = at-open-round .ensures .0; entered = at-open-round .ensures .1; raised = at-open-round .ensures .2; long-joined = at-open-round .kept .1 .1 .1 .1 .1 .1 .0; long-level = at-open-round .kept .1 .1 .1 .1 .1 .1 .1 .0 }) few (at-args .incident .now) (at-args .neighbours .now) (at-args .touched) (at-reach-of2 .result) (at-common .result) (at-construct .result .benches) (at-construct .result .neutral) (at-less2 .result) (at-common2 .result) (at-activate .result) (at-less3 .result) (bitOr (at-open-round .result) (at-less3 .result)) (bitOr (at-loop .active) (bitOr (at-open-round .result) (at-less3 .result))) (at-construct .last .1 .1 .1 .1 .1 .1 .1 .1 .1 .1 .0) (at-construct .last .1 .1 .1 .1 .1 .1 .1 .1 .1 .1 .1 .0) (at-construct .last .1 .1 .1 .1 .1 .1 .1 .1 .1 .1 .1 .1 .0) (at-activate .last .1 .1 .1 .1 .1 .1 .1 .1 .1 .1 .0) M (at-reach-of2 .ensures) (at-common .ensures) (λ dirs xs t free C F L S X. at-construct .ensures b dirs xs R few t (M .rocks) (M .ends) free C F L S X) (at-less2 .ensures) (at-common2 .ensures) (at-activate .ensures .0) (λ dirs xs ys t W D X Y. at-activate .ensures .1 b dirs xs ys R few (M .rocks) t W O D X Y) (at-less3 .ensures) refl refl (at-if1 .left) (at-open-round .ok) (at-construct .kept .1 .1 .1 .1 .1 .1 .1 .1 .1 .1 .1 .1 .0) (at-activate .kept .1 .1 .1 .1 .1 .1 .1 .1 .1 .1 .0))
+loop-again c = let at-args = c .before .before .before .before .before .before .before .before .before .before .before .before .before .before .before .before .before .before .before .before .before .before .before .before .before .before .before .before .before .before .before .before .before .before .before .before .before .before .before .before .before .before .before .before .before .before .before .before .before .before .before .before .before .before .before .args in let at-loop = c .before .before .before .before .before .before .before .before .before .before .before .before .before .before .before .before .before .before .before .before .before .before .before .before .before .before .before .before .before .before .before .before .before .before .loop in let at-loop-test = c .before .before .before .before .before .before .before .before .before .before .before .before .before .before .before .before .before .before .before .before .before .before .before .before .before .before .before .before .before .before .before .before .before .loop-test in let at-plus = c .before .before .before .before .before .before .before .before .before .before .before .before .before .before .before .before .before .before .before .before .before .before .before .before .before .before .before .before .before .before .before .before .before .before .before .plus in let at-less = c .before .before .before .before .before .before .before .before .before .before .before .before .before .before .before .before .before .before .before .before .before .before .before .before .before .before .before .before .before .before .before .before .less in let at-reach-of = c .before .before .before .before .before .before .before .before .before .before .before .before .before .before .before .before .before .before .before .before .before .before .before .before .before .before .before .before .before .before .before .reach-of in let at-open-round = c .before .before .before .before .before .before .before .before .before .before .before .before .before .before .before .before .before .before .before .before .before .before .before .before .before .before .before .open-round in let at-if1 = c .before .before .before .before .before .before .before .before .before .before .before .before .before .before .before .before .before .before .before .before .before .before .if1 in let at-reach-of2 = c .before .before .before .before .before .before .before .before .before .before .before .before .before .before .before .before .before .before .before .before .before .reach-of2 in let at-common = c .before .before .before .before .before .before .before .before .before .before .before .before .before .before .before .before .before .before .before .before .common in let at-construct = c .before .before .before .before .before .before .before .before .before .before .before .before .before .before .before .before .construct in let at-less2 = c .before .before .before .before .before .before .before .before .less2 in let at-common2 = c .before .before .before .before .before .before .before .common2 in let at-activate = c .before .before .before .activate in let at-less3 = c .less3 in (at-construct .kept .1 .1 .1 .1 .1 .1 .1 .1 .1 .1 .0 ∙ at-loop .inv .0, at-construct .kept .1 .1 .1 .1 .1 .1 .1 .1 .1 .1 .1 .0 ∙ at-loop .inv .1, at-construct .kept .1 .1 .1 .1 .1 .1 .1 .1 .1 .1 .1 .1 .0 ∙ at-open-round .kept .1 .1 .1 .1 .1 .1 .0 ∙ at-loop .inv .2, at-activate .kept .1 .1 .1 .1 .1 .1 .1 .1 .1 .1 .0 ∙ at-open-round .kept .1 .1 .1 .1 .1 .1 .1 .0 ∙ at-loop .inv .3, λ b R M few O T S N A j k. exploration-goes-on b (at-args .n) (at-args .low .now) (at-args .high .now) (at-args .weight .now) R (at-less .result) T (at-loop .inv .4 b R M few O T S N A j k) (at-loop-test .taken) (at-plus .ensures) (at-less .ensures) (at-reach-of .ensures) (record { opens = at-open-round .ensures .0; entered = at-open-round .ensures .1; raised = at-open-round .ensures .2; long-joined = at-open-round .kept .1 .1 .1 .1 .1 .1 .0; long-level = at-open-round .kept .1 .1 .1 .1 .1 .1 .1 .0 }) few (at-args .incident .now) (at-args .neighbours .now) (at-args .touched) (at-reach-of2 .result) (at-common .result) (at-construct .result .benches) (at-construct .result .neutral) (at-less2 .result) (at-common2 .result) (at-activate .result) (at-less3 .result) (bitOr (at-open-round .result) (at-less3 .result)) (bitOr (at-loop .active) (bitOr (at-open-round .result) (at-less3 .result))) (at-construct .last .1 .1 .1 .1 .1 .1 .1 .1 .1 .1 .0) (at-construct .last .1 .1 .1 .1 .1 .1 .1 .1 .1 .1 .1 .0) (at-construct .last .1 .1 .1 .1 .1 .1 .1 .1 .1 .1 .1 .1 .0) (at-activate .last .1 .1 .1 .1 .1 .1 .1 .1 .1 .1 .0) M (at-reach-of2 .ensures) (at-common .ensures) (λ dirs xs t free C F L S X. at-construct .ensures b dirs xs (record { rocks = R; few-rocks = few; incidence = M .rocks }) (M .ends) (record { round = t; seen = S; joined = X; unforced = L; free = free; joins = C; fakes = F })) (at-less2 .ensures) (at-common2 .ensures) (at-activate .ensures .0) (λ dirs xs ys t W D X Y. at-activate .ensures .1 b dirs xs ys (record { rocks = R; few-rocks = few; incidence = M .rocks }) t W O D X Y) (at-less3 .ensures) refl refl (at-if1 .left) (at-open-round .ok) (at-construct .kept .1 .1 .1 .1 .1 .1 .1 .1 .1 .1 .1 .1 .0) (at-activate .kept .1 .1 .1 .1 .1 .1 .1 .1 .1 .1 .0))
 
 same-length-5 : tie.Need-same-length-5 Inv-loop μ-loop
 same-length-5 c = c .before .loop .inv .0 ∙ c .before .before .before .before .before .before .before .force .kept .1 .1 .1 .1 .1 .1 .1 .0
@@ -104,7 +104,7 @@ same-length-8 : tie.Need-same-length-8 Inv-loop μ-loop
 same-length-8 c = c .before .loop .inv .3
 
 returns-2 : tie.Need-returns-2 Inv-loop μ-loop
-returns-2 c = λ b R M O T few room d l j k. let at-args = c .before .before .before .before .before .before .before .before .before .before .before .before .before .before .before .before .before .before .before .before .before .before .args in let at-loop = c .before .loop in let at-force = c .before .before .before .before .before .before .before .force in let forced = at-force .ensures b (replicate (b .jobs) 0) R few (M .rocks) (neutral-starts (at-args .n) (at-args .dir .now) (c .before .before .before .before .before .before .before .before .before .before .everywhere .result) (c .before .before .before .before .before .before .before .before .before .before .everywhere .ensures) d) (covers-touched b (at-args .n) (at-args .low .now) (at-args .high .now) (at-args .weight .now) R (forcesAt (at-args .n .bound) (at-args .weight .now) (at-args .dir .now) (at-args .load .now)) (at-args .incident .now) (at-args .neighbours .now) (at-args .all) (at-args .touched) few M) (seen-none b (at-args .n) (at-args .low .now) (at-args .high .now) (at-args .weight .now) R 64 (at-args .own .now) few (omega (arith, room, R .few-benches)) O d l) in exploration-spent b (at-args .n) (at-args .low .now) (at-args .high .now) (at-args .weight .now) R (at-loop .inv .4 b R M few O T (forced .0) (forced .2) (forced .3) j k) (c .before .before .plus .ensures) (c .loop-test .left)
+returns-2 c = λ b R M O T few Z. let room = Z .own-room in let d = Z .undirected in let l = Z .unloaded in let j = Z .never-joined in let k = Z .never-active in let at-args = c .before .before .before .before .before .before .before .before .before .before .before .before .before .before .before .before .before .before .before .before .before .before .args in let at-loop = c .before .loop in let at-force = c .before .before .before .before .before .before .before .force in let forced = at-force .ensures b (replicate (b .jobs) 0) (record { rocks = R; few-rocks = few; incidence = M .rocks }) (neutral-starts (at-args .n) (at-args .dir .now) (c .before .before .before .before .before .before .before .before .before .before .everywhere .result) (c .before .before .before .before .before .before .before .before .before .before .everywhere .ensures) d) (covers-touched b (at-args .n) (at-args .low .now) (at-args .high .now) (at-args .weight .now) R (forcesAt (at-args .n .bound) (at-args .weight .now) (at-args .dir .now) (at-args .load .now)) (at-args .incident .now) (at-args .neighbours .now) (at-args .all) (at-args .touched) few M) (seen-none b (at-args .n) (at-args .low .now) (at-args .high .now) (at-args .weight .now) R 64 (at-args .own .now) few (omega (arith, room, R .few-benches)) O d l) in exploration-spent b (at-args .n) (at-args .low .now) (at-args .high .now) (at-args .weight .now) R (at-loop .inv .4 b R M few O T (forced .0) (forced .2) (forced .3) j k) (c .before .before .plus .ensures) (c .loop-test .left)
 
 pub explore-spec : {M : Type 1} → statement M
 explore-spec =

@@ -32,7 +32,7 @@ same-length-2 : tie.Need-same-length-2 Inv-loop μ-loop
 same-length-2 c = c .before .before .before .before .before .loop .inv .1
 
 returns : tie.Need-returns Inv-loop μ-loop
-returns c = λ b dirs R few H N C S. let at-args = c .before .before .before .before .before .before .before .before .before .before .before .before .args in let at-loop = c .before .before .before .before .before .loop in let at-first-forcing = c .before .before .first-forcing in let O = at-loop .inv .2 b dirs R few H N C S in outer-sets-ends b (at-args .n) (at-args .low .now) (at-args .high .now) (at-args .weight .now) R (at-args .incident .now) few H dirs (at-args .dir .now) O (at-first-forcing .result .bench) (at-first-forcing .ensures (at-args .n) (at-args .low .now) (at-args .high .now) (at-loop .dir) H (O .free) .0) (c .if1 .taken)
+returns c = λ b dirs G N C S. let R = G .rocks in let few = G .few-rocks in let H = G .incidence in let at-args = c .before .before .before .before .before .before .before .before .before .before .before .before .args in let at-loop = c .before .before .before .before .before .loop in let at-first-forcing = c .before .before .first-forcing in let O = at-loop .inv .2 b dirs R few H N C S in outer-sets-ends b (at-args .n) (at-args .low .now) (at-args .high .now) (at-args .weight .now) R (at-args .incident .now) few H dirs (at-args .dir .now) O (at-first-forcing .result .bench) (at-first-forcing .ensures (at-args .n) (at-args .low .now) (at-args .high .now) (at-loop .dir) H (O .free) .0) (c .if1 .taken)
 
 direct-requires : tie.Need-direct-requires Inv-loop μ-loop
 direct-requires c κs = search needs
@@ -56,7 +56,7 @@ loop-less : tie.Need-loop-less Inv-loop μ-loop
 loop-less c = omega arith
 
 loop-again : tie.Need-loop-again Inv-loop μ-loop
-loop-again c = let at-args = c .before .before .before .before .before .before .before .before .before .before .before .before .before .before .before .before .before .before .before .before .before .before .before .before .before .before .before .before .before .args in let at-loop = c .before .before .before .before .before .before .before .before .before .before .before .before .before .before .before .before .before .before .before .before .before .before .loop in let at-first-forcing = c .before .before .before .before .before .before .before .before .before .before .before .before .before .before .before .before .before .before .before .first-forcing in let at-direct = c .before .before .before .before .before .before .before .before .before .before .before .before .before .before .direct in let at-with = c .before .before .before .before .before .before .before .before .before .with in let at-with2 = c .before .before .before .before .before .before .before .before .with2 in let at-less = c .before .before .before .before .before .before .before .less in let at-force-marked = c .before .before .before .before .force-marked in (at-force-marked .kept .1 .1 .1 .1 .1 .1 .0 ∙ ap length (at-direct .ensures .1) ∙ simp length-set (at-loop .inv .0), at-force-marked .kept .1 .1 .1 .1 .1 .1 .1 .0 ∙ ap length (at-direct .ensures .2) ∙ simp length-set (at-loop .inv .1), λ b dirs R few H N C S. let O = at-loop .inv .2 b dirs R few H N C S in let found = at-first-forcing .ensures (at-args .n) (at-args .low .now) (at-args .high .now) (at-loop .dir) H (O .free) in outer-sets-next b (at-args .n) (at-args .low .now) (at-args .high .now) (at-args .weight .now) R (at-args .incident .now) few H dirs (at-args .dir .now) O (at-first-forcing .result .bench) (found .0) (at-first-forcing .result .rock) (at-direct .result) (at-first-forcing .result .left) (at-with .result) (at-with2 .result) (at-less .result) (at-force-marked .result .watch) (at-force-marked .result .tails) (at-force-marked .result .neutral) (at-direct .last .1 .1 .1 .0) (at-direct .last .1 .1 .1 .1 .0) (found .1) (found .2) (c .before .before .before .before .before .before .before .before .before .before .before .before .before .before .before .before .before .if1 .left) (c .before .before .before .before .before .before .before .before .before .before .before .before .before .before .before .before .before .before .before .before .before .loop-test .taken) (at-direct .ensures .0) (at-direct .ensures .1) (at-direct .ensures .2) (at-with .ensures) (at-with2 .ensures) (at-less .ensures) (λ x free but far shown. at-force-marked .ensures b x R few H free but far shown))
+loop-again c = let at-args = c .before .before .before .before .before .before .before .before .before .before .before .before .before .before .before .before .before .before .before .before .before .before .before .before .before .before .before .before .before .args in let at-loop = c .before .before .before .before .before .before .before .before .before .before .before .before .before .before .before .before .before .before .before .before .before .before .loop in let at-first-forcing = c .before .before .before .before .before .before .before .before .before .before .before .before .before .before .before .before .before .before .before .first-forcing in let at-direct = c .before .before .before .before .before .before .before .before .before .before .before .before .before .before .direct in let at-with = c .before .before .before .before .before .before .before .before .before .with in let at-with2 = c .before .before .before .before .before .before .before .before .with2 in let at-less = c .before .before .before .before .before .before .before .less in let at-force-marked = c .before .before .before .before .force-marked in (at-force-marked .kept .1 .1 .1 .1 .1 .1 .0 ∙ ap length (at-direct .ensures .1) ∙ simp length-set (at-loop .inv .0), at-force-marked .kept .1 .1 .1 .1 .1 .1 .1 .0 ∙ ap length (at-direct .ensures .2) ∙ simp length-set (at-loop .inv .1), λ b dirs R few H N C S. let O = at-loop .inv .2 b dirs R few H N C S in let found = at-first-forcing .ensures (at-args .n) (at-args .low .now) (at-args .high .now) (at-loop .dir) H (O .free) in outer-sets-next b (at-args .n) (at-args .low .now) (at-args .high .now) (at-args .weight .now) R (at-args .incident .now) few H dirs (at-args .dir .now) O (at-first-forcing .result .bench) (found .0) (at-first-forcing .result .rock) (at-direct .result) (at-first-forcing .result .left) (at-with .result) (at-with2 .result) (at-less .result) (at-force-marked .result .watch) (at-force-marked .result .tails) (at-force-marked .result .neutral) (at-direct .last .1 .1 .1 .0) (at-direct .last .1 .1 .1 .1 .0) (found .1) (found .2) (c .before .before .before .before .before .before .before .before .before .before .before .before .before .before .before .before .before .if1 .left) (c .before .before .before .before .before .before .before .before .before .before .before .before .before .before .before .before .before .before .before .before .before .loop-test .taken) (at-direct .ensures .0) (at-direct .ensures .1) (at-direct .ensures .2) (at-with .ensures) (at-with2 .ensures) (at-less .ensures) (λ x free but far shown. at-force-marked .ensures b x (record { rocks = R; few-rocks = few; incidence = H }) free but far shown))
 
 same-length-3 : tie.Need-same-length-3 Inv-loop μ-loop
 same-length-3 c = c .before .loop .inv .0
@@ -65,7 +65,7 @@ same-length-4 : tie.Need-same-length-4 Inv-loop μ-loop
 same-length-4 c = c .before .loop .inv .1
 
 returns-2 : tie.Need-returns-2 Inv-loop μ-loop
-returns-2 c = λ b dirs R few H N C S. let at-args = c .before .before .before .before .before .before .before .before .args in outer-sets-spent b (at-args .n) (at-args .low .now) (at-args .high .now) (at-args .weight .now) R (at-args .incident .now) few H dirs (at-args .dir .now) (c .before .loop .inv .2 b dirs R few H N C S) (omega arith)
+returns-2 c = λ b dirs G N C S. let R = G .rocks in let few = G .few-rocks in let H = G .incidence in let at-args = c .before .before .before .before .before .before .before .before .args in outer-sets-spent b (at-args .n) (at-args .low .now) (at-args .high .now) (at-args .weight .now) R (at-args .incident .now) few H dirs (at-args .dir .now) (c .before .loop .inv .2 b dirs R few H N C S) (omega arith)
 
 pub force-spec : {M : Type 1} → statement M
 force-spec =

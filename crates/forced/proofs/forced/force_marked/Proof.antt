@@ -35,7 +35,7 @@ same-length-2 : tie.Need-same-length-2 Inv-loop μ-loop
 same-length-2 c = c .before .before .before .before .before .loop .inv .1
 
 returns : tie.Need-returns Inv-loop μ-loop
-returns c = λ b dirs R few H N C h S. let at-args = c .before .before .before .before .before .before .before .before .before .before .before .before .before .args in let at-loop = c .before .before .before .before .before .loop in let at-first-forcing = c .before .before .first-forcing in let I = at-loop .inv .2 b dirs R few H N C h S in inner-sets-ends b (at-args .n) (at-args .low .now) (at-args .high .now) (at-args .weight .now) R (at-args .incident .now) few H dirs (at-args .first) (at-args .sources .watch) (at-args .dir .now) (at-args .sources .tails) I (at-first-forcing .result .bench) (at-first-forcing .ensures (at-args .n) (at-args .low .now) (at-args .high .now) (at-loop .dir) H (I .free) .0) (c .if1 .taken)
+returns c = λ b dirs G N C h S. let R = G .rocks in let few = G .few-rocks in let H = G .incidence in let at-args = c .before .before .before .before .before .before .before .before .before .before .before .before .before .args in let at-loop = c .before .before .before .before .before .loop in let at-first-forcing = c .before .before .first-forcing in let I = at-loop .inv .2 b dirs R few H N C h S in inner-sets-ends b (at-args .n) (at-args .low .now) (at-args .high .now) (at-args .weight .now) R (at-args .incident .now) few H dirs (at-args .first) (at-args .sources .watch) (at-args .dir .now) (at-args .sources .tails) I (at-first-forcing .result .bench) (at-first-forcing .ensures (at-args .n) (at-args .low .now) (at-args .high .now) (at-loop .dir) H (I .free) .0) (c .if1 .taken)
 
 direct-requires : tie.Need-direct-requires Inv-loop μ-loop
 direct-requires c κs = search needs
@@ -68,7 +68,7 @@ same-length-4 : tie.Need-same-length-4 Inv-loop μ-loop
 same-length-4 c = c .before .loop .inv .1
 
 returns-2 : tie.Need-returns-2 Inv-loop μ-loop
-returns-2 c = λ b dirs R few H N C h S. let at-args = c .before .before .before .before .before .before .before .before .before .args in inner-sets-spent b (at-args .n) (at-args .low .now) (at-args .high .now) (at-args .weight .now) R (at-args .incident .now) few H dirs (at-args .first) (at-args .sources .watch) (at-args .dir .now) (at-args .sources .tails) (c .before .loop .inv .2 b dirs R few H N C h S) (omega arith)
+returns-2 c = λ b dirs G N C h S. let R = G .rocks in let few = G .few-rocks in let H = G .incidence in let at-args = c .before .before .before .before .before .before .before .before .before .args in inner-sets-spent b (at-args .n) (at-args .low .now) (at-args .high .now) (at-args .weight .now) R (at-args .incident .now) few H dirs (at-args .first) (at-args .sources .watch) (at-args .dir .now) (at-args .sources .tails) (c .before .loop .inv .2 b dirs R few H N C h S) (omega arith)
 
 pub force-marked-spec : {M : Type 1} → statement M
 force-marked-spec =

@@ -38,7 +38,8 @@ returns c =
     let sized : length (c .before .before .before .before .before .before .before .before .before .before .before .before .before .before .before .before .before .before .before .before .args .t1 .own) ≡ 64 = search needs in
     λ d m s amount pebble allowed R M H.
     orients d n low high weight amount pebble allowed R m s _ _ H refl refl refl refl refl
-    (λ rocks owned reaches few. c .before .before .before .before .explore .ensures (boardOf d s) rocks M owned reaches few sized refl refl never never) (c .before .before .before .before .explore .ok)
+    (λ rocks owned reaches few. c .before .before .before .before .explore .ensures (boardOf d s) rocks M owned reaches few
+    (record { own-room = sized; undirected = refl; unloaded = refl; never-joined = never; never-active = never })) (c .before .before .before .before .explore .ok)
 
 pub orient-spec : {M : Type 1} → statement M
 orient-spec =

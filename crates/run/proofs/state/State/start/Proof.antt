@@ -67,12 +67,10 @@ returns c =
     let allowed = c .before .before .before .before .before .before .before .before .before .before .before .before .before .before .before .before .before .before .before .before .before .before .before .before .before .before .before .before .before .args .allowed .now in
     let sized : length (c .before .before .before .before .before .before .before .before .before .before .before .before .before .before .before .before .before .before .before .before .before .before .before .before .before .before .before .before .before .args .rock) ≡ 512 = search needs in
     let wide : length (c .before .before .before .before .before .before .before .before .before .before .before .before .before .before .before .before .before .before .before .before .before .before .before .before .before .before .before .before .before .args .burden) ≡ 64 = search needs in
+    let sized-own : length (c .before .before .before .before .before .before .before .before .before .before .own-loads .last .1 .1 .1 .1 .0) ≡ 64 = search needs in
     let room = length-replicate {A = ℕ} 512 0 in (
       record {
-        undirected = refl;
-        without-rocks = refl;
-        none-joined = ap (replicate 64) (c .plus .ensures);
-        none-leveled = ap (replicate 64) (c .plus .ensures);
+        blank = record { own-room = sized-own; undirected = refl; unloaded = refl; never-joined = ap (replicate 64) (c .plus .ensures); never-active = ap (replicate 64) (c .plus .ensures) };
         none-active = refl;
       },
       λ d minutes B.
