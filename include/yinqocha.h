@@ -232,10 +232,10 @@ uint64_t yinqocha_write(uint64_t benches, uint64_t p, uint64_t q, uint64_t targe
  *
  *   result    YINQOCHA_PLAN, YINQOCHA_LONG or YINQOCHA_NONE
  *
- * A job of more than p/q of T minutes is heavy, and allows at most two benches; the others are
- * light. The moves are how many times the planner put a light job on another bench on its way to
- * the answer, at most benches * light jobs that allow two or more; they say nothing of how good a
- * plan is.
+ * A job of more than p/q of T minutes is heavy, and the others are light. Where no job is longer
+ * than T, a heavy job allows at most two benches. The moves are how many times the planner put a
+ * light job on another bench on its way to the answer, at most benches * light jobs that allow two
+ * or more; they say nothing of how good a plan is.
  *
  * Every table must have its room whatever the answer will be: places one entry for each job, loads
  * one for each bench, answer two. Later bytes of a table keep their contents, and after long and
