@@ -20,7 +20,7 @@ use Rattle.bools.proofs.OrderLaws.{eq-or-ne}
 use Rattle.sums.proofs.TableLaws.{length-table}
 use Rattle.algorithm.specs.Board.{Board, Directions, touches, other, neutral, towards, away, load}
 use Rattle.algorithm.specs.Forced.{direct}
-use Rattle.algorithm.specs.Explore.{Explored, never, roundOf, within, inConflict, joins, typeA, unexplored, explore}
+use Rattle.algorithm.specs.Explore.{Explored, never, roundOf, within, inConflict, joins, typeA, unexplored, explore, openedLevels, openedJoined}
 use Rattle.algorithm.specs.Properties.{SoundBoard, Pointed, ForcedSteps, no-step, a-step}
 use Rattle.algorithm.proofs.GrowthLaws.{Grows, grows-direct, grows-refl}
 use Rattle.algorithm.proofs.BoardLaws.{other-other, other-below, other-differs, touches-below, towards-unique, direct-towards}
@@ -29,7 +29,7 @@ use Rattle.algorithm.proofs.ForcedInterface.{ForcedLaws}
 use Rattle.algorithm.proofs.Keeping.{keeps-away, keeps-load, forces-parts, Marks, Before, marks-refl}
 use Rattle.algorithm.proofs.Keeping.{marks-old, marks-set, before-marks, before-more}
 use Rattle.algorithm.proofs.RoundSteps.{Building, joins-parts, fake-parts, call-fake}
-use Rattle.algorithm.proofs.RoundLaws.{Ready, Between, Round, building-induction, activating-marks, openedLevel, openedJoined}
+use Rattle.algorithm.proofs.RoundLaws.{Ready, Between, Round, building-induction, activating-marks}
 use Rattle.algorithm.proofs.RoundLaws.{opened-joined-marks, opened-level-marks, opened-ready, typeA-level, typeA-joined, other-joined}
 use Rattle.algorithm.proofs.OpenedLaws.{Opening, opening-kept, typeA-opening}
 use Rattle.algorithm.proofs.ExploreRounds.{rounds-induction, unexplored-joined, unexplored-between, explore-rounds}
@@ -146,7 +146,7 @@ module _ (b : Board) (ok : SoundBoard b) where
         building ready
 
     -- A Type A bench joins and is activated in the same round.
-    opened-caused : (k : ℕ) (x : Explored) → Between b k x → Caused b (x .dir) (x .joined) (x .level) → Caused b (x .dir) (openedJoined b k x) (openedLevel b k x)
+    opened-caused : (k : ℕ) (x : Explored) → Between b k x → Caused b (x .dir) (x .joined) (x .level) → Caused b (x .dir) (openedJoined b k x) (openedLevels b k x)
     opened-caused k x between caused v h f =
         ⊎-elim
         (λ p.
@@ -161,7 +161,7 @@ module _ (b : Board) (ok : SoundBoard b) where
     pub round-caused : (k : ℕ) (x z : Explored) → Between b k x → Round b k x z
         → Origin b (x .dir) (x .joined) × Caused b (x .dir) (x .joined) (x .level) → Origin b (z .dir) (z .joined) × Caused b (z .dir) (z .joined) (z .level)
     round-caused k x z between round p =
-        let after = building-caused (openedLevel b k x) (between .in-time) (round .building) (opened-ready b ok laws k x between) (
+        let after = building-caused (openedLevels b k x) (between .in-time) (round .building) (opened-ready b ok laws k x between) (
           origin-marks (x .dir) k (x .joined) (openedJoined b k x) (opened-joined-marks b k x) (p .0),
           opened-caused k x between (p .1),
           before-marks (opened-joined-marks b k x) (between .joined-before),

@@ -20,7 +20,7 @@ use Rattle.bools.proofs.OrderLaws.{lt-or-le, eq-or-ne}
 use Rattle.sums.proofs.SearchLaws.{any-intro}
 use Rattle.sums.proofs.TableLaws.{length-table}
 use Rattle.algorithm.specs.Board.{Board, Directions, touches, other, towards, away}
-use Rattle.algorithm.specs.Explore.{Explored, never, roundOf, within, inConflict, activated, father, child, rule1, rule2, typeA, explore}
+use Rattle.algorithm.specs.Explore.{Explored, never, roundOf, within, inConflict, activated, father, child, critical, rule2, typeA, explore}
 use Rattle.algorithm.specs.Properties.{SoundBoard, rnd, lev}
 use Rattle.algorithm.proofs.ConflictLaws.{directed-ends}
 use Rattle.algorithm.proofs.BoardLaws.{other-below}
@@ -97,7 +97,7 @@ module _ (b : Board) (ok : SoundBoard b) (laws : ForcedLaws b) where
   -- ── E6 ──
 
   module _ (k : ℕ) (x z : Explored) (round : Round b k x z) where
-    settled-rule : (v : ℕ) → v < b .benches → rnd b z v ≤ b .benches → (rule1 b (z .dir) (z .joined) v || rule2 b (z .dir) (z .joined) (z .level) v) ≡ true
+    settled-rule : (v : ℕ) → v < b .benches → rnd b z v ≤ b .benches → (critical b (z .dir) (z .joined) v || rule2 b (z .dir) (z .joined) (z .level) v) ≡ true
         → lev b z v ≤ b .benches
     settled-rule v h f rule =
         ⊎-elim
@@ -122,7 +122,7 @@ module _ (b : Board) (ok : SoundBoard b) (laws : ForcedLaws b) where
         (λ a. or-left (child b (z .dir) (within b (z .joined)) v e) (and-intro a conflict)) direction
         in
         settled-rule v hv f
-        (or-right (rule1 b (z .dir) (z .joined) v)
+        (or-right (critical b (z .dir) (z .joined) v)
         (any-intro (b .jobs)
         (λ j. (father b (z .dir) (within b (z .joined)) v j || child b (z .dir) (within b (z .joined)) v j) && within b (z .level) (other b j v) && ltb (b .weight j) (b .small))
         e h

@@ -13,12 +13,12 @@ use borrow.Author.Tests.{eqb-true, ltb-true}
 use Rattle.bools.proofs.BoolLaws.{and-left, and-right}
 use Rattle.sums.proofs.SearchLaws.{any-elim}
 use Rattle.algorithm.specs.Board.{Board, Directions, load}
-use Rattle.algorithm.specs.Explore.{Explored, roundOf, activated, inReach, typeA}
+use Rattle.algorithm.specs.Explore.{Explored, roundOf, activated, inReach, typeA, openedLevels}
 use Rattle.algorithm.specs.Properties.{SoundBoard}
 use Rattle.algorithm.proofs.GrowthLaws.{Grows}
 use Rattle.algorithm.proofs.ForcedInterface.{ForcedLaws}
 use Rattle.algorithm.proofs.Keeping.{keeps-load, Marks, marks-old}
-use Rattle.algorithm.proofs.RoundLaws.{Between, openedLevel, opened-level-marks, typeA-level}
+use Rattle.algorithm.proofs.RoundLaws.{Between, opened-level-marks, typeA-level}
 
 abbrev pub ByPebble : Board → List ℕ → ℕ → Type 0
 ByPebble b ls v = (j : ℕ) × (j < b .jobs) × (b .pebble j ≡ true) × (b .allows j v ≡ true) × (roundOf b ls (b .place j) < roundOf b ls v)
@@ -41,7 +41,7 @@ module _ (b : Board) (ok : SoundBoard b) where
 
   -- Round 0 opens with overloaded benches, a later one with benches in reach of the level before.
   pub typeA-opening : (laws : ForcedLaws b) (k : ℕ) (x : Explored) → Between b k x
-      → (v : ℕ) → v < b .benches → typeA b k x v ≡ true → Opening b (x .dir) (openedLevel b k x) v
+      → (v : ℕ) → v < b .benches → typeA b k x v ≡ true → Opening b (x .dir) (openedLevels b k x) v
   typeA-opening laws zero x between v h t = inl (typeA-level b 0 x v h t, ltb-true (b .bound) (load b (x .dir) v) t)
   typeA-opening laws (suc k) x between v h t =
       let test : ℕ → Bool = λ j. eqb (suc (roundOf b (x .level) (b .place j))) (suc k) in

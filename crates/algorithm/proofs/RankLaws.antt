@@ -21,15 +21,15 @@ use Rattle.bools.proofs.OrderLaws.{eq-or-ne}
 use Rattle.sums.proofs.SearchLaws.{any-elim}
 use Rattle.sums.proofs.TableLaws.{length-table}
 use Rattle.algorithm.specs.Board.{Board, Directions, touches, other, towards, away, load}
-use Rattle.algorithm.specs.Explore.{Explored, never, roundOf, within, father, child, rule1, rule2, typeA, explore}
+use Rattle.algorithm.specs.Explore.{activates, Explored, never, roundOf, within, father, child, critical, rule2, typeA, explore, openedLevels}
 use Rattle.algorithm.specs.Properties.{SoundBoard}
 use Rattle.algorithm.proofs.GrowthLaws.{Grows, grows-refl}
 use Rattle.algorithm.proofs.BoardLaws.{other-below, other-differs}
 use Rattle.algorithm.proofs.ForcedInterface.{ForcedLaws}
 use Rattle.algorithm.proofs.Keeping.{keeps-away, keeps-load, Marks, Before, marks-refl, marks-old, marks-set, before-marks}
 use Rattle.algorithm.proofs.Keeping.{before-more}
-use Rattle.algorithm.proofs.RoundSteps.{Activating, settled, activating, activates, activates-parts}
-use Rattle.algorithm.proofs.RoundLaws.{Between, Round, openedLevel, opened-level-marks, typeA-inactive, typeA-level, other-level, round-keeps}
+use Rattle.algorithm.proofs.RoundSteps.{Activating, settled, activating, activates-parts}
+use Rattle.algorithm.proofs.RoundLaws.{Between, Round, opened-level-marks, typeA-inactive, typeA-level, other-level, round-keeps}
 use Rattle.algorithm.proofs.RoundLaws.{round-marks-joined}
 use Rattle.algorithm.proofs.OpenedLaws.{ByPebble, opening-kept, typeA-opening}
 use Rattle.algorithm.proofs.ExploreRounds.{rounds-induction, unexplored-joined, unexplored-between, explore-rounds}
@@ -85,7 +85,7 @@ module _ (b : Board) (ok : SoundBoard b) where
   module _ (i : ℕ) (hi : i ≤ b .benches) (dir : Directions) (xs : List ℕ) (joined-before : Before b (suc i) xs) where
     new-cause : (ls : List ℕ) → length ls ≡ b .benches → Before b (suc i) ls → (rank new-rank : ℕ → ℕ) (top : ℕ) (v : ℕ) → v < b .benches
         → ((u : ℕ) → u < b .benches → roundOf b ls u ≤ b .benches → new-rank u < top) → new-rank v ≡ top
-        → (rule1 b dir xs v || rule2 b dir xs ls v) ≡ true → LevelCause b dir xs (set ls v i) new-rank v
+        → (critical b dir xs v || rule2 b dir xs ls v) ≡ true → LevelCause b dir xs (set ls v i) new-rank v
     new-cause ls l before rank new-rank top v h lower highest rule =
         let here = getD-set-same ls v i (never b) (omega arith) in
         ⊎-elim
@@ -119,7 +119,7 @@ module _ (b : Board) (ok : SoundBoard b) where
           ⊎-elim (λ q. omega arith) (λ q. absurd (omega arith)) (before .before (other b e v) u-below),
           omega (arith, lower (other b e v) u-below (omega arith)),
         ))))
-        (or-elim (rule1 b dir xs v) (rule2 b dir xs ls v) rule)
+        (or-elim (critical b dir xs v) (rule2 b dir xs ls v) rule)
 
     pub ranked-step : (ls : List ℕ) → length ls ≡ b .benches → Before b (suc i) ls → (v : ℕ) → v < b .benches → activates b dir xs ls v ≡ true
         → Ranked b dir xs ls → Ranked b dir xs (set ls v i)
@@ -159,13 +159,13 @@ module _ (b : Board) (ok : SoundBoard b) where
 
   module _ (laws : ForcedLaws b) where
     typeA-cause : (k : ℕ) (x : Explored) (later : Directions) (ys : List ℕ) (rank : ℕ → ℕ) → Between b k x → Grows (x .dir) later
-        → (v : ℕ) → v < b .benches → typeA b k x v ≡ true → LevelCause b later ys (openedLevel b k x) rank v
+        → (v : ℕ) → v < b .benches → typeA b k x v ≡ true → LevelCause b later ys (openedLevels b k x) rank v
     typeA-cause k x later ys rank between keeps v h t =
-        let level : roundOf b (openedLevel b k x) v ≤ b .benches = omega (arith, typeA-level b k x v h t, between .in-time) in
+        let level : roundOf b (openedLevels b k x) v ≤ b .benches = omega (arith, typeA-level b k x v h t, between .in-time) in
         ⊎-elim inl (λ c. inr (inl c))
-        (opening-kept b ok keeps (marks-refl {k = k} {xs = openedLevel b k x}) v h level (typeA-opening b ok laws k x between v h t))
+        (opening-kept b ok keeps (marks-refl {k = k} {xs = openedLevels b k x}) v h level (typeA-opening b ok laws k x between v h t))
 
-    pub opened-ranked : (k : ℕ) (x z : Explored) → Between b k x → Round b k x z → Ranked b (x .dir) (x .joined) (x .level) → Ranked b (z .dir) (z .joined) (openedLevel b k x)
+    pub opened-ranked : (k : ℕ) (x z : Explored) → Between b k x → Round b k x z → Ranked b (x .dir) (x .joined) (x .level) → Ranked b (z .dir) (z .joined) (openedLevels b k x)
     opened-ranked k x z between round ranked =
         let levels = opened-level-marks b ok laws k x between in
         let keeps = round-keeps b ok laws k x between z round in
@@ -184,7 +184,7 @@ module _ (b : Board) (ok : SoundBoard b) where
               (λ t. typeA-cause k x (z .dir) (z .joined) new-rank between keeps u hu t)
               (λ t.
               let g : roundOf b (x .level) u ≤ b .benches = omega (arith, other-level b k x u hu t) in
-              levelCause-kept k k (x .dir) (z .dir) (x .joined) (z .joined) (x .level) (openedLevel b k x) (ranked .rank) new-rank keeps
+              levelCause-kept k k (x .dir) (z .dir) (x .joined) (z .joined) (x .level) (openedLevels b k x) (ranked .rank) new-rank keeps
               (round-marks-joined b ok laws k x between z round) levels same u hu g (ranked .cause u hu g))
               (split (typeA b k x u));
         }

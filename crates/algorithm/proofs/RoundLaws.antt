@@ -4,7 +4,6 @@
 --     building-ready, building-keeps, building-marks      the construction keeps directions, and marks benches with its round
 --     building-joins-none, building-fakes-none            at its end no bench joins and no rock is left for a fake orientation
 --     activating-length, activating-marks, activating-none    the same for the activation
---     openedLevel, openedJoined       the levels and the conflict set once Type A benches are in them
 --     Between b k x                   what holds when round k is to open: no rock is forced, rounds and levels are below k or never, each rock at
 --                                     the conflict set is directed, and each bench with a rock into it is in it
 --     Round b k x y                   round k leads from x to y
@@ -31,14 +30,14 @@ use Rattle.sums.proofs.TableLaws.{length-table, getD-table}
 use Rattle.sums.proofs.CountLaws.{count-le}
 use Rattle.algorithm.specs.Board.{Board, Directions, touches, other, neutral, towards, away}
 use Rattle.algorithm.specs.Forced.{direct, forcedOrientations}
-use Rattle.algorithm.specs.Explore.{Explored, never, roundOf, within, inConflict, activated, father, joins, fake, construct, inReach, typeA}
+use Rattle.algorithm.specs.Explore.{activates, Explored, never, roundOf, within, inConflict, activated, father, joins, fake, construct, inReach, typeA, openedLevels, openedJoined}
 use Rattle.algorithm.specs.Explore.{openRound}
 use Rattle.algorithm.specs.Properties.{SoundBoard, Pointed, Stable}
 use Rattle.algorithm.proofs.GrowthLaws.{Grows, grows-join, grows-refl}
 use Rattle.algorithm.proofs.BoardLaws.{touches-below}
 use Rattle.algorithm.proofs.ForcedInterface.{ForcedLaws}
 use Rattle.algorithm.proofs.Keeping.{Marks, Before, marks-refl, marks-trans, marks-set, before-marks}
-use Rattle.algorithm.proofs.RoundSteps.{Building, built, joining, faking, Activating, settled, activating, activates, joins-parts, fake-parts}
+use Rattle.algorithm.proofs.RoundSteps.{Building, built, joining, faking, Activating, settled, activating, joins-parts, fake-parts}
 use Rattle.algorithm.proofs.RoundSteps.{activates-parts, call-fake, construct-steps, activate-steps}
 
 -- ── the construction ──
@@ -123,12 +122,6 @@ activating-none (activating v h a rest) = activating-none rest
 
 -- ── rounds ──
 
-abbrev pub openedLevel : Board → ℕ → Explored → List ℕ
-openedLevel b i x = table (b .benches) (λ v. cond (typeA b i x v) i (roundOf b (x .level) v))
-
-abbrev pub openedJoined : Board → ℕ → Explored → List ℕ
-openedJoined b i x = table (b .benches) (λ v. cond (typeA b i x v && not (inConflict b x v)) i (roundOf b (x .joined) v))
-
 pub record Between (b : Board) (k : ℕ) (x : Explored) : Type 0 where
   pub in-time : k ≤ b .benches
   pub pointed : Pointed b (x .dir)
@@ -142,13 +135,13 @@ pub record Between (b : Board) (k : ℕ) (x : Explored) : Type 0 where
 
 pub record Round (b : Board) (k : ℕ) (x y : Explored) : Type 0 where
   pub building : Building b k (x .dir) (openedJoined b k x) (y .dir) (y .joined)
-  pub activation : Activating b k (y .dir) (y .joined) (openedLevel b k x) (y .level)
+  pub activation : Activating b k (y .dir) (y .joined) (openedLevels b k x) (y .level)
 
 module _ (b : Board) (k : ℕ) (x : Explored) where
-  pub typeA-level : (v : ℕ) → v < b .benches → typeA b k x v ≡ true → roundOf b (openedLevel b k x) v ≡ k
+  pub typeA-level : (v : ℕ) → v < b .benches → typeA b k x v ≡ true → roundOf b (openedLevels b k x) v ≡ k
   typeA-level v h t = getD-table (b .benches) _ v (never b) h ∙ cond-true k (roundOf b (x .level) v) t
 
-  pub other-level : (v : ℕ) → v < b .benches → typeA b k x v ≡ false → roundOf b (openedLevel b k x) v ≡ roundOf b (x .level) v
+  pub other-level : (v : ℕ) → v < b .benches → typeA b k x v ≡ false → roundOf b (openedLevels b k x) v ≡ roundOf b (x .level) v
   other-level v h t = getD-table (b .benches) _ v (never b) h ∙ cond-false k (roundOf b (x .level) v) t
 
   pub typeA-joined : (v : ℕ) → v < b .benches → typeA b k x v ≡ true → inConflict b x v ≡ false → roundOf b (openedJoined b k x) v ≡ k
@@ -175,7 +168,7 @@ typeA-inactive b (suc k) x between v h t =
     ltb-false (roundOf b (x .level) v) (never b) (not-true (activated b x v) (and-left (not (activated b x v)) (inReach b (suc k) (x .level) v) t))
 
 module _ (b : Board) (ok : SoundBoard b) (laws : ForcedLaws b) (k : ℕ) (x : Explored) (between : Between b k x) where
-  pub opened-level-marks : Marks b k (x .level) (openedLevel b k x)
+  pub opened-level-marks : Marks b k (x .level) (openedLevels b k x)
   opened-level-marks =
       record {
         mark = λ v h.
@@ -192,7 +185,7 @@ module _ (b : Board) (ok : SoundBoard b) (laws : ForcedLaws b) (k : ℕ) (x : Ex
   unfolding openRound
   round-steps =
       let joined = openedJoined b k x in
-      let level = openedLevel b k x in
+      let level = openedLevels b k x in
       let c = construct (b .jobs) b k (x .dir) joined in
       record {
         building = construct-steps b ok laws k (between .in-time) (b .jobs) (x .dir) joined (between .pointed) (length-table (b .benches) _)

@@ -25,16 +25,13 @@ use Rattle.sums.proofs.SearchLaws.{least-holds, least-before, any-elim, any-non
 use Rattle.sums.proofs.CountLaws.{count-le, count-strict, count-zero}
 use Rattle.algorithm.specs.Board.{Board, Directions, touches, other, neutral}
 use Rattle.algorithm.specs.Forced.{direct, forcedOrientations}
-use Rattle.algorithm.specs.Explore.{never, roundOf, within, father, joins, conflictSet, fake, Constructed, construct, rule1, rule2, activate}
+use Rattle.algorithm.specs.Explore.{activates, never, roundOf, within, father, joins, conflictSet, fake, Constructed, construct, critical, rule2, activate}
 use Rattle.algorithm.specs.Properties.{SoundBoard, Pointed, ForcedSteps, Stable}
 use Rattle.algorithm.proofs.GrowthLaws.{Grows, grows-direct, grows-join}
 use Rattle.algorithm.proofs.StepLaws.{steps-grow}
 use Rattle.algorithm.proofs.BoardLaws.{direct-towards, pointed-direct}
 use Rattle.algorithm.proofs.ForcedInterface.{ForcedLaws}
 use Rattle.algorithm.proofs.Keeping.{keeps-directed, towards-directed}
-
-abbrev pub activates : Board → Directions → List ℕ → List ℕ → ℕ → Bool
-activates b dir joined level v = within b joined v && not (within b level v) && (rule1 b dir joined v || rule2 b dir joined level v)
 
 pub data Building (b : Board) (i : ℕ) : Directions → List ℕ → Directions → List ℕ → Type 0 where
   built : {dir : Directions} {joined : List ℕ}
@@ -67,12 +64,12 @@ fake-parts b dir joined v j p =
     (and-left (within b joined v) (touches b j v) both, and-right (within b joined v) (touches b j v) both, and-right (within b joined v && touches b j v) (neutral dir j) p)
 
 pub activates-parts : (b : Board) (dir : Directions) (joined level : List ℕ) (v : ℕ) → activates b dir joined level v ≡ true
-    → (within b joined v ≡ true) × (within b level v ≡ false) × ((rule1 b dir joined v || rule2 b dir joined level v) ≡ true)
+    → (within b joined v ≡ true) × (within b level v ≡ false) × ((critical b dir joined v || rule2 b dir joined level v) ≡ true)
 activates-parts b dir joined level v p =
-    let both = and-left (within b joined v && not (within b level v)) (rule1 b dir joined v || rule2 b dir joined level v) p in (
+    let both = and-left (within b joined v && not (within b level v)) (critical b dir joined v || rule2 b dir joined level v) p in (
       and-left (within b joined v) (not (within b level v)) both,
       not-true (within b level v) (and-right (within b joined v) (not (within b level v)) both),
-      and-right (within b joined v && not (within b level v)) (rule1 b dir joined v || rule2 b dir joined level v) p,
+      and-right (within b joined v && not (within b level v)) (critical b dir joined v || rule2 b dir joined level v) p,
     )
 
 -- ── counting turns ──
@@ -254,7 +251,7 @@ module _ (b : Board) (i : ℕ) (hi : i ≤ b .benches) (dir : Directions) (joine
   activate-steps zero level l c =
       subst (λ (xs : List ℕ). Activating b i dir joined level xs) (sym (activate-none level))
       (settled (λ v h.
-      and-false-left (rule1 b dir joined v || rule2 b dir joined level v)
+      and-false-left (critical b dir joined v || rule2 b dir joined level v)
       (and-false-right (within b joined v) (count-zero (b .benches) (λ u. not (within b level u)) (omega arith) v h))))
   activate-steps (suc k) level l c =
       let v = next-active level in

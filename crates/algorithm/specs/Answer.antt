@@ -1,4 +1,4 @@
--- The planner's reply (document 01, "The three answers"): of a day, of the contents of a sheet, of the bytes of a sheet.
+-- The planner's reply (document 01, "The three answers"): to a day, to the contents of a sheet, to its bytes.
 --     shown d o               an outcome of the run as a reply, the benches of a set rising
 --     answerTo d              the reply to a day
 --     planContents c          the reply to the contents c, with the faults 7 to 12

@@ -1,4 +1,10 @@
 -- What one exploration looks at (section 4.4.1). Weights and limits are scaled by 3q.
+--     Board               rocks with their ends, loads, pebbles and limits
+--     Directions          where each rock is directed
+--     touches, other      an end of a rock; its other end
+--     neutral, towards, away      a rock without direction; directed towards a bench; away from it
+--     rockLoad, load      rl(v), and the whole load of a bench
+--     overloaded          a load above the bound
 use Prim.Native.Nat.{ℕ, suc, _+_}
 use mathlib.Core.Bool.{Bool, cond, _&&_, _||_}
 use mathlib.Core.List.{List}

@@ -1,4 +1,17 @@
 -- EXPLORE2 (figure 4.6): the conflict set ℂ, the activated set 𝔸 and the levels.
+--     Explored                directions, and for each bench the round in which it joined ℂ, and its level
+--     never, roundOf, within  no round; the round of a bench; it has one
+--     inConflict, activated   v ∈ ℂ, v ∈ 𝔸
+--     father, child           a rock from v to a bench of ℂ, and from one to v
+--     joins, conflictSet      who joins ℂ, and the loop
+--     fake                    a neutral rock at a bench of ℂ
+--     Constructed, construct  (Conflict set construction)
+--     criticalBy, critical    Rule 1: v is critical, by rock j or by some rock
+--     linkedBy, rule2         Rule 2, by rock j or by some rock
+--     activates, activate     (Activation of nodes)
+--     inReach, typeA          who opens a round
+--     openedLevels, openedJoined, openRound       how a round begins, and the round
+--     rounds, unexplored, explore                 all rounds
 use Prim.Native.Nat.{ℕ, zero, suc, _+_}
 use mathlib.Core.Bool.{Bool, true, false, cond, not, _&&_, _||_}
 use mathlib.Core.List.{List}
@@ -72,24 +85,33 @@ construct (suc k) b i dir joined =
       | true ↦ construct k b i (forcedOrientations b (direct b dir v j)) closed
     ]
 
--- "Rule 1: ∃ u ∈ F(v), such that dl(v) + pl(v) + w_vu > (5/3 + β/3)t"
-abbrev pub rule1 : Board → Directions → List ℕ → ℕ → Bool
-rule1 b dir joined v = any (b .jobs) (λ j. father b dir (within b joined) v j && ltb (b .bound) (b .own v + b .weight j))
+-- "a node v ∈ ℂ is critical if there exists u ∈ F(v) such that dl(v) + pl(v) + w_vu > (5/3 + β/3)t"; Rule 1 activates
+-- critical nodes.
+abbrev pub criticalBy : Board → Directions → List ℕ → ℕ → ℕ → Bool
+criticalBy b dir joined v j = father b dir (within b joined) v j && ltb (b .bound) (b .own v + b .weight j)
+
+abbrev pub critical : Board → Directions → List ℕ → ℕ → Bool
+critical b dir joined v = any (b .jobs) (criticalBy b dir joined v)
 
 -- "Rule 2: ∃ u ∈ 𝔸 ∩ (D(v) ∪ F(v)), such that w_vu < (2/3 + β/3)t"
+abbrev pub linkedBy : Board → Directions → List ℕ → List ℕ → ℕ → ℕ → Bool
+linkedBy b dir joined level v j =
+    (father b dir (within b joined) v j || child b dir (within b joined) v j)
+    && within b level (other b j v) && ltb (b .weight j) (b .small)
+
 abbrev pub rule2 : Board → Directions → List ℕ → List ℕ → ℕ → Bool
-rule2 b dir joined level v =
-    any (b .jobs)
-    (λ j. (father b dir (within b joined) v j || child b dir (within b joined) v j) && within b level (other b j v) && ltb (b .weight j) (b .small))
+rule2 b dir joined level v = any (b .jobs) (linkedBy b dir joined level v)
+
+-- A bench of ℂ that is not activated and meets a rule.
+abbrev pub activates : Board → Directions → List ℕ → List ℕ → ℕ → Bool
+activates b dir joined level v =
+    within b joined v && not (within b level v) && (critical b dir joined v || rule2 b dir joined level v)
 
 -- "(Activation of nodes)"
 unfoldable pub activate : ℕ → Board → ℕ → Directions → List ℕ → List ℕ → List ℕ
 activate zero b i dir joined level = level
 activate (suc k) b i dir joined level =
-    let v : ℕ =
-    least (b .benches)
-    (λ v. within b joined v && not (within b level v) && (rule1 b dir joined v || rule2 b dir joined level v))
-    in
+    let v : ℕ = least (b .benches) (activates b dir joined level) in
     elim (ltb v (b .benches)) [ false ↦ level | true ↦ activate k b i dir joined (set level v i) ]
 
 -- "v is reachable from 𝔸_{i−1}": a pebble on a bench of the level before may go to v.
@@ -102,15 +124,23 @@ abbrev pub typeA : Board → ℕ → Explored → ℕ → Bool
 typeA b zero x v = overloaded b (x .dir) v
 typeA b (suc i) x v = not (activated b x v) && inReach b (suc i) (x .level) v
 
--- "ℂ_i := 𝔸_i; 𝔸 := 𝔸 ∪ 𝔸_i; ℂ := ℂ ∪ ℂ_i", then the two sub-procedures.
+-- "ℂ_i := 𝔸_i; 𝔸 := 𝔸 ∪ 𝔸_i; ℂ := ℂ ∪ ℂ_i"
+abbrev pub openedLevels : Board → ℕ → Explored → List ℕ
+openedLevels b i x = table (b .benches) (λ v. cond (typeA b i x v) i (roundOf b (x .level) v))
+
+abbrev pub openedJoined : Board → ℕ → Explored → List ℕ
+openedJoined b i x =
+    table (b .benches) (λ v. cond (typeA b i x v && not (inConflict b x v)) i (roundOf b (x .joined) v))
+
+-- Then the two sub-procedures.
 unfoldable pub openRound : Board → ℕ → Explored → Explored
 openRound b i x =
-    let level : List ℕ = table (b .benches) (λ v. cond (typeA b i x v) i (roundOf b (x .level) v)) in
-    let joined : List ℕ =
-    table (b .benches) (λ v. cond (typeA b i x v && not (inConflict b x v)) i (roundOf b (x .joined) v))
-    in
-    let c : Constructed = construct (b .jobs) b i (x .dir) joined in
-    record { dir = c .dir; joined = c .joined; level = activate (b .benches) b i (c .dir) (c .joined) level }
+    let c : Constructed = construct (b .jobs) b i (x .dir) (openedJoined b i x) in
+    record {
+      dir = c .dir;
+      joined = c .joined;
+      level = activate (b .benches) b i (c .dir) (c .joined) (openedLevels b i x);
+    }
 
 -- "If 𝔸_i = ∅: stop." Each round activates a bench.
 unfoldable pub rounds : ℕ → Board → ℕ → Explored → Explored

@@ -1,5 +1,12 @@
--- FORCED ORIENTATIONS (figure 4.5).
--- "Forced and fake orientations take the lowest bench, then the lowest job; a job forced from both ends leaves the lower bench."
+-- FORCED ORIENTATIONS (figure 4.5). "Forced and fake orientations take the lowest bench, then the lowest job; a job
+-- forced from both ends leaves the lower bench."
+--     forces b dir v j    the neutral rock j is forced from v
+--     direct b dir v j    the directions after rock j left v
+--     forcing, forcedJob  some rock is forced from v; the lowest one
+--     nobody              no bench is marked
+--     markedForcing       a rock is forced from the marked bench v
+--     inner, outer        the two loops
+--     forcedOrientations  the procedure
 use Prim.Native.Nat.{ℕ, zero, suc, _+_}
 use mathlib.Core.Bool.{Bool, true, false, _&&_}
 use mathlib.Core.List.{List}

@@ -1,4 +1,7 @@
 -- PUSH (Definition 4.4.3).
+--     leaf, lightFathers      bench v has no child in the conflict set; its fathers are light
+--     canPush b x j v         pebble j may be pushed to v
+--     pushJob, pushBench      the first such pair
 use Prim.Native.Nat.{ℕ, suc, _+_}
 use mathlib.Core.Bool.{Bool, not, _&&_, _||_}
 use lib.Dec.{eqb, leb}
@@ -12,7 +15,8 @@ leaf b x v = not (any (b .jobs) (child b (x .dir) (inConflict b x) v))
 
 -- "dl(v*) + pl(v*) + w_{v*u} ≤ (5/3 − 2/3 · β)t for all u ∈ F(v*)"
 abbrev pub lightFathers : Board → Explored → ℕ → Bool
-lightFathers b x v = all (b .jobs) (λ j. not (father b (x .dir) (inConflict b x) v j) || leb (b .own v + b .weight j) (b .limit))
+lightFathers b x v =
+    all (b .jobs) (λ j. not (father b (x .dir) (inConflict b x) v j) || leb (b .own v + b .weight j) (b .limit))
 
 -- Pushing the pebble j to bench v is allowed: it is one level up, within the limit, and a leaf or with light fathers.
 abbrev pub canPush : Board → Explored → ℕ → ℕ → Bool

@@ -1,4 +1,13 @@
 -- Algorithm 2 with the choices of document 01.
+--     ownMinutes          what a bench carries besides the rocks left
+--     boardOf             what the exploration of a state looks at
+--     placesOf            the places of a plan
+--     Outcome             a plan, a long job, or a set of benches
+--     moved, nextState    a state after a move, after PUSH
+--     explored            the exploration of a state
+--     congested, canMove  some bench is overloaded; and PUSH is possible
+--     answerAt, turns     the outcome where no move is made; the turns
+--     budget, run         how many moves there may be; the run
 use Prim.Native.Nat.{ℕ, zero, suc, _+_, _-_, _*_}
 use mathlib.Core.Bool.{Bool, true, false, cond, not, _&&_}
 use mathlib.Core.List.{List}
@@ -75,11 +84,12 @@ answerAt d s moves =
       | true ↦ blocked (activated (boardOf d s) (explored d s)) moves
     ]
 
--- "Apply EXPLORE2. If it ends with 𝔸₀ = ∅, return a solution. Otherwise, apply PUSH. If PUSH is impossible, declare that OPT ≥ t + 1.
--- Un-orient all edges and repeat this process."
+-- "Apply EXPLORE2. If it ends with 𝔸₀ = ∅, return a solution. Otherwise, apply PUSH. If PUSH is impossible, declare that
+-- OPT ≥ t + 1. Un-orient all edges and repeat this process."
 unfoldable pub turns : ℕ → Day → State → ℕ → Outcome
 turns zero d s moves = answerAt d s moves
-turns (suc k) d s moves = elim (canMove d s) [ false ↦ answerAt d s moves | true ↦ turns k d (nextState d s) (suc moves) ]
+turns (suc k) d s moves =
+    elim (canMove d s) [ false ↦ answerAt d s moves | true ↦ turns k d (nextState d s) (suc moves) ]
 
 -- Moves are at most benches × light jobs that have a choice.
 abbrev pub budget : Day → ℕ

@@ -1,5 +1,10 @@
--- The rule for the rocks that stay neutral when no bench is overloaded.
--- "a neutral tree points away from its lowest bench; in a neutral cycle its lowest job goes to its higher bench and the rest follow round."
+-- The rule for the rocks that stay neutral when no bench is overloaded: "a neutral tree points away from its lowest
+-- bench; in a neutral cycle its lowest job goes to its higher bench and the rest follow round."
+--     neutralAt, linked       a neutral rock at a bench; benches joined by one
+--     system, systemRock      the benches and the rocks of the neutral tree or cycle of a bench
+--     isTree                  it has fewer rocks than benches
+--     follow                  rocks leave marked benches, one after another
+--     settleSystem, settleFrom, settle    one tree or cycle; one after another; all
 use Prim.Native.Nat.{ℕ, zero, suc}
 use mathlib.Core.Bool.{Bool, true, false, cond, _&&_}
 use mathlib.Core.List.{List}

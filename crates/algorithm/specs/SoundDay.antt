@@ -1,5 +1,6 @@
 -- What the theorems ask of a day.
---     AcceptedDay d         what the faults 7 to 12 leave of a day, whatever its target: the share is between 4/7 and 1,
+--     AcceptedDay d         what the faults 7 to 12 leave of a day, whatever its target: the share is between 4/7 and
+--                           1,
 --                           every job has a bench, and where no job is long a heavy job has at most two benches
 --     SoundDay d            besides, no job is longer than the target
 --     Uncrowded d           no component has more rocks than benches
@@ -36,4 +37,5 @@ Uncrowded d = (v : ℕ) → v < d .benches → crowded d v ≡ false
 
 pub record RockPlacement (d : Day) (pl : ℕ → ℕ) : Type 0 where
   pub allowed : (j : ℕ) → j < d .jobs → rock d j ≡ true → d .allows j (pl j) ≡ true
-  pub one-each : (i j : ℕ) → i < d .jobs → j < d .jobs → rock d i ≡ true → rock d j ≡ true → pl i ≡ pl j → i ≡ j
+  pub one-each : (i j : ℕ) → i < d .jobs → j < d .jobs
+      → rock d i ≡ true → rock d j ≡ true → pl i ≡ pl j → i ≡ j

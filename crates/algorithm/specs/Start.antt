@@ -1,4 +1,10 @@
 -- The start of the run (section 4.2): components of rocks, peeling, and where the light jobs begin.
+--     joinedBy, joined, component     benches joined by a rock; the component of a bench
+--     rocksIn, crowded, crowdedBench  the rocks of a component; too many; the lowest bench of such a component
+--     oneCycle            as many rocks as benches
+--     State               the rocks that are left, and the bench of every other job
+--     leftAt, hanging     a rock left at a bench; the bench has just one and is off a cycle
+--     peel, start         peeling; the state with which the run starts
 use Prim.Native.Nat.{ℕ, zero, suc}
 use mathlib.Core.Bool.{Bool, true, false, not, _&&_}
 use mathlib.Core.List.{List}
@@ -56,7 +62,10 @@ peel zero d s = s
 peel (suc k) d s =
     let v : ℕ = least (d .benches) (hanging d (s .left)) in
     let j : ℕ = least (d .jobs) (leftAt d (s .left) v) in
-    elim (ltb v (d .benches)) [ false ↦ s | true ↦ peel k d (record { left = set (s .left) j false; place = set (s .place) j v }) ]
+    elim (ltb v (d .benches)) [
+      | false ↦ s
+      | true ↦ peel k d (record { left = set (s .left) j false; place = set (s .place) j v })
+    ]
 
 -- "Each light job with a choice starts on its lowest bench."
 unfoldable pub start : Day → State

@@ -2,7 +2,7 @@
 mod answer;
 
 pub use answer::Answer;
+pub use answer::Filled;
 pub use answer::LongAnswer;
 pub use answer::NoneAnswer;
 pub use answer::PlanAnswer;
-pub use answer::Filled;

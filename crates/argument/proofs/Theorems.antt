@@ -1,6 +1,5 @@
--- The theorems about the answer for every accepted sheet. Their only hypothesis is `readSheet s ≡ accepted day`; those about a state of the
--- run speak of the states that the run reaches.
---     accepted-answer     the answer for the fields of the sheet is the answer of the run
+-- The theorems about the reply to every accepted day. Their only hypothesis is `AcceptedDay day`, which the day of every accepted sheet
+-- meets (algorithm SheetDay `accepted-day`); those about a state of the run speak of the states that the run reaches.
 --     run-ended           the run ends within its budget, in one of the ways of RunEnd
 --     run-moves           moves ≤ benches × light jobs that have a choice
 --     answer-sound        a plan is an assignment within the bound, shown with its loads and the greatest of them; long names the lowest long
@@ -50,7 +49,6 @@ unfolding crowdedBench
 none-crowded-before d u l = least-before (d .benches) (crowded d) u l
 
 module _ (day : Day) (accepted : AcceptedDay day) where
-
   module _ (short : ltb (longJob day) (day .jobs) ≡ false) where
     day-sound : SoundDay day
     day-sound = sound-day day accepted (none-long day short)

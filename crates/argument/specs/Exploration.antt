@@ -1,5 +1,7 @@
--- What an exploration leaves behind, and what is known of it where no move is left. All weights and loads are multiplied by 3q.
---     Exploration         the numbers d, R and h; benches, jobs and directed rocks; conflict set, activated benches and own loads
+-- What an exploration leaves behind, and what is known of it where no move is left. All weights and loads are
+-- multiplied by 3q.
+--     Exploration         the numbers d, R and h; benches, jobs and directed rocks; conflict set, activated benches
+--                         and own loads
 --     target, bound, push-limit       t = R + d, B = t + R and P = t + 2d
 --     inside              a rock with both ends in the conflict set
 --     children, fathers   |D(v)| and |F(v)|: how many rocks inside have head v, have tail v
@@ -7,7 +9,8 @@
 --     into                in(v): the weight of the rocks inside with head v
 --     FatherAbove b z v   v has a father rock e inside with b < z + e
 --     EarlierNeighbour v  v has a rock inside below R whose other end has a smaller rank
---     NoMoveLeft          what holds of an exploration after which no move is left: the hypotheses H1 to H6 of Lemma 4.4.4
+--     NoMoveLeft          what holds of an exploration after which no move is left: the hypotheses H1 to H6 of Lemma
+--                         4.4.4
 --     InsidePlacement           each rock inside on one of its ends, no two on one bench
 use Prim.Native.Nat.{ℕ, _+_, _*_, _≤_, _<_}
 use mathlib.Core.Bool.{Bool, true, _&&_}
@@ -15,7 +18,8 @@ use mathlib.Core.Path.{_≡_}
 use mathlib.Core.Logic.{_⊎_}
 use Rattle.argument.specs.Orientation.{number, gathered}
 
--- Benches are the numbers below benches, jobs those below jobs; what a function says of other numbers is without meaning.
+-- Benches are the numbers below benches, jobs those below jobs; what a function says of other numbers is without
+-- meaning.
 pub record Exploration : Type 0 where
   -- (q - p) T and (2q + p) T.
   pub d : ℕ
@@ -82,7 +86,8 @@ pub record EarlierNeighbour (x : Exploration) (v : ℕ) : Type 0 where
   pub below : joining < x .jobs
   pub within : inside x joining ≡ true
   pub small : x .weight joining < x .R
-  pub earlier : ((x .head joining ≡ v) × (x .rank (x .tail joining) < x .rank v)) ⊎ ((x .tail joining ≡ v) × (x .rank (x .head joining) < x .rank v))
+  pub earlier : ((x .head joining ≡ v) × (x .rank (x .tail joining) < x .rank v)) ⊎ ((x .tail joining ≡ v)
+      × (x .rank (x .head joining) < x .rank v))
 
 pub record NoMoveLeft (x : Exploration) : Type 0 where
   -- H1: the share is at least 4/7; P + h = B; a rock is heavy, and no heavier than the target; its ends are benches.
@@ -95,18 +100,24 @@ pub record NoMoveLeft (x : Exploration) : Type 0 where
   -- H2: Type A benches are activated, and activated benches are in the conflict set.
   pub typeA-activated : (v : ℕ) → v < x .benches → x .typeA v ≡ true → x .activated v ≡ true
   pub activated-conflict : (v : ℕ) → v < x .benches → x .activated v ≡ true → x .conflict v ≡ true
-  -- H3: no light job can be moved to a Type A bench: its load is above P, or it has a child, and its own load with a father is above P.
+  -- H3: no light job can be moved to a Type A bench: its load is above P, or it has a child, and its own load with a
+  -- father is above P.
   pub typeA-full : (v : ℕ) → v < x .benches → x .typeA v ≡ true
       → (push-limit x < x .own v + into x v) ⊎ ((0 < children x v) × FatherAbove x (push-limit x) (x .own v) v)
   -- H4: a bench of the conflict set is of Type A, or its load with a father, which was forced from it, is above B.
-  pub conflict-cause : (v : ℕ) → v < x .benches → x .conflict v ≡ true → (x .typeA v ≡ true) ⊎ FatherAbove x (bound x) (x .own v + into x v) v
-  -- H5: Rule 1, a bench of the conflict set whose own load with a father is above B is activated; Rule 2, with one end of a rock below R the other is activated.
-  pub rule-one-applied : (v : ℕ) → v < x .benches → x .conflict v ≡ true → FatherAbove x (bound x) (x .own v) v → x .activated v ≡ true
-  pub rule-two-applied : (e : ℕ) → e < x .jobs → inside x e ≡ true → x .weight e < x .R → x .activated (x .head e) ≡ x .activated (x .tail e)
+  pub conflict-cause : (v : ℕ) → v < x .benches → x .conflict v ≡ true → (x .typeA v ≡ true)
+      ⊎ FatherAbove x (bound x) (x .own v + into x v) v
+  -- H5: Rule 1, a bench of the conflict set whose own load with a father is above B is activated; Rule 2, with one
+  -- end of a rock below R the other is activated.
+  pub rule-one-applied : (v : ℕ) → v < x .benches → x .conflict v ≡ true → FatherAbove x (bound x) (x .own v) v
+      → x .activated v ≡ true
+  pub rule-two-applied : (e : ℕ) → e < x .jobs → inside x e ≡ true → x .weight e < x .R
+      → x .activated (x .head e) ≡ x .activated (x .tail e)
   -- H6: a bench is activated as one of Type A, by Rule 1, or by Rule 2 after the other end of the rock.
   pub activated-cause : (v : ℕ) → v < x .benches → x .activated v ≡ true
       → (x .typeA v ≡ true) ⊎ (FatherAbove x (bound x) (x .own v) v ⊎ EarlierNeighbour x v)
 
 pub record InsidePlacement (x : Exploration) (place : ℕ → ℕ) : Type 0 where
   pub on-an-end : (e : ℕ) → e < x .jobs → inside x e ≡ true → (place e ≡ x .head e) ⊎ (place e ≡ x .tail e)
-  pub one-to-a-bench : (e f : ℕ) → e < x .jobs → f < x .jobs → inside x e ≡ true → inside x f ≡ true → place e ≡ place f → e ≡ f
+  pub one-to-a-bench : (e f : ℕ) → e < x .jobs → f < x .jobs → inside x e ≡ true → inside x f ≡ true
+      → place e ≡ place f → e ≡ f

@@ -1,4 +1,4 @@
-// The planner, with the demand as its promise; the argument for blocking sets is in specs/ and proofs/.
+// The planner, with the demand as its promise (specs/Claim). The argument for it is the crate `argument`.
 mod planner;
 
 pub use planner::plan;

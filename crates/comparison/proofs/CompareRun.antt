@@ -119,8 +119,11 @@ module _ (c : Contents) (benches jobs : ℕ) (minutes allowed : List ℕ) (T : T
   has-is : (j v : ℕ) → j < d .jobs → hasAt (getD allowed j 0) v ≡ d .allows j v
   has-is j v l = elim (lt-or-le v (d .benches)) [
     | inl b ↦
-        rw (T .allowed-are j l, lt-ltb v (d .benches) b,
-        le-leb v 63 (omega (arith, T .sound .head .at-most-64-benches)))
+        rw (
+          T .allowed-are j l,
+          lt-ltb v (d .benches) b,
+          le-leb v 63 (omega (arith, T .sound .head .at-most-64-benches)),
+        )
     | inr b ↦ elim (lt-or-le 63 v) [
       | inl far ↦ rw (lt-leb v 63 far, le-ltb v (d .benches) b)
       | inr near ↦ elim (split (isSet 64 (jobAt (c .jobs) j .allowed) v)) [
@@ -149,8 +152,12 @@ module _ (c : Contents) (benches jobs : ℕ) (minutes allowed : List ℕ) (T : T
       sum-bound jobs 1048576 (minutesOn minutes list v)
       (λ j l.
       let in-list : j < d .jobs = omega (arith, T .jobs-are) in
-      omega (arith, on-le (eqb (getD list j 0) v) (getD minutes j 0), T .minutes-are j in-list,
-      T .sound .jobs j in-list .minutes-fit)) in
+      omega (
+        arith,
+        on-le (eqb (getD list j 0) v) (getD minutes j 0),
+        T .minutes-are j in-list,
+        T .sound .jobs j in-list .minutes-fit,
+      )) in
       let few = few-jobs in
       omega arith
 

@@ -15,7 +15,6 @@ use Rattle.day.specs.SmallSheets.{dayWith, bay, first, both, three, last
 
 -- ── jobs ──
 
-
 -- "benches allowed (64, the first bit is bench 0)": the last bit is bench 63.
 pub allowed-last : dayWith (bay 64 4 7 5) (last 5 ∷ []) .allows 0 63 ≡ true
 unfolding isSet

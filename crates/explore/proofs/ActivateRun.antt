@@ -16,12 +16,11 @@ use Rattle.sums.specs.Search.{any, least}
 use Rattle.sums.proofs.SearchLaws.{any-cong, least-cong, least-le}
 use Rattle.rocks.specs.declared.rocks.Limits.{Limits}
 use Rattle.algorithm.specs.Board.{Board, Directions, touches, other, towards}
-use Rattle.algorithm.specs.Explore.{within, father, child, rule1, rule2, activate}
+use Rattle.algorithm.specs.Explore.{activates, within, father, child, critical, rule2, activate}
 use Rattle.rocks.specs.RockArrays.{lowestEnd}
 use Rattle.rocks.specs.BoardArrays.{rocksOf, rockAt, Rocks, Directed, Owned, Rounds}
 use Rattle.explore.specs.ExploreArrays.{activatesAt}
 use Rattle.rocks.proofs.ScanLaws.{and-assoc, board-lowest}
-use Rattle.algorithm.proofs.RoundSteps.{activates}
 use Rattle.explore.proofs.ExploreLaws.{any-and, any-or}
 use Rattle.explore.proofs.ConflictRun.{rounds-set, other-within, father-same, child-same}
 use Rattle.rocks.proofs.BoardLaws.{within-same}
@@ -112,7 +111,7 @@ module _ (b : Board) (n : Limits) (low high weight own : List ℕ) (R : Rocks b 
         ∙ ap (λ (k : Bool). within b xs v && k)
         (any-and (b .jobs) (not (within b ys v)) (λ j. first-rule v j || second-rule v j)
         ∙ ap (λ (k : Bool). not (within b ys v) && k) (any-or (b .jobs) (first-rule v) (second-rule v)))
-        ∙ sym (and-assoc (within b xs v) (not (within b ys v)) (rule1 b dirs xs v || rule2 b dirs xs ys v))
+        ∙ sym (and-assoc (within b xs v) (not (within b ys v)) (critical b dirs xs v || rule2 b dirs xs ys v))
 
     pub lowest-active : lowestEnd (n .benches) (n .rocks) low high (activatesAt n low high weight own dir joined level)
         ≡ least (b .benches) (activates b dirs xs ys)

@@ -21,10 +21,10 @@ use Rattle.bits.proofs.SetBits.{isSet-zero}
 use Rattle.rocks.specs.declared.rocks.Limits.{Limits}
 use Rattle.algorithm.specs.Board.{Board, Directions}
 use Rattle.algorithm.specs.Forced.{forcedOrientations}
-use Rattle.algorithm.specs.Explore.{construct, activate, explore}
+use Rattle.algorithm.specs.Explore.{construct, activate, explore, openedJoined}
 use Rattle.arrays.specs.Arrays.{plusOf}
 use Rattle.rocks.specs.BoardArrays.{rocksOf, Rocks, Directed, Seen, Rounds}
-use Rattle.explore.specs.ExploreArrays.{joinsAt, fakeAt, Reaches, openedJoined, Built, Grew, Waits}
+use Rattle.explore.specs.ExploreArrays.{joinsAt, fakeAt, Reaches, Built, Grew, Waits}
 use Rattle.rocks.specs.Neighbours.{Incident, Neighbours, Mapped}
 use Rattle.forced.specs.SetArrays.{Covers, Nowhere, forcesAt}
 use Rattle.forced.specs.CandidateArrays.{Neutral}

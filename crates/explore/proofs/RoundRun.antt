@@ -25,11 +25,11 @@ use Rattle.bits.proofs.SetBits.{isSet-zero, any-isSet}
 use Rattle.rocks.specs.declared.rocks.Limits.{Limits}
 use Rattle.algorithm.specs.Board.{Board, Directions, load, overloaded}
 use Rattle.algorithm.specs.Properties.{SoundBoard}
-use Rattle.algorithm.specs.Explore.{Explored, never, roundOf, inConflict, activated, construct, activate, inReach, typeA, openRound, rounds, unexplored, explore}
+use Rattle.algorithm.specs.Explore.{Explored, never, roundOf, inConflict, activated, construct, activate, inReach, typeA, openRound, rounds, unexplored, explore, openedLevels, openedJoined}
 use Rattle.algorithm.specs.Forced.{forcedOrientations}
 use Rattle.arrays.specs.Arrays.{plusOf}
 use Rattle.rocks.specs.BoardArrays.{rocksOf, rockAt, Rocks, Directed, Loaded, Seen, Owned, Rounds, Pebbles}
-use Rattle.explore.specs.ExploreArrays.{addedAt, opensAt, Reaches, openedLevels, openedJoined, Begun, Built}
+use Rattle.explore.specs.ExploreArrays.{addedAt, opensAt, Reaches, Begun, Built}
 use Rattle.rocks.specs.Shown.{Shown, ShowsActive}
 use Rattle.algorithm.proofs.BoardLaws.{pointed-start, rockLoad-none}
 use Rattle.rocks.proofs.ScanLaws.{rock-below}

@@ -4,7 +4,6 @@
 --     activatesAt               v is to be activated, by rock r
 --     addedAt                   the sets after the pebble j added the benches that it allows
 --     opensAt                   bench v opens round i: all is the set of the benches, active that of the activated ones
---     openedLevels, openedJoined     the two tables with which round i begins
 --     Blank                     the tables before an exploration
 --     Opened                    what the construction of the conflict set of a round finds
 --     Built, Begun              the arrays show what CONFLICT SET CONSTRUCTION leaves behind, and how a round begins
@@ -23,7 +22,7 @@ use Rattle.sums.specs.Table.{table}
 use Rattle.bits.specs.Bits.{isSet}
 use Rattle.rocks.specs.declared.rocks.Limits.{Limits}
 use Rattle.algorithm.specs.Board.{Board, Directions}
-use Rattle.algorithm.specs.Explore.{Explored, Constructed, roundOf, inConflict, typeA}
+use Rattle.algorithm.specs.Explore.{Explored, Constructed, roundOf, inConflict, typeA, openedLevels, openedJoined}
 use Rattle.arrays.specs.Arrays.{plusOf}
 use Rattle.rocks.specs.RockArrays.{otherAt, withinAt, fatherAt, childAt}
 use Rattle.rocks.specs.BoardArrays.{Seen, Rounds}
@@ -72,13 +71,6 @@ pub record Reaches (b : Board) (reach : List ℕ) : Type 0 where
       → isSet 64 (getD reach u 0) v ≡ any (b .jobs) (λ j. b .pebble j && eqb (b .place j) u && b .allows j v)
 
 -- ── a round ──
-
-abbrev pub openedLevels : Board → ℕ → Explored → List ℕ
-openedLevels b i x = table (b .benches) (λ v. cond (typeA b i x v) i (roundOf b (x .level) v))
-
-abbrev pub openedJoined : Board → ℕ → Explored → List ℕ
-openedJoined b i x =
-    table (b .benches) (λ v. cond (typeA b i x v && not (inConflict b x v)) i (roundOf b (x .joined) v))
 
 pub record Begun (b : Board) (i : ℕ) (x : Explored) (opened : ℕ) (rounds levels : List ℕ) : Type 0 where
   pub some : (v : ℕ) → v < 64 → isSet 64 opened v ≡ (ltb v (b .benches) && typeA b i x v)

@@ -13,7 +13,7 @@ ghost use Rattle.rocks.specs.Neighbours.{RockGraph};
 ghost use Rattle.explore.specs.ExploreArrays.{ruleOneAt, ruleTwoAt, activatesAt, Waits};
 ghost use Rattle.forced.specs.CandidateArrays.{someRock, benchOf};
 
-// rule1 b dir joined v, by the rock r.
+// critical b dir joined v, by the rock r.
 fn rule_one<'a>(
     n: Limits,
     low: &'a [usize],

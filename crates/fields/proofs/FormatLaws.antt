@@ -67,8 +67,13 @@ length-jobFrames (j ∷ js) = length-append (jobFrame j) (jobFrames js) ∙ omeg
 pub length-sheetBytes : (c : Contents) → length (sheetBytes c) ≡ 13 + 14 * length (c .jobs)
 length-sheetBytes c =
     length-append (headFrame (c .head) ++ jobFrames (c .jobs)) endFrame
-    ∙ omega (arith, length-append (headFrame (c .head)) (jobFrames (c .jobs)), length-headFrame (c .head), length-jobFrames (c .jobs),
-      length-endFrame)
+    ∙ omega (
+      arith,
+      length-append (headFrame (c .head)) (jobFrames (c .jobs)),
+      length-headFrame (c .head),
+      length-jobFrames (c .jobs),
+      length-endFrame,
+    )
 
 pub jobFrames-append : (first second : List Job) → jobFrames (first ++ second) ≡ jobFrames first ++ jobFrames second
 unfolding jobFrames

@@ -1,4 +1,5 @@
--- The number and the place of each fault (document 01, "Faults, in checking order"): one definition for every case of the program's
+-- The number and the place of each fault (document 01, "Faults, in checking order"): one definition for every case of
+-- the program's
 -- enum, used by all contracts. A number that is added later is a new case.
 --     numberOf f     the number that users see
 --     placeOf f      the place that users see: the frame's first byte, the sheet's length, a job's number, or 0
@@ -31,7 +32,8 @@ numberOf (Minutes at) = 10
 numberOf (Allowed at) = 11
 -- "a job allows three or more benches and q × minutes > p × W (place: the lowest such job number)"
 numberOf (HeavyHyperEdge job) = 12
--- "The table of places is shorter than the jobs, or the table of loads shorter than the benches (place 0)"; the output does not fit.
+-- "The table of places is shorter than the jobs, or the table of loads shorter than the benches (place 0)"; the
+-- output does not fit.
 numberOf (Table at) = 13
 
 abbrev pub placeOf : Fault → ℕ

@@ -116,8 +116,7 @@ module _ (g : Progress) (at : ℕ) (rest : List ℕ) where
   unfolding frameOf after
   frameOf-head h e =
       let s = sound-head (firstFault (faultsAt g at rest)) (contentOf (kindOf rest) (bodyOf rest)) h e in
-      let k = content-head (eqb (kindOf rest) headKind) (eqb (kindOf rest) jobKind) (headOf (bodyOf rest)) h (jobOf (bodyOf rest)) (s .1) in
-      (
+      let k = content-head (eqb (kindOf rest) headKind) (eqb (kindOf rest) jobKind) (headOf (bodyOf rest)) h (jobOf (bodyOf rest)) (s .1) in (
         s .0,
         sym (k .1),
         rw (k .0) (ap (λ (x : Head). record { stage = Open; contents = withHead (g .contents) x }) (k .1)),

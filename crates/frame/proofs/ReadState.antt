@@ -267,7 +267,7 @@ module _ (s : List ℕ) (sheet : Sheet) (stage : Stage) (at : ℕ) (here : ReadS
 
   pub state-over : length s ≤ at → (r : Reading)
       → r ≡ readingOf (endVerdict stage at
-        (record { head = sheet .head; jobs = jobTable (sheet .count) (sheet .minutes) (sheet .allowed) })) sheet
+      (record { head = sheet .head; jobs = jobTable (sheet .count) (sheet .minutes) (sheet .allowed) })) sheet
       → r ≡ stored (readSheet s)
   state-over over r e =
       e

@@ -28,14 +28,17 @@ fn without_places(decision: Decision) -> Decided
     ensures { λ r. ⌜ r ≡ record { decision = decision; places = replicate 512 0 } ⌝ }
 {
     let places = [0u8; 512];
-    Decided {
-        decision,
-        places,
-    }
+    Decided { decision, places }
 }
 
 // The decision at the last state of the run: none with the activated benches, or a plan.
-fn finish<'a>(last: State, n: Limits, job: &'a [usize], low: &'a [usize], high: &'a [usize]) -> Decided
+fn finish<'a>(
+    last: State,
+    n: Limits,
+    job: &'a [usize],
+    low: &'a [usize],
+    high: &'a [usize],
+) -> Decided
     ensures { λ r. ⌜ ((d : Day) → (weights : List ℕ) → (amount : List ℕ) → (pebbles : List Bool) → (allowed : List ℕ)
         → Ready d n (now (low .entry)) (now (high .entry)) weights amount pebbles allowed
         → ((r : ℕ) → r < count (d .jobs) (isLeft d) → getD (now (job .entry)) r 0 ≡ leftJob d r)
@@ -167,7 +170,16 @@ fn decide_sparse<'a>(
         &mut pebble,
     );
     decide_run(
-        n, rock, burden, &pebble, allowed, &amount, job, low, high, balance,
+        n,
+        rock,
+        burden,
+        &pebble,
+        allowed,
+        &amount,
+        job,
+        low,
+        high,
+        balance,
     )
 }
 
@@ -200,7 +212,16 @@ fn decide_short<'a>(
         return without_places(crowded(n, &low, &high, v));
     }
     decide_sparse(
-        h, n, rock, booked, minutes, allowed, &job, &low, &high, &balance,
+        h,
+        n,
+        rock,
+        booked,
+        minutes,
+        allowed,
+        &job,
+        &low,
+        &high,
+        &balance,
     )
 }
 
@@ -216,9 +237,7 @@ pub fn decide<'a>(
 {
     let long = start::long_job(jobs, h.target as usize, minutes);
     if long < jobs {
-        return without_places(Decision::Long(LongAnswer {
-            job: long as u64,
-        }));
+        return without_places(Decision::Long(LongAnswer { job: long as u64 }));
     }
     decide_short(h, jobs, minutes, allowed, booked)
 }

@@ -36,10 +36,7 @@ pub fn write_plan<'a>(
     arrays::widen(benches, &load, loads);
     let largest = arrays::greatest(benches, &load) as u64;
     Filled {
-        answer: Answer::Plan(PlanAnswer {
-            largest,
-            moves,
-        }),
+        answer: Answer::Plan(PlanAnswer { largest, moves }),
         places: jobs,
         loads: benches,
     }

@@ -1,7 +1,8 @@
 -- Sets of benches that neutral rocks join, in arrays.
 --     neutralRock dir r           rock r is neutral
 --     insideAt                    and its lower end is in the set
---     differ, crossesAt           one of two holds and not the other; one end of a neutral rock is in the set, and not the
+--     differ, crossesAt           one of two holds and not the other; one end of a neutral rock is in the set, and
+--                                 not the
 --                                 other
 --     joinOf, widenOf, changedOf  the set after one rock, after the first k rocks; whether any of them added a bench
 --     linksAt, linkedAt           two benches joined by rock r, which is neutral; by some neutral rock

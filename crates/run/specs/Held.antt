@@ -1,7 +1,9 @@
 -- What the program's tables hold of a day, and its state of a state of the run.
 --     isLeft d j, leftJob d r   the jobs of the rocks that are left after the start; the r-th of them
---     Begins d n ..             the tables that the start reads: the day's jobs, rocks, pebbles, weights and booked minutes
---     Ready d n ..              the tables that the turns read: numbers, rocks left, weights, pebbles and allowed benches
+--     Begins d n ..             the tables that the start reads: the day's jobs, rocks, pebbles, weights and booked
+--                               minutes
+--     Ready d n ..              the tables that the turns read: numbers, rocks left, weights, pebbles and allowed
+--                               benches
 --     Held d m s left place     two tables hold the state s, to which the run comes after m moves
 --     Holds d m s k             so does the program's state k, with the loads and the benches in reach
 --     Unexplored n k            no exploration has been made

@@ -88,7 +88,8 @@ impl State {
         ensures { λ r. ⌜ ((d : Day) → (m : ℕ) → (s : RunState) → (amount : List ℕ) → (pebble : List Bool)
             → (allowed : List ℕ)
             → Ready d n (now (low .entry)) (now (high .entry)) (now (weight .entry)) amount pebble allowed
-            → Mapped n (now (low .entry)) (now (high .entry)) (now (incident .entry)) (now (neighbours .entry)) all touched
+            → Mapped n (now (low .entry)) (now (high .entry)) (now (incident .entry)) (now (neighbours .entry)) all
+            touched
             → Holds d m s self → Holds d m s r × Explores d s r) ⌝ }
     {
         let own = self.own;

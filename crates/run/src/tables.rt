@@ -6,7 +6,8 @@ ghost use Rattle.run.specs.TableArrays.{placedOf};
 
 // Entry r becomes the weight of the job of rock r.
 pub fn pick<'a>(rocks: usize, job: &'a [usize], amount: &'a [usize], weight: &mut [usize])
-    ensures { λ _. ⌜ now (weight .exit) ≡ filled rocks (λ r. getD (now (amount .entry)) (getD (now (job .entry)) r 0) 0) (now (weight .entry)) ⌝ }
+    ensures { λ _. ⌜ now (weight .exit) ≡ filled rocks
+        (λ r. getD (now (amount .entry)) (getD (now (job .entry)) r 0) 0) (now (weight .entry)) ⌝ }
 {
     let mut r = 0;
     while r < rocks {

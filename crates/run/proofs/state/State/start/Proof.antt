@@ -74,24 +74,24 @@ returns c =
         none-active = refl;
       },
       λ d minutes B.
-      let F = B .fields in
-      let sound = B .day-rocks .sound in
-      let few = F .bounded .few-jobs in
-      let P = start-placed d (n .jobs) minutes allowed (replicate 512 0) (c .before .before .before .before .before .before .before .before .before .before .before .before .before .before .before .before .before .before .before .before .before .before .before .before .before .before .before .before .before .args .rock) F sound (omega (arith, sized, few)) (omega (arith, room, few))
-      (B .rocky) (c .before .before .before .before .before .before .before .before .before .before .before .before .before .before .before .before .before .before .before .before .place-lowest .ensures) (λ s Q. c .before .before .before .before .before .before .before .before .before .before .before .before .before .before .before .before .peel .ensures d s (B .day-rocks) (B .rock-jobs) (B .cycles) Q) in
-      let bytes = c .before .before .to-bytes .ensures (omega (arith, P .place-room, F .jobs-are)) (omega (arith, room, F .jobs-are, few))
-      (λ i h. omega (arith, P .places i (omega (arith, F .jobs-are)), start-below d sound i (omega (arith, F .jobs-are)), F .bounded .few-benches)) in
-      let shown = placed-copied (n .jobs) _ (replicate 512 0) (omega (arith, room, F .jobs-are, few)) bytes d _ _ (F .jobs-are) P in (
-        record {
-          held = started-held d n minutes allowed _ _ _ _ _ _ _ _ B _ _
-              shown;
-          made = refl;
-          owned = started-owned d n minutes allowed _ _ _ _ _ _ _ _ B _ _ P wide _ (c .before .before .before .before .before .before .before .before .before .before .own-loads .ensures);
-          reaches = c .before .before .before .before .before .before .fill-reach .ensures (boardOf d (start d)) (F .jobs-are) (F .bounded .few-benches)
-              (started-pebbles d n minutes allowed _ _ _ _ _ _ _ _ B _ _ P) refl;
-        },
-        shown,
-      ),
+          let F = B .fields in
+          let sound = B .day-rocks .sound in
+          let few = F .bounded .few-jobs in
+          let P = start-placed d (n .jobs) minutes allowed (replicate 512 0) (c .before .before .before .before .before .before .before .before .before .before .before .before .before .before .before .before .before .before .before .before .before .before .before .before .before .before .before .before .before .args .rock) F sound (omega (arith, sized, few)) (omega (arith, room, few))
+          (B .rocky) (c .before .before .before .before .before .before .before .before .before .before .before .before .before .before .before .before .before .before .before .before .place-lowest .ensures) (λ s Q. c .before .before .before .before .before .before .before .before .before .before .before .before .before .before .before .before .peel .ensures d s (B .day-rocks) (B .rock-jobs) (B .cycles) Q) in
+          let bytes = c .before .before .to-bytes .ensures (omega (arith, P .place-room, F .jobs-are)) (omega (arith, room, F .jobs-are, few))
+          (λ i h. omega (arith, P .places i (omega (arith, F .jobs-are)), start-below d sound i (omega (arith, F .jobs-are)), F .bounded .few-benches)) in
+          let shown = placed-copied (n .jobs) _ (replicate 512 0) (omega (arith, room, F .jobs-are, few)) bytes d _ _ (F .jobs-are) P in (
+            record {
+              held = started-held d n minutes allowed _ _ _ _ _ _ _ _ B _ _
+                  shown;
+              made = refl;
+              owned = started-owned d n minutes allowed _ _ _ _ _ _ _ _ B _ _ P wide _ (c .before .before .before .before .before .before .before .before .before .before .own-loads .ensures);
+              reaches = c .before .before .before .before .before .before .fill-reach .ensures (boardOf d (start d)) (F .jobs-are) (F .bounded .few-benches)
+                  (started-pebbles d n minutes allowed _ _ _ _ _ _ _ _ B _ _ P) refl;
+            },
+            shown,
+          ),
     )
 
 pub start-spec : {M : Type 1} → statement M
