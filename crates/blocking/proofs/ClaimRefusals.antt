@@ -172,13 +172,13 @@ later-load-changed c = omega (arith, first-entry (c .plan-right contents8 answer
 
 -- ── two long jobs ──
 
-abbrev longContents : Contents
+abbrev pub longContents : Contents
 longContents = sheet (bay 1 4 7 4) (first 5 ∷ first 6 ∷ [])
 
-abbrev longSheet : List ℕ
+abbrev pub longSheet : List ℕ
 longSheet = sheetBytes longContents
 
-long-read : readSheet longSheet ≡ accepted longContents
+pub long-read : readSheet longSheet ≡ accepted longContents
 unfolding isSet hyperEdgeVerdict jobsVerdict writerVerdict
 long-read = write-read-computed longContents refl refl
 
@@ -208,13 +208,13 @@ long-changes-loads c = omega (arith, first-entry (c .long-right longContents lon
 
 -- ── sets that a none may not name ──
 
-abbrev fullContents : Contents
+abbrev pub fullContents : Contents
 fullContents = sheet (bay 2 4 7 8) (both 5 ∷ both 5 ∷ both 5 ∷ [])
 
-abbrev fullSheet : List ℕ
+abbrev pub fullSheet : List ℕ
 fullSheet = sheetBytes fullContents
 
-full-read : readSheet fullSheet ≡ accepted fullContents
+pub full-read : readSheet fullSheet ≡ accepted fullContents
 unfolding isSet hyperEdgeVerdict jobsVerdict writerVerdict
 full-read = write-read-computed fullContents refl refl
 
@@ -249,24 +249,23 @@ none-changes-loads set c = omega (arith, first-entry (c .none-right fullContents
 
 -- Two benches, T = 5: a heavy job of 4 on each, and light ones of 2 and 1 on bench 0. Both benches block, bench 1 alone
 -- carries 4.
-abbrev oneFullContents : Contents
+abbrev pub oneFullContents : Contents
 oneFullContents = sheet (bay 2 4 7 5) (first 4 ∷ second 4 ∷ first 2 ∷ first 1 ∷ [])
 
-abbrev oneFullSheet : List ℕ
+abbrev pub oneFullSheet : List ℕ
 oneFullSheet = sheetBytes oneFullContents
 
-one-full-read : readSheet oneFullSheet ≡ accepted oneFullContents
+pub one-full-read : readSheet oneFullSheet ≡ accepted oneFullContents
 unfolding isSet hyperEdgeVerdict jobsVerdict writerVerdict
 one-full-read = write-read-computed oneFullContents refl refl
 
 one-full-answerable : Answerable oneFullSheet exactPlaces exactLoads oneFullContents
 one-full-answerable = record { sheet-accepted = one-full-read; place-to-a-job = omega arith; load-to-a-bench = omega arith }
 
--- Bench 1 is the bit of weight 2 ^ 62.
-pub set-that-fits : PlannerClaim oneFullSheet exactPlaces exactLoads (None (noneOf (2 ^ 62) 0)) exactPlaces exactLoads → ⊥
+-- Each heavy job on its own bench.
+pub one-full-placed : Placement (dayOf oneFullContents) (λ j. j)
 unfolding isSet
-set-that-fits c =
-    omega (arith, c .none-right oneFullContents one-full-answerable (noneOf (2 ^ 62) 0) refl .0 .blocking .heavier (λ j. j) placed)
+one-full-placed = record { on-allowed = own-bench; one-to-a-bench = λ e f le lf he hf same. omega arith }
   where
     own-bench : (j : ℕ) → j < 4 → heavy (dayOf oneFullContents) j ≡ true → dayOf oneFullContents .allows j j ≡ true
     own-bench zero l is-heavy = refl
@@ -275,8 +274,12 @@ set-that-fits c =
     own-bench (suc (suc (suc zero))) l is-heavy = clash is-heavy refl
     own-bench (suc (suc (suc (suc j)))) l is-heavy = absurd (omega arith)
 
-    placed : Placement (dayOf oneFullContents) (λ j. j)
-    placed = record { on-allowed = own-bench; one-to-a-bench = λ e f le lf he hf same. omega arith }
+-- Bench 1 is the bit of weight 2 ^ 62.
+pub set-that-fits : PlannerClaim oneFullSheet exactPlaces exactLoads (None (noneOf (2 ^ 62) 0)) exactPlaces exactLoads → ⊥
+unfolding isSet
+set-that-fits c =
+    let right = c .none-right oneFullContents one-full-answerable (noneOf (2 ^ 62) 0) refl in
+    omega (arith, right .0 .blocking .heavier (λ j. j) one-full-placed)
 
 -- ── other calls ──
 

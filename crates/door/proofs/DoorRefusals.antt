@@ -33,25 +33,19 @@
 use Prim.Native.Nat.{ℕ, zero, suc, _/_, _≤_, _<_}
 use mathlib.Core.Path.{_≡_, refl, sym, ap}
 use mathlib.Core.Logic.{inl, inr}
-use mathlib.Core.Bool.{true}
 use mathlib.Core.List.{List, [], _∷_, _++_}
 use native.Mathlib.Omega.{arith}
 use Rattle.bools.proofs.BoolLaws.{clash}
 use Rattle.bits.specs.Bits.{isSet}
 use Rattle.bits.specs.Little.{little, littleOf, littleAll}
 use Rattle.fields.specs.declared.fault.Fault.the-variants.{Truncated}
-use Rattle.fields.specs.Contents.{Contents}
-use Rattle.fields.specs.Format.{sheetBytes}
-use Rattle.fields.specs.Tests.{hyperEdgeVerdict}
-use Rattle.frame.specs.Reading.{accepted, readFrom, readSheet}
-use Rattle.frame.specs.Writing.{jobsVerdict, writerVerdict}
-use Rattle.frame.proofs.RoundTrip.{write-read-computed}
-use Rattle.day.specs.Day.{dayOf, heavy}
-use Rattle.day.specs.SmallSheets.{sheet, bay, first, second, both}
-use Rattle.demand.specs.Demand.{Placement}
+use Rattle.frame.specs.Reading.{readFrom, readSheet}
+use Rattle.day.specs.Day.{dayOf}
 use Rattle.answers.specs.Answers.{Reply}
 use Rattle.blocking.proofs.ClaimExamples.{contents8, sheet8, read-8}
 use Rattle.blocking.proofs.ClaimRefusals.{first-entry, two-each, two-each-within}
+use Rattle.blocking.proofs.ClaimRefusals.{longContents, longSheet, long-read, fullContents, fullSheet, full-read}
+use Rattle.blocking.proofs.ClaimRefusals.{oneFullContents, oneFullSheet, one-full-read, one-full-placed}
 use Rattle.tables.specs.Tables.{entryOf, putNumbers}
 use Rattle.door.specs.DoorClaim.{NoRoomFor, RoomFor, PlanInBytes, DoorClaim}
 use Rattle.door.specs.PlanDoor.{planWord, answerNumbers}
@@ -173,14 +167,7 @@ later-number-changed c = omega (arith, first-entry (c .later-numbers-kept conten
 
 -- ── two long jobs ──
 
-abbrev longContents : Contents
-longContents = sheet (bay 1 4 7 4) (first 5 ∷ first 6 ∷ [])
-
-long-read : readSheet (sheetBytes longContents) ≡ accepted longContents
-unfolding isSet hyperEdgeVerdict jobsVerdict writerVerdict
-long-read = write-read-computed longContents refl refl
-
-long-room : RoomFor (sheetBytes longContents) (filled 16) (filled 8) (filled 16) longContents
+long-room : RoomFor longSheet (filled 16) (filled 8) (filled 16) longContents
 long-room = record {
   sheet-accepted = long-read;
   place-to-a-job = omega arith;
@@ -190,7 +177,7 @@ long-room = record {
 
 abbrev ClaimedLong : ℕ → List ℕ → List ℕ → List ℕ → Type 0
 ClaimedLong r places′ loads′ numbers′ =
-    DoorClaim (sheetBytes longContents) (filled 16) (filled 8) (filled 16) r places′ loads′ numbers′
+    DoorClaim longSheet (filled 16) (filled 8) (filled 16) r places′ loads′ numbers′
 
 pub only-long : (r : ℕ) (places′ loads′ numbers′ : List ℕ) → ClaimedLong r places′ loads′ numbers′ → r ≡ 2
 only-long r places′ loads′ numbers′ c =
@@ -218,14 +205,7 @@ long-changes-loads numbers′ c = omega (arith, first-entry (c .long-right longC
 
 -- ── sets that a none may not name ──
 
-abbrev fullContents : Contents
-fullContents = sheet (bay 2 4 7 8) (both 5 ∷ both 5 ∷ both 5 ∷ [])
-
-full-read : readSheet (sheetBytes fullContents) ≡ accepted fullContents
-unfolding isSet hyperEdgeVerdict jobsVerdict writerVerdict
-full-read = write-read-computed fullContents refl refl
-
-full-room : RoomFor (sheetBytes fullContents) (filled 24) (filled 16) (filled 16) fullContents
+full-room : RoomFor fullSheet (filled 24) (filled 16) (filled 16) fullContents
 full-room = record {
   sheet-accepted = full-read;
   place-to-a-job = omega arith;
@@ -235,7 +215,7 @@ full-room = record {
 
 abbrev ClaimedNone : List ℕ → List ℕ → List ℕ → Type 0
 ClaimedNone places′ loads′ numbers′ =
-    DoorClaim (sheetBytes fullContents) (filled 24) (filled 16) (filled 16) 3 places′ loads′ numbers′
+    DoorClaim fullSheet (filled 24) (filled 16) (filled 16) 3 places′ loads′ numbers′
 
 -- A set, by the byte of its highest bits: 128 is bench 0, 64 bench 1, 32 bench 2. Then the moves.
 abbrev setAndMoves : ℕ → ℕ → List ℕ
@@ -266,14 +246,7 @@ pub none-changes-loads : (numbers′ : List ℕ) → ClaimedNone (filled 24) (0 
 none-changes-loads numbers′ c = omega (arith, first-entry (c .none-right fullContents full-room refl .1 .same-loads))
 
 -- A heavy job of 4 on each bench, and light ones of 2 and 1 on bench 0: bench 1 alone carries 4.
-abbrev oneFullContents : Contents
-oneFullContents = sheet (bay 2 4 7 5) (first 4 ∷ second 4 ∷ first 2 ∷ first 1 ∷ [])
-
-one-full-read : readSheet (sheetBytes oneFullContents) ≡ accepted oneFullContents
-unfolding isSet hyperEdgeVerdict jobsVerdict writerVerdict
-one-full-read = write-read-computed oneFullContents refl refl
-
-one-full-room : RoomFor (sheetBytes oneFullContents) (filled 32) (filled 16) (filled 16) oneFullContents
+one-full-room : RoomFor oneFullSheet (filled 32) (filled 16) (filled 16) oneFullContents
 one-full-room = record {
   sheet-accepted = one-full-read;
   place-to-a-job = omega arith;
@@ -282,20 +255,11 @@ one-full-room = record {
 }
 
 pub set-that-fits :
-    DoorClaim (sheetBytes oneFullContents) (filled 32) (filled 16) (filled 16) 3
+    DoorClaim oneFullSheet (filled 32) (filled 16) (filled 16) 3
     (filled 32) (filled 16) (setAndMoves 64 0) → ⊥
 unfolding entryOf little isSet
-set-that-fits c = omega (arith, c .none-right oneFullContents one-full-room refl .0 .blocking .heavier (λ j. j) placed)
-  where
-    own-bench : (j : ℕ) → j < 4 → heavy (dayOf oneFullContents) j ≡ true → dayOf oneFullContents .allows j j ≡ true
-    own-bench zero l is-heavy = refl
-    own-bench (suc zero) l is-heavy = refl
-    own-bench (suc (suc zero)) l is-heavy = clash is-heavy refl
-    own-bench (suc (suc (suc zero))) l is-heavy = clash is-heavy refl
-    own-bench (suc (suc (suc (suc j)))) l is-heavy = absurd (omega arith)
-
-    placed : Placement (dayOf oneFullContents) (λ j. j)
-    placed = record { on-allowed = own-bench; one-to-a-bench = λ e f le lf he hf same. omega arith }
+set-that-fits c =
+    omega (arith, c .none-right oneFullContents one-full-room refl .0 .blocking .heavier (λ j. j) one-full-placed)
 
 -- ── an answer's table that is too short ──
 
