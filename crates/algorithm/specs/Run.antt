@@ -84,8 +84,8 @@ answerAt d s moves =
       | true ↦ blocked (activated (boardOf d s) (explored d s)) moves
     ]
 
--- "Apply EXPLORE2. If it ends with 𝔸₀ = ∅, return a solution. Otherwise, apply PUSH. If PUSH is impossible, declare that
--- OPT ≥ t + 1. Un-orient all edges and repeat this process."
+-- "Apply EXPLORE2. If it ends with 𝔸₀ = ∅, return a solution. Otherwise, apply PUSH. If PUSH is impossible, declare
+-- that OPT ≥ t + 1. Un-orient all edges and repeat this process."
 unfoldable pub turns : ℕ → Day → State → ℕ → Outcome
 turns zero d s moves = answerAt d s moves
 turns (suc k) d s moves =

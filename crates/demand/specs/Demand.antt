@@ -1,7 +1,6 @@
 -- What demand 3 speaks of (document 01, "The three answers"), of a day that a sheet means; heavy, light, load, bound
--- and
--- long are the words of crates/day. A set of benches is a function to Bool, of which only the benches of the day are
--- looked at.
+-- and long are the words of crates/day. A set of benches is a function to Bool, of which only the benches of the day
+-- are looked at.
 --     isAssignment, Assignment        each job of the day on one of its allowed benches: as a test, and as a fact
 --     withinTarget d n        the load n is at most the target
 --     keepsTarget, keepsBound     every bench of an assignment is within the target; within the demand's bound

@@ -1,11 +1,12 @@
 -- The number and the place of each fault (document 01, "Faults, in checking order"): one definition for every case of
--- the program's
--- enum, used by all contracts. A number that is added later is a new case.
+-- the program's enum, used by all contracts. A number that is added later is a new case.
 --     numberOf f     the number that users see
 --     placeOf f      the place that users see: the frame's first byte, the sheet's length, a job's number, or 0
 use Prim.Native.Nat.{ℕ}
 use Rattle.fields.specs.declared.fault.Fault.{Fault}
-use Rattle.fields.specs.declared.fault.Fault.the-variants.{TooLong, Truncated, UnknownKind, Misplaced, WrongLength, SpareBit, BenchCount, Share, JobCount, Minutes, Allowed, HeavyHyperEdge, Table}
+use Rattle.fields.specs.declared.fault.Fault.the-variants.{TooLong, Truncated, UnknownKind}
+use Rattle.fields.specs.declared.fault.Fault.the-variants.{Misplaced, WrongLength, SpareBit, BenchCount}
+use Rattle.fields.specs.declared.fault.Fault.the-variants.{Share, JobCount, Minutes, Allowed, HeavyHyperEdge, Table}
 
 abbrev pub numberOf : Fault → ℕ
 -- "The sheet is longer than 65,536 bytes (place 0)."
