@@ -2,6 +2,7 @@
 --     oneOf bs                the set of the benches that a list names
 --     setOf bs                the same as a number: bench b is the bit of weight 2 ^ (63 − b)
 --     Reply                   an answer, with the numbers at the front of both tables: a plan has them, no other does
+--     unwritten a             an answer that leaves both tables as they were
 --     planReply, longReply, noneReply, faultReply     each with the values that the paper gives it
 --     Case, caseOf            the number of an answer, and its values
 --     front xs before         a table after xs were put at its front

@@ -1,12 +1,12 @@
 -- Laws of the array definitions: one for each way in which the program's functions return.
 use Prim.Native.Nat.{ℕ, _+_, _-_, _≤_, _<_}
-use mathlib.Core.Path.{_≡_, sym, _∙_, ap}
-use mathlib.Core.Bool.{Bool, true, false, _&&_, cond}
+use mathlib.Core.Path.{_≡_, refl, sym, _∙_, ap}
+use mathlib.Core.Bool.{Bool, true, false, _&&_, _||_, cond}
 use mathlib.Core.Logic.{inl, inr}
 use native.Mathlib.Omega.{arith}
 use lib.Dec.{ltb}
 use borrow.Author.Tests.{lt-ltb, le-ltb}
-use Rattle.bools.proofs.BoolLaws.{bool-ext, tests, and-false-left}
+use Rattle.bools.proofs.BoolLaws.{bool-ext, tests, and-false-left, and-false-right}
 use Rattle.bools.proofs.OrderLaws.{last-or-below}
 use Rattle.sums.specs.Search.{least}
 use Rattle.sums.proofs.SearchLaws.{least-found, least-none}
@@ -50,6 +50,15 @@ and-not b e p = sym (and-false-left b (sym e ∙ p))
 
 pub and-rest : {a b t u : Bool} → t ≡ a → t ≡ true → u ≡ b → u ≡ (a && b)
 and-rest {a} {b} e p q = let x : a ≡ true = sym e ∙ p in rw x q
+
+pub and-not-second : {b t : Bool} (a c : Bool) → t ≡ b → t ≡ false → false ≡ (a && (b && c))
+and-not-second {b} a c e p = let x : b ≡ false = sym e ∙ p in rw x (sym (and-false-right a refl))
+
+pub or-yes : {a t : Bool} (b : Bool) → t ≡ a → t ≡ true → true ≡ (a || b)
+or-yes {a} b e p = let x : a ≡ true = sym e ∙ p in rw x
+
+pub or-rest : {a b t u : Bool} → t ≡ a → t ≡ false → u ≡ b → u ≡ (a || b)
+or-rest {a} {b} e p q = let x : a ≡ false = sym e ∙ p in rw x q
 
 module _ {ℓ} {A : Type ℓ} where
   pub cond-yes : {x : Bool} {c : A} (a b : A) → x ≡ true → c ≡ a → c ≡ cond x a b

@@ -15,7 +15,7 @@ use mathlib.Core.List.{List}
 use native.Mathlib.Omega.{arith}
 use lib.ListN.{length, getD, replicate, length-replicate, getD-replicate}
 use lib.Dec.{eqb}
-use borrow.Author.Tests.{eq-eqb, ne-eqb, lt-ltb, le-ltb, le-leb, lt-leb}
+use borrow.Author.Tests.{eq-eqb, ne-eqb, lt-ltb, le-ltb}
 use Rattle.bools.proofs.BoolLaws.{split, bool-ext, tests, not-true, not-false}
 use Rattle.bools.proofs.OrderLaws.{lt-or-le, last-or-below}
 use Rattle.sums.specs.Sum.{on, sum}
@@ -23,6 +23,7 @@ use Rattle.sums.specs.Search.{all}
 use Rattle.sums.proofs.SearchLaws.{all-intro, all-fails, all-cong}
 use Rattle.sums.proofs.SumLaws.{on-le, sum-cong, sum-bound}
 use Rattle.bits.specs.Bits.{isSet}
+use Rattle.bits.proofs.SetBits.{isSet-past}
 use Rattle.fields.specs.declared.sheet.Reading.{Reading}
 use Rattle.fields.specs.declared.fault.Fault.{Fault}
 use Rattle.fields.specs.declared.fault.Fault.the-variants.{Table}
@@ -37,7 +38,6 @@ use Rattle.day.specs.Day.{Day, dayOf, placeIn, loadOf}
 use Rattle.comparison.specs.declared.compared.Compared.{Compared}
 use Rattle.comparison.specs.declared.compared.Compared.the-variants.{Same, Different, Fault as ComparedFault}
 use Rattle.comparison.specs.Comparison.{givesEach, sameLoads, comparedOf, comparePlans}
-use Rattle.sets.specs.Sets.{hasAt}
 use Rattle.arrays.specs.Loads.{amountOn}
 use Rattle.arrays.specs.Arrays.{filled}
 use Rattle.comparison.specs.CompareArrays.{fitsAt, givesIn, minutesOn, loadIn, LoadsFit, sameIn}
@@ -116,19 +116,14 @@ module _ (c : Contents) (benches jobs : ℕ) (minutes allowed : List ℕ) (T : T
   d = dayOf c
 
   -- No set has a bench beyond the head's.
-  has-is : (j v : ℕ) → j < d .jobs → hasAt (getD allowed j 0) v ≡ d .allows j v
+  has-is : (j v : ℕ) → j < d .jobs → isSet 64 (getD allowed j 0) v ≡ d .allows j v
   has-is j v l = elim (lt-or-le v (d .benches)) [
-    | inl b ↦
-        rw (
-          T .allowed-are j l,
-          lt-ltb v (d .benches) b,
-          le-leb v 63 (omega (arith, T .sound .head .at-most-64-benches)),
-        )
+    | inl b ↦ rw (T .allowed-are j l, lt-ltb v (d .benches) b)
     | inr b ↦ elim (lt-or-le 63 v) [
-      | inl far ↦ rw (lt-leb v 63 far, le-ltb v (d .benches) b)
+      | inl far ↦ rw (isSet-past 64 (getD allowed j 0) v (omega arith), le-ltb v (d .benches) b)
       | inr near ↦ elim (split (isSet 64 (jobAt (c .jobs) j .allowed) v)) [
         | inl p ↦ absurd (omega (arith, T .sound .jobs j l .allows-below v (omega arith) p))
-        | inr p ↦ rw (T .allowed-are j l, p, le-leb v 63 near, le-ltb v (d .benches) b)
+        | inr p ↦ rw (T .allowed-are j l, p, le-ltb v (d .benches) b)
       ]
     ]
   ]

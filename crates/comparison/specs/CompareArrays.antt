@@ -14,10 +14,10 @@ use lib.ListN.{length, getD}
 use lib.Dec.{eqb}
 use Rattle.sums.specs.Sum.{on, sum}
 use Rattle.sums.specs.Search.{all}
-use Rattle.sets.specs.Sets.{hasAt}
+use Rattle.bits.specs.Bits.{isSet}
 
 abbrev pub fitsAt : List ℕ → List ℕ → ℕ → Bool
-fitsAt allowed list j = hasAt (getD allowed j 0) (getD list j 0)
+fitsAt allowed list j = isSet 64 (getD allowed j 0) (getD list j 0)
 
 abbrev pub givesIn : ℕ → List ℕ → List ℕ → Bool
 givesIn jobs allowed list = eqb (length list) jobs && all jobs (fitsAt allowed list)

@@ -1,10 +1,6 @@
-pub mod ActivateRun
-pub mod ActiveSets
-pub mod ConflictLoops
-pub mod ConflictRun
-pub mod ConflictSets
 pub mod ExploreLaws
 pub mod ExploreSets
 pub mod OpenRun
+pub mod ReachRun
 pub mod RoundRun
 pub mod RoundSets

@@ -1,6 +1,5 @@
--- The arrays follow the opening of a round, and the search for a bench to activate.
+-- The arrays follow the opening of a round.
 --     Entering          what the loop keeps by which the benches of a set join the conflict set
---     some-yes, some-no     how the search through the rocks of a bench ends
 use Prim.Native.Nat.{ℕ, _≤_, _<_}
 use mathlib.Core.Path.{_≡_, refl, sym, ap, subst, _∙_}
 use mathlib.Core.Bool.{Bool, true, false, cond, not, _&&_}
@@ -100,19 +99,3 @@ module _ (m i all : ℕ) (t₀ : List ℕ) where
             ∙ ap (λ (c : Bool). cond (c && not (withinAt m t₀ v)) i (getD t₀ v 0)) (sym p)
         | inr p ↦ E .outside v h p ∙ ap (λ (c : Bool). cond (c && not (withinAt m t₀ v)) i (getD t₀ v 0)) (sym p)
       ]
-
--- ── the rocks of a bench ──
-
-module _ (here : List ℕ) (P : ℕ → ℕ → Bool) (v left : ℕ) (S : Searched (getD here v 0) (λ r. P r v) left) where
-  pub some-yes : (r : ℕ) → r ≡ lowestOf left → r < 64 → P r v ≡ true → true ≡ someRock here P v
-  unfolding someRock
-  some-yes r e h p = sym (any-intro 64 (λ k. isSet 64 (getD here v 0) k && P k v) r h (and-intro (S .inside r h (lowest-holds left r e h)) p))
-
-  pub some-no : left ≤ 0 → false ≡ someRock here P v
-  unfolding someRock
-  some-no none =
-      let e : left ≡ 0 = omega arith in
-      sym (any-false 64 (λ k. isSet 64 (getD here v 0) k && P k v) (λ k l. elim (split (isSet 64 (getD here v 0) k)) [
-        | inl p ↦ and-false-right (isSet 64 (getD here v 0) k) (S .passed k l p (ap (λ (m : ℕ). isSet 64 m k) e ∙ isSet-zero 64 k))
-        | inr p ↦ and-false-left (P k v) p
-      ]))

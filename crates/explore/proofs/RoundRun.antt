@@ -1,22 +1,19 @@
 -- The arrays follow the rounds of an exploration.
---     Filled               what the loop keeps that collects the benches which the pebbles allow
 --     reach-shows          the set that the program makes is that of the benches within reach
 --     begun                how a round opens
 --     Exploring            what the loop over the rounds keeps; how it goes on, and how it ends
 use Prim.Native.Nat.{ℕ, zero, suc, _+_, _-_, _^_, _≤_, _<_}
 use mathlib.Core.Path.{_≡_, refl, sym, ap, ap₂, subst, _∙_}
-use mathlib.Core.Bool.{Bool, true, false, cond, not, _&&_, _||_}
+use mathlib.Core.Bool.{Bool, true, false, cond, not, _&&_}
 use mathlib.Core.Logic.{inl, inr}
 use mathlib.Core.List.{List}
 use native.Mathlib.Omega.{arith}
 use native.Mathlib.Numerals.{add-one}
-use lib.ListN.{length, getD, set, replicate, length-set, length-replicate, getD-replicate}
+use lib.ListN.{length, getD, set, replicate, length-replicate, getD-replicate}
 use lib.Dec.{eqb, ltb}
-use lib.Bits.{bitOr}
-use lib.Seq.{getD-set-same, getD-set-other}
 use borrow.Author.Tests.{lt-ltb, le-ltb, ltb-true, eq-eqb, ne-eqb, eqb-true}
-use Rattle.bools.proofs.BoolLaws.{split, bool-ext, and-intro, and-left, and-right, and-false-left, and-false-right, not-intro-true, or-nothing}
-use Rattle.bools.proofs.OrderLaws.{eq-or-ne, lt-or-le}
+use Rattle.bools.proofs.BoolLaws.{split, bool-ext, and-intro, and-left, and-right, and-false-left, and-false-right, not-intro-true}
+use Rattle.bools.proofs.OrderLaws.{lt-or-le}
 use Rattle.sums.specs.Search.{any}
 use Rattle.sums.proofs.SearchLaws.{any-intro, any-elim, any-none, any-false}
 use Rattle.sums.proofs.TableLaws.{length-table, getD-table}
@@ -28,81 +25,21 @@ use Rattle.algorithm.specs.Properties.{SoundBoard}
 use Rattle.algorithm.specs.Explore.{Explored, never, roundOf, inConflict, activated, construct, activate, inReach, typeA, openRound, rounds, unexplored, explore, openedLevels, openedJoined}
 use Rattle.algorithm.specs.Forced.{forcedOrientations}
 use Rattle.arrays.specs.Arrays.{plusOf}
-use Rattle.rocks.specs.BoardArrays.{rocksOf, rockAt, Rocks, Directed, Loaded, Seen, Owned, Rounds, Pebbles}
-use Rattle.explore.specs.ExploreArrays.{addedAt, opensAt, Reaches, Begun, Built}
+use Rattle.rocks.specs.BoardArrays.{rocksOf, rockAt, Rocks, Directed, Loaded, Seen, Owned, Rounds}
+use Rattle.conflict.specs.ConflictArrays.{Built}
+use Rattle.explore.specs.ExploreArrays.{opensAt, Reaches, Begun}
 use Rattle.rocks.specs.Shown.{Shown, ShowsActive}
 use Rattle.algorithm.proofs.BoardLaws.{pointed-start, rockLoad-none}
 use Rattle.rocks.proofs.ScanLaws.{rock-below}
 use Rattle.arrays.proofs.NumberLaws.{plus-one}
 use Rattle.explore.proofs.ExploreLaws.{cond-no}
-use Rattle.sets.proofs.SetLaws.{or-isSet}
 use Rattle.rocks.proofs.BoardLaws.{within-same}
 use Rattle.explore.proofs.RoundSets.{Raised, Sets}
-
--- ── the benches that the pebbles allow ──
-
-abbrev lies : Board → ℕ → ℕ → ℕ → Bool
-lies b u v j = b .pebble j && eqb (b .place j) u && b .allows j v
-
--- The pebbles among the first k jobs are in the sets.
-pub record Filled (b : Board) (k : ℕ) (from : List ℕ) : Type 0 where
-  pub room : b .benches ≤ length from
-  pub entries : (u v : ℕ) → u < b .benches → v < b .benches → isSet 64 (getD from u 0) v ≡ any k (lies b u v)
-
-pub filled-none : (b : Board) (m : ℕ) {from : List ℕ} → b .benches ≤ m → from ≡ replicate m 0 → Filled b 0 from
-filled-none b m few e =
-    rw e (
-    record {
-      room = omega (arith, length-replicate {A = ℕ} m 0);
-      entries = λ u v hu hv. ap (λ (x : ℕ). isSet 64 x v) (getD-replicate m u 0 0 (omega arith)) ∙ isSet-zero 64 v;
-    })
-
-module _ (b : Board) (pebble : List Bool) (allowed place from : List ℕ) (j : ℕ) (P : Pebbles b pebble allowed place) (h : j < b .jobs) (F : Filled b j from) where
-  abbrev there : ℕ
-  there = getD place j 0
-
-  abbrev more : ℕ
-  more = bitOr (getD from there 0) (getD allowed j 0)
-
-  filled-pebble : b .pebble j ≡ true → Filled b (suc j) (set from there more)
-  filled-pebble p =
-      record {
-        room = omega (arith, length-set from there more, F .room);
-        entries = λ u v hu hv. elim (eq-or-ne u there) [
-          | inl e ↦
-              let here : lies b u v j ≡ b .allows j v = rw (p, eq-eqb (b .place j) u (sym (P .lie j h p) ∙ sym e)) in
-              ap (λ (x : ℕ). isSet 64 x v) (ap (λ (k : ℕ). getD (set from there more) k 0) e ∙ getD-set-same from there more 0 (omega (arith, F .room)))
-              ∙ or-isSet (getD from there 0) (getD allowed j 0) v
-              ∙ ap₂ (λ (x y : Bool). x || y) (ap (λ (k : ℕ). isSet 64 (getD from k 0) v) (sym e) ∙ F .entries u v hu hv) (P .allow j v h hv ∙ sym here)
-          | inr ne ↦
-              let away : lies b u v j ≡ false = rw (p, ne-eqb (b .place j) u (λ q. ne (sym (P .lie j h p ∙ q)))) in
-              ap (λ (x : ℕ). isSet 64 x v) (getD-set-other from there u more 0 ne) ∙ F .entries u v hu hv
-              ∙ sym (or-nothing (any j (lies b u v))) ∙ ap (λ (x : Bool). any j (lies b u v) || x) (sym away)
-        ];
-      }
-
-  filled-other : b .pebble j ≡ false → Filled b (suc j) from
-  filled-other p =
-      record {
-        room = F .room;
-        entries = λ u v hu hv.
-            let away : lies b u v j ≡ false = rw p in
-            F .entries u v hu hv ∙ sym (or-nothing (any j (lies b u v))) ∙ ap (λ (x : Bool). any j (lies b u v) || x) (sym away);
-      }
-
-  filled-added : (c : Bool) → c ≡ b .pebble j → Filled b (suc j) (cond c (set from there more) from)
-  filled-added true e = filled-pebble (sym e)
-  filled-added false e = filled-other (sym e)
-
-  pub filled-next : {from′ : List ℕ} → from′ ≡ addedAt pebble allowed place from j → Filled b (j + 1) from′
-  filled-next e = rw (e, add-one) (filled-added (getD pebble j false) (P .are j h))
-
-pub filled-all : (b : Board) (k : ℕ) {from : List ℕ} → Filled b k from → k ≡ b .jobs → Reaches b from
-filled-all b k F e = record { entries = λ u v hu hv. F .entries u v hu hv ∙ ap (λ (m : ℕ). any m (lies b u v)) e }
+use Rattle.explore.proofs.ReachRun.{lies}
 
 -- ── the benches within reach ──
 
-module _ (b : Board) (sound : SoundBoard b) (few : b .benches ≤ 64) (i : ℕ) (in-time : i ≤ b .benches) (from ys level : List ℕ) (T : Reaches b from) (Y : Rounds b ys level) where
+module _ (b : Board) (sound : SoundBoard b) (few : b .benches ≤ 64) (i : ℕ) (in-time : i ≤ b .benches) (reaches ys level : List ℕ) (T : Reaches b reaches) (Y : Rounds b ys level) where
   level-before : (u : ℕ) → u < b .benches → plusOf (getD level u 0) 1 ≡ i → suc (roundOf b ys u) ≡ i
   level-before u h e = let q = Y .entries u h in omega (arith, e, q)
 
@@ -111,18 +48,18 @@ module _ (b : Board) (sound : SoundBoard b) (few : b .benches ≤ 64) (i : ℕ) 
 
   -- The benches of the level before i are in the set `fresh`.
   reach-shows : (reach fresh : ℕ) → ((u : ℕ) → u < 64 → isSet 64 fresh u ≡ (ltb u (b .benches) && eqb (plusOf (getD level u 0) 1) i))
-      → (v : ℕ) → v < b .benches → isSet 64 reach v ≡ any 64 (λ u. isSet 64 fresh u && isSet 64 (getD from u 0) v) → isSet 64 reach v ≡ inReach b i ys v
+      → (v : ℕ) → v < b .benches → isSet 64 reach v ≡ any 64 (λ u. isSet 64 fresh u && isSet 64 (getD reaches u 0) v) → isSet 64 reach v ≡ inReach b i ys v
   reach-shows reach fresh ef v hv er =
       let near : ℕ → Bool = λ j. b .pebble j && b .allows j v && eqb (suc (roundOf b ys (b .place j))) i in
-      let meets : ℕ → Bool = λ u. isSet 64 fresh u && isSet 64 (getD from u 0) v in
+      let meets : ℕ → Bool = λ u. isSet 64 fresh u && isSet 64 (getD reaches u 0) v in
       er
       ∙ bool-ext (any 64 meets) (inReach b i ys v)
       (λ p.
       let (u, h, q) = any-elim 64 meets p in
-      let level-there = sym (ef u h) ∙ and-left (isSet 64 fresh u) (isSet 64 (getD from u 0) v) q in
+      let level-there = sym (ef u h) ∙ and-left (isSet 64 fresh u) (isSet 64 (getD reaches u 0) v) q in
       let hu : u < b .benches = ltb-true u (b .benches) (and-left (ltb u (b .benches)) (eqb (plusOf (getD level u 0) 1) i) level-there) in
       let at : plusOf (getD level u 0) 1 ≡ i = eqb-true (plusOf (getD level u 0) 1) i (and-right (ltb u (b .benches)) (eqb (plusOf (getD level u 0) 1) i) level-there) in
-      let set-there = and-right (isSet 64 fresh u) (isSet 64 (getD from u 0) v) q in
+      let set-there = and-right (isSet 64 fresh u) (isSet 64 (getD reaches u 0) v) q in
       let (j, hj, s) = any-elim (b .jobs) (lies b u v) (sym (T .entries u v hu hv) ∙ set-there) in
       let both = and-left (b .pebble j && eqb (b .place j) u) (b .allows j v) s in
       let lies-there : b .place j ≡ u = eqb-true (b .place j) u (and-right (b .pebble j) (eqb (b .place j) u) both) in
@@ -353,10 +290,10 @@ module _ (b : Board) (n : Limits) (low high weight : List ℕ) (R : Rocks b n lo
       (sym (E .same ∙ ap (λ (k : ℕ). rounds k b i (E .now-x)) none ∙ rounds-none b i (E .now-x)))
       (E .shown, active-shown (E .now-x) (E .shown .level) S)
 
-  module _ (idle : ℕ) {i turns all active reach fresh wait opened : ℕ} {from dir loads joined level joined′ level′ : List ℕ} (T : Reaches b from)
+  module _ (idle : ℕ) {i turns all active reach fresh wait opened : ℕ} {reaches dir loads joined level joined′ level′ : List ℕ} (T : Reaches b reaches)
       (E : Exploring i dir loads joined level) (in-time : i < turns) (bound : turns ≡ plusOf (n .benches) 1)
       (ei : (v : ℕ) → isSet 64 idle v ≡ (isSet 64 all v && not (isSet 64 active v)))
-      (e : (v : ℕ) → v < 64 → isSet 64 idle v ≡ true → isSet 64 reach v ≡ any 64 (λ u. isSet 64 fresh u && isSet 64 (getD from u 0) v))
+      (e : (v : ℕ) → v < 64 → isSet 64 idle v ≡ true → isSet 64 reach v ≡ any 64 (λ u. isSet 64 fresh u && isSet 64 (getD reaches u 0) v))
       (S : Sets n low high weight i all dir loads joined level active fresh wait) (O : Raised n i all active reach loads joined level opened joined′ level′) where
     opened-now : Begun b i (E .now-x) opened joined′ level′
     opened-now =
@@ -364,7 +301,7 @@ module _ (b : Board) (n : Limits) (low high weight : List ℕ) (R : Rocks b n lo
         (E .shown .seen .loaded) (E .shown .joined) (E .shown .level)
         (λ v h out.
         let small : v < 64 = omega (arith, R .few-benches) in
-        reach-shows b (R .sound) (R .few-benches) i (omega (arith, bound, R .benches)) from (E .now-x .level) level T (E .shown .level) reach fresh
+        reach-shows b (R .sound) (R .few-benches) i (omega (arith, bound, R .benches)) reaches (E .now-x .level) level T (E .shown .level) reach fresh
         (λ u h. S .freshly u h ∙ ap (λ (m : ℕ). ltb u m && eqb (plusOf (getD level u 0) 1) i) (R .benches)) v h
         (e v small (ei v ∙ and-intro (S .alls v small ∙ lt-ltb v (n .benches) (omega (arith, R .benches))) (not-intro-true out))))
 

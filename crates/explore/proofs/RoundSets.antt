@@ -10,7 +10,6 @@ use mathlib.Core.Bool.{Bool, true, false, cond, not, _&&_, _||_}
 use mathlib.Core.Logic.{inl, inr}
 use mathlib.Core.List.{List}
 use native.Mathlib.Omega.{arith}
-use lib.Bits.{bitOr}
 use lib.ListN.{length, getD, replicate, length-replicate, getD-replicate}
 use lib.Dec.{eqb, leb, ltb}
 use borrow.Author.Tests.{lt-ltb, le-ltb, eq-eqb, ne-eqb, eqb-true, le-leb, ltb-true}
@@ -23,11 +22,13 @@ use Rattle.bits.proofs.SetBits.{isSet-zero}
 use Rattle.rocks.specs.declared.rocks.Limits.{Limits}
 use Rattle.arrays.specs.Arrays.{plusOf}
 use Rattle.rocks.specs.RockArrays.{touchesAt, otherAt, withinAt, fatherAt}
-use Rattle.explore.specs.ExploreArrays.{joinsAt, fakeAt, opensAt, Grew, Waits}
-use Rattle.rocks.specs.Neighbours.{Mapped}
+use Rattle.conflict.specs.ConflictArrays.{joinsAt, fakeAt, Grew}
+use Rattle.activation.specs.ActivationArrays.{Waits}
+use Rattle.explore.specs.ExploreArrays.{opensAt}
+use Rattle.rock_graph.specs.Neighbours.{Neighbours, Touches}
 use Rattle.forced.specs.SetArrays.{Covers, Nowhere, forcesAt}
-use Rattle.rocks.proofs.RockLaws.{other-at-low, other-at-high}
-use Rattle.sets.proofs.SetLaws.{or-isSet}
+use Rattle.rocks.proofs.RockLaws.{other-at-low, other-at-high, end-below}
+use Rattle.activation.proofs.WaitLaws.{within-of, within-now, waits-left}
 
 -- ── the other end ──
 
@@ -59,19 +60,7 @@ other-back low high r v t = elim (eq-or-ne v (getD low r 0)) [
       )
 ]
 
-pub end-below : (low high : List ℕ) (m r v : ℕ) → (getD low r 0 < m) × (getD high r 0 < m) → touchesAt low high r v ≡ true → v < m
-end-below low high m r v ends t = elim (or-elim (eqb v (getD low r 0)) (eqb v (getD high r 0)) t) [
-  | inl p ↦ omega (arith, eqb-true v (getD low r 0) p, ends .0)
-  | inr p ↦ omega (arith, eqb-true v (getD high r 0) p, ends .1)
-]
-
 -- ── rounds of the exploration ──
-
-within-of : (m : ℕ) (xs ys : List ℕ) (v : ℕ) → getD xs v 0 ≡ getD ys v 0 → withinAt m xs v ≡ withinAt m ys v
-within-of m xs ys v e = ap (λ (k : ℕ). leb k m) e
-
-within-now : (m i : ℕ) (xs : List ℕ) (v : ℕ) → i ≤ m → getD xs v 0 ≡ i → withinAt m xs v ≡ true
-within-now m i xs v h e = ap (λ (k : ℕ). leb k m) e ∙ le-leb i m h
 
 within-never : (m : ℕ) (xs : List ℕ) (v : ℕ) → m ≤ 64 → getD xs v 0 ≡ plusOf m 1 → withinAt m xs v ≡ false
 within-never m xs v few e = elim (split (withinAt m xs v)) [
@@ -82,19 +71,6 @@ within-never m xs v few e = elim (split (withinAt m xs v)) [
 cond-first : (c a x b y : Bool) → b ≡ a → cond c (a && x) (b && y) ≡ true → a ≡ true
 cond-first true a x b y e p = and-left a x p
 cond-first false a x b y e p = sym e ∙ and-left b y p
-
--- Who waits after some of those who waited got round i.
-pub waits-left : (n : Limits) (i : ℕ) (joined level level′ : List ℕ) (asked left : ℕ) → i ≤ n .benches → n .benches ≤ 64 → n .benches ≤ length level
-    → ((v : ℕ) → v < length level → v < 64 → getD level′ v 0 ≡ cond (isSet 64 asked v && not (isSet 64 left v)) i (getD level v 0))
-    → Waits n joined level asked → Waits n joined level′ left
-waits-left n i joined level level′ asked left in-time few room step W v h wj wl = elim (split (isSet 64 asked v && not (isSet 64 left v))) [
-  | inl p ↦
-      clash (within-now (n .benches) i level′ v in-time (step v (omega arith) (omega arith) ∙ cond-true i (getD level v 0) p)) wl
-  | inr p ↦
-      let same = within-of (n .benches) level′ level v (step v (omega arith) (omega arith) ∙ cond-false i (getD level v 0) p) in
-      let asks = W v h wj (sym same ∙ wl) in
-      elim (split (isSet 64 left v)) [ inl q ↦ q | inr q ↦ clash (and-intro asks (not-intro-true q)) p ]
-]
 
 -- ── how a round opens ──
 
@@ -179,10 +155,10 @@ module _ (n : Limits) (low high weight : List ℕ) where
             clash q (within-of (n .benches) joined′ joined v (entered-at v h ∙ cond-false i (getD joined v 0) out) ∙ p)
       ]
 
-      pub joins-covered : (here near : List ℕ) (touched cand : ℕ) → n .rocks ≤ 64 → Mapped n low high here near all touched
-          → ((w : ℕ) → w < 64 → isSet 64 touched w ≡ true → isSet 64 cand w ≡ any 64 (λ u. isSet 64 opened u && isSet 64 (getD near u 0) w))
+      pub joins-covered : (neighbours : List ℕ) (touched cand : ℕ) → n .rocks ≤ 64 → Neighbours n low high neighbours → Touches n low high touched
+          → ((w : ℕ) → w < 64 → isSet 64 touched w ≡ true → isSet 64 cand w ≡ any 64 (λ u. isSet 64 opened u && isSet 64 (getD neighbours u 0) w))
           → Covers n low high (joinsAt (n .benches) low high dir joined′) cand
-      joins-covered here near touched cand narrow M reached r v h t p =
+      joins-covered neighbours touched cand narrow N T reached r v h t p =
           let u = otherAt low high r v in
           let (tu, back) = other-back low high r v t in
           let hv : v < n .benches = end-below low high (n .benches) r v (ends r h) t in
@@ -196,14 +172,14 @@ module _ (n : Limits) (low high weight : List ℕ) where
             | inl q ↦ clash (and-intro (not-intro-true out) (and-intro aims q)) (S .joins r v h t)
           ] in
           let small : v < 64 = omega arith in
-          let close : isSet 64 (getD near u 0) v ≡ true =
-          subst (λ (k : ℕ). isSet 64 (getD near u 0) k ≡ true) back (M .ends r u h (omega arith) (omega arith) tu (subst (λ (k : ℕ). k < 64) (sym back) small)) in
-          reached v small (M .stones r v h (omega arith) small t)
-          ∙ any-intro 64 (λ k. isSet 64 opened k && isSet 64 (getD near k 0) v) u (omega arith) (and-intro (came-in u hu before inside) close)
+          let close : isSet 64 (getD neighbours u 0) v ≡ true =
+          subst (λ (k : ℕ). isSet 64 (getD neighbours u 0) k ≡ true) back (N r u h (omega arith) (omega arith) tu (subst (λ (k : ℕ). k < 64) (sym back) small)) in
+          reached v small (T r v h (omega arith) small t)
+          ∙ any-intro 64 (λ k. isSet 64 opened k && isSet 64 (getD neighbours k 0) v) u (omega arith) (and-intro (came-in u hu before inside) close)
 
-      pub fakes-covered : (here near : List ℕ) (touched fakes : ℕ) → n .rocks ≤ 64 → Mapped n low high here near all touched
+      pub fakes-covered : (touched fakes : ℕ) → n .rocks ≤ 64 → Touches n low high touched
           → ((w : ℕ) → isSet 64 fakes w ≡ (isSet 64 opened w && isSet 64 touched w)) → Covers n low high (fakeAt (n .benches) dir joined′) fakes
-      fakes-covered here near touched fakes narrow M both r v h t p =
+      fakes-covered touched fakes narrow T both r v h t p =
           let hv : v < n .benches = end-below low high (n .benches) r v (ends r h) t in
           let idle = and-left (eqb (getD dir r 0) 0) (withinAt (n .benches) joined′ v) p in
           let inside = and-right (eqb (getD dir r 0) 0) (withinAt (n .benches) joined′ v) p in
@@ -211,10 +187,11 @@ module _ (n : Limits) (low high weight : List ℕ) where
             | inr q ↦ q
             | inl q ↦ clash (and-intro idle q) (S .fakes r v h t)
           ] in
-          both v ∙ and-intro (came-in v hv before inside) (M .stones r v h (omega arith) (omega arith) t)
+          both v ∙ and-intro (came-in v hv before inside) (T r v h (omega arith) (omega arith) t)
 
-      module _ (grown rest asked : ℕ) (joined″ : List ℕ) (G : Grew n joined′ joined″ grown)
-          (er : (v : ℕ) → isSet 64 rest v ≡ (isSet 64 (bitOr wait grown) v && not (isSet 64 opened v)))
+      module _ (grown waiting rest asked : ℕ) (joined″ : List ℕ) (G : Grew n joined′ joined″ grown)
+          (eg : (v : ℕ) → isSet 64 waiting v ≡ (isSet 64 wait v || isSet 64 grown v))
+          (er : (v : ℕ) → isSet 64 rest v ≡ (isSet 64 waiting v && not (isSet 64 opened v)))
           (ea : (v : ℕ) → isSet 64 asked v ≡ (isSet 64 all v && isSet 64 rest v)) where
         pub waits-asked : Waits n joined″ level′ asked
         waits-asked v h wj wl =
@@ -230,15 +207,13 @@ module _ (n : Limits) (low high weight : List ℕ) where
                   (entered-at v h ∙ cond-false i (getD joined v 0) (and-false-left (not (withinAt (n .benches) joined v)) shut)) in
                   or-left (isSet 64 grown v) (S .waits v h (sym same ∙ q) low-level)
             ] in
-            ea v ∙ and-intro (S .alls v (omega arith) ∙ lt-ltb v (n .benches) h) (er v ∙ and-intro (or-isSet wait grown v ∙ some) (not-intro-true shut))
+            ea v ∙ and-intro (S .alls v (omega arith) ∙ lt-ltb v (n .benches) h) (er v ∙ and-intro (eg v ∙ some) (not-intro-true shut))
 
         module _ (left went fresh′ active′ : ℕ) (dir′ load′ level″ : List ℕ)
             (step : (v : ℕ) → v < length level′ → v < 64 → getD level″ v 0 ≡ cond (isSet 64 asked v && not (isSet 64 left v)) i (getD level′ v 0))
             (ew : (v : ℕ) → isSet 64 went v ≡ (isSet 64 asked v && not (isSet 64 left v)))
-            (ef : fresh′ ≡ bitOr opened went) (en : active′ ≡ bitOr active fresh′) where
-          is-fresh : (v : ℕ) → isSet 64 fresh′ v ≡ (isSet 64 opened v || isSet 64 went v)
-          is-fresh v = ap (λ (k : ℕ). isSet 64 k v) ef ∙ or-isSet opened went v
-
+            (is-fresh : (v : ℕ) → isSet 64 fresh′ v ≡ (isSet 64 opened v || isSet 64 went v))
+            (is-active : (v : ℕ) → isSet 64 active′ v ≡ (isSet 64 active v || isSet 64 fresh′ v)) where
           after-went : (v : ℕ) → v < n .benches → getD level″ v 0 ≡ cond (isSet 64 went v) i (getD level′ v 0)
           after-went v h =
               step v (omega (arith, S .room-level, O .long-level)) (omega arith) ∙ ap (λ (c : Bool). cond c i (getD level′ v 0)) (sym (ew v))
@@ -268,7 +243,7 @@ module _ (n : Limits) (low high weight : List ℕ) where
                 room-joined = omega (arith, lj, O .long-joined, S .room-joined);
                 room-level = omega (arith, ll, O .long-level, S .room-level);
                 alls = S .alls;
-                actives = λ v h. ap (λ (k : ℕ). isSet 64 k v) en ∙ or-isSet active fresh′ v ∙ elim (split (isSet 64 fresh′ v)) [
+                actives = λ v h. is-active v ∙ elim (split (isSet 64 fresh′ v)) [
                   | inl p ↦
                       or-right (isSet 64 active v) p
                       ∙ sym (within-now (n .benches) i level″ v in-time (after-round v h ∙ cond-true i (getD level v 0) p))
@@ -277,7 +252,7 @@ module _ (n : Limits) (low high weight : List ℕ) where
                       ∙ sym (within-of (n .benches) level″ level v (after-round v h ∙ cond-false i (getD level v 0) p))
                 ];
                 active-below = λ v h p.
-                    elim (or-elim (isSet 64 active v) (isSet 64 fresh′ v) (sym (ap (λ (k : ℕ). isSet 64 k v) en ∙ or-isSet active fresh′ v) ∙ p)) [
+                    elim (or-elim (isSet 64 active v) (isSet 64 fresh′ v) (sym (is-active v) ∙ p)) [
                       | inl q ↦ S .active-below v h q
                       | inr q ↦ fresh-below v h q
                     ];

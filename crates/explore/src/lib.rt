@@ -1,6 +1,4 @@
-// EXPLORE2 on arrays (figure 4.6): the conflict set, activation, and the rounds.
-mod activate;
-mod conflict;
+// EXPLORE2 on arrays (figure 4.6): its rounds.
 mod rounds;
 
 pub use rounds::explore;

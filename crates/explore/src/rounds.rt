@@ -1,6 +1,4 @@
 // EXPLORE2: the rounds, with the benches in reach of the round before.
-use crate::activate;
-use crate::conflict;
 use rocks::Limits;
 ghost use mathlib.Core.Path.{_≡_};
 ghost use Prim.Native.Nat.{ℕ, _<_, _≤_};
@@ -11,9 +9,9 @@ ghost use Rattle.bits.specs.Bits.{isSet};
 ghost use Rattle.algorithm.specs.Board.{Board};
 ghost use Rattle.algorithm.specs.Explore.{explore as explored};
 ghost use Rattle.rocks.specs.RockArrays.{withinAt};
-ghost use Rattle.rocks.specs.BoardArrays.{rocksOf, Rocks, Owned, Pebbles};
+ghost use Rattle.rocks.specs.BoardArrays.{Owned, Pebbles};
 ghost use Rattle.explore.specs.ExploreArrays.{addedAt, opensAt, Reaches, Blank};
-ghost use Rattle.rocks.specs.Neighbours.{Mapped};
+ghost use Rattle.rock_graph.specs.Graph.{RockGraph};
 ghost use Rattle.rocks.specs.Shown.{Shown, ShowsActive};
 
 // Job j, where it is a pebble, adds the benches that it allows to the set of the bench on which it lies.
@@ -137,18 +135,11 @@ fn open_round<'a>(
 }
 
 // explore b, where dir is 0 everywhere, load is own, and joined and level are never everywhere.
-// Given: the rocks at each bench, their other ends, all benches, and those with a rock.
 // Kept in the rounds: the neutral rocks, the activated benches, those of the round before, and those of the conflict
 // set that may be activated yet.
 pub fn explore<'a>(
     n: Limits,
-    low: &'a [usize],
-    high: &'a [usize],
-    weight: &'a [usize],
-    incident: &'a [usize],
-    neighbours: &'a [usize],
-    all: usize,
-    touched: usize,
+    graph: &'a [usize],
     own: &'a [usize],
     reach: &'a [usize],
     dir: &mut [usize],
@@ -156,25 +147,15 @@ pub fn explore<'a>(
     joined: &mut [usize],
     level: &mut [usize],
 ) -> usize
-    ensures { λ r. ⌜ ((b : Board) → Rocks b n (now (low .entry)) (now (high .entry)) (now (weight .entry))
-        → Mapped n (now (low .entry)) (now (high .entry)) (now (incident .entry)) (now (neighbours .entry)) all touched
-        → Owned b (now (own .entry)) → Reaches b (now (reach .entry)) → rocksOf b ≤ 64
+    ensures { λ r. ⌜ ((b : Board) → RockGraph b n (now (graph .entry)) → Owned b (now (own .entry))
+        → Reaches b (now (reach .entry))
         → Blank n (now (own .entry)) (now (dir .entry)) (now (load .entry)) (now (joined .entry)) (now (level .entry))
         → Shown b (explored b) (now (dir .exit)) (now (load .exit)) (now (joined .exit)) (now (level .exit))
         × ShowsActive b (explored b) r) ⌝ }
 {
-    let all_rocks = sets::everywhere(n.rocks);
-    let f = forced::force(
-        n,
-        low,
-        high,
-        weight,
-        incident,
-        touched,
-        all_rocks,
-        dir,
-        load,
-    );
+    let all = rock_graph::every_bench(graph);
+    let touched = rock_graph::touched(graph);
+    let f = forced::force(n, graph, touched, rock_graph::every_rock(graph), dir, load);
     let mut neutral = f.neutral;
     let turns = arrays::plus(n.benches, 1);
     let mut active = 0;
@@ -188,15 +169,11 @@ pub fn explore<'a>(
         if opened == 0 {
             return active;
         }
-        let cand = sets::reach_of(neighbours, opened, touched);
+        let cand = rock_graph::neighbours_of(graph, opened, touched);
         let grown = conflict::construct(
             n,
             i,
-            low,
-            high,
-            weight,
-            incident,
-            neighbours,
+            graph,
             cand,
             sets::common(opened, touched),
             neutral,
@@ -205,22 +182,10 @@ pub fn explore<'a>(
             joined,
         );
         neutral = grown.neutral;
-        let asked = sets::common(all, sets::less(wait | grown.benches, opened));
-        wait = activate::activate(
-            n,
-            i,
-            low,
-            high,
-            weight,
-            incident,
-            asked,
-            own,
-            dir,
-            joined,
-            level,
-        );
-        fresh = opened | sets::less(asked, wait);
-        active = active | fresh;
+        let asked = sets::common(all, sets::less(sets::either(wait, grown.benches), opened));
+        wait = activation::activate(n, i, graph, asked, own, dir, joined, level);
+        fresh = sets::either(opened, sets::less(asked, wait));
+        active = sets::either(active, fresh);
         i += 1;
     }
     active

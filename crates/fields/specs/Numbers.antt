@@ -6,7 +6,8 @@ use Prim.Native.Nat.{ℕ}
 use Rattle.fields.specs.declared.fault.Fault.{Fault}
 use Rattle.fields.specs.declared.fault.Fault.the-variants.{TooLong, Truncated, UnknownKind}
 use Rattle.fields.specs.declared.fault.Fault.the-variants.{Misplaced, WrongLength, SpareBit, BenchCount}
-use Rattle.fields.specs.declared.fault.Fault.the-variants.{Share, JobCount, Minutes, Allowed, HeavyHyperEdge, Table}
+use Rattle.fields.specs.declared.fault.Fault.the-variants.{Share, JobCount, Minutes, Allowed}
+use Rattle.fields.specs.declared.fault.Fault.the-variants.{HeavyHyperEdge, Table}
 
 abbrev pub numberOf : Fault → ℕ
 -- "The sheet is longer than 65,536 bytes (place 0)."

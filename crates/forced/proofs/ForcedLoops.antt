@@ -24,7 +24,7 @@ use Rattle.arrays.specs.Arrays.{plusOf}
 use Rattle.rocks.specs.RockArrays.{touchesAt, otherAt}
 use Rattle.forced.specs.SetArrays.{forcedAt, forcesAt, Covers, Nowhere, Tails}
 use Rattle.rocks.specs.BoardArrays.{rocksOf, rockAt, Rocks, Seen}
-use Rattle.rocks.specs.Neighbours.{Incident}
+use Rattle.rock_graph.specs.Neighbours.{Incident}
 use Rattle.forced.specs.CandidateArrays.{Neutral, rockOf, benchOf, Left, CoversBut}
 use Rattle.sets.proofs.SetLaws.{or-isSet}
 use Rattle.forced.proofs.CandidateLaws.{covers-left, rock-ends, few-rocks, few-benches, nowhere}
@@ -33,7 +33,7 @@ use Rattle.forced.proofs.ForcedRun.{Inner, inner-starts, inner-next, in
 use Rattle.rocks.proofs.BoardLaws.{directs-seen}
 use Rattle.forced.proofs.ForcedSets.{Inside, forces-marked, forced-marked, forced-forces, bench-same, left-same, search-found, search-none, bench-below, other-near, forces-after, tails-next, nowhere-forced}
 
-module _ (b : Board) (n : Limits) (low high weight : List ℕ) (R : Rocks b n low high weight) (here : List ℕ) (few : rocksOf b ≤ 64) (H : Incident n low high here) where
+module _ (b : Board) (n : Limits) (low high weight : List ℕ) (R : Rocks b n low high weight) (incident : List ℕ) (few : rocksOf b ≤ 64) (H : Incident n low high incident) where
   -- ── the inner loop ──
 
   module _ (dirs : Directions) (first watch : ℕ) (dir₀ : List ℕ) (tails₀ : ℕ) where
@@ -82,16 +82,16 @@ module _ (b : Board) (n : Limits) (low high weight : List ℕ) (R : Rocks b n lo
 
     module _ {k : ℕ} {dir loads : List ℕ} {cand tails neutral : ℕ} (I : InnerSets k dir loads cand tails neutral) where
       -- What a bench of cand or watch is after the benches passed are left out.
-      rest-left : (left : ℕ) → Left here (forcesAt (n .bound) weight dir loads) cand left
+      rest-left : (left : ℕ) → Left incident (forcesAt (n .bound) weight dir loads) cand left
           → (r v : ℕ) → r < n .rocks → touchesAt low high r v ≡ true → forcesAt (n .bound) weight dir loads r v ≡ true
           → (isSet 64 watch v || isSet 64 left v) ≡ true
       rest-left left L r v l t p = elim (or-elim (isSet 64 watch v) (isSet 64 cand v) (I .rest r v l t p)) [
         | inl q ↦ or-left (isSet 64 left v) q
         | inr q ↦
             or-right (isSet 64 watch v)
-            (covers-left n low high here H (few-rocks b n low high weight R few) (rock-ends b n low high weight R) (few-benches b n low high weight R)
+            (covers-left n low high incident H (few-rocks b n low high weight R few) (rock-ends b n low high weight R) (few-benches b n low high weight R)
             (forcedAt (n .bound) weight dir loads (I .marked)) cand (I .covers) left
-            (left-same (n .bound) weight dir loads (I .marked) here cand (I .inside) left L) r v l t
+            (left-same (n .bound) weight dir loads (I .marked) incident cand (I .inside) left L) r v l t
             (sym (forces-marked (n .bound) weight dir loads (I .marked) r v (I .inside v (bench-below b n low high weight R r v l t) q)) ∙ p))
       ]
 
@@ -101,16 +101,16 @@ module _ (b : Board) (n : Limits) (low high weight : List ℕ) (R : Rocks b n lo
       inner-sets-spent none =
           (inner-spent b n low high weight R (I .loop) none, λ r v l t p. or-isSet watch cand v ∙ I .rest r v l t p, I .away, I .free)
 
-      module _ (v : ℕ) (e : v ≡ benchOf here (forcesAt (n .bound) weight dir loads) cand) where
+      module _ (v : ℕ) (e : v ≡ benchOf incident (forcesAt (n .bound) weight dir loads) cand) where
         pub inner-sets-ends : v ≡ 64
             → Seen b (inner (b .jobs) b dirs (set (nobody b) first true)) dir loads × Covers n low high (forcesAt (n .bound) weight dir loads) watch
             × ((dir₁ : List ℕ) → Tails n low high dir₁ dir₀ tails₀ → Tails n low high dir₁ dir tails) × Neutral n dir neutral
         inner-sets-ends stop =
             let P : ℕ → ℕ → Bool = forcedAt (n .bound) weight dir loads (I .marked) in
-            let none = nowhere n low high here H (few-rocks b n low high weight R few) (rock-ends b n low high weight R) (few-benches b n low high weight R)
-            P cand (I .covers) v (e ∙ bench-same (n .bound) weight dir loads (I .marked) here cand (I .inside)) (omega arith) in (
+            let none = nowhere n low high incident H (few-rocks b n low high weight R few) (rock-ends b n low high weight R) (few-benches b n low high weight R)
+            P cand (I .covers) v (e ∙ bench-same (n .bound) weight dir loads (I .marked) incident cand (I .inside)) (omega arith) in (
               inner-ends b n low high weight R (I .loop) (n .benches)
-                  (search-none b n low high weight R here few H dir loads (I .marked) cand (I .covers) (I .inside) v e stop) refl,
+                  (search-none b n low high weight R incident few H dir loads (I .marked) cand (I .covers) (I .inside) v e stop) refl,
               λ r w l t p. elim (or-elim (isSet 64 watch w) (isSet 64 cand w) (I .rest r w l t p)) [
                 | inl q ↦ q
                 | inr q ↦
@@ -122,13 +122,13 @@ module _ (b : Board) (n : Limits) (low high weight : List ℕ) (R : Rocks b n lo
             )
 
         pub inner-sets-next : (r u left cand′ tails′ one neutral′ : ℕ) {dir′ loads′ : List ℕ}
-            → (v < 64 → (r < 64) × (r ≡ rockOf here (forcesAt (n .bound) weight dir loads) v))
-            → Left here (forcesAt (n .bound) weight dir loads) cand left → v ≢ 64 → 0 < k
+            → (v < 64 → (r < 64) × (r ≡ rockOf incident (forcesAt (n .bound) weight dir loads) v))
+            → Left incident (forcesAt (n .bound) weight dir loads) cand left → v ≢ 64 → 0 < k
             → u ≡ otherAt low high r v → dir′ ≡ set dir r (plusOf u 1) → loads′ ≡ set loads u (plusOf (getD loads u 0) (getD weight r 0))
             → WithOne tails tails′ v → WithOne 0 one r → LessOne neutral neutral′ one → WithOne left cand′ u
             → InnerSets (k - 1) dir′ loads′ cand′ tails′ neutral′
         inner-sets-next r u left cand′ tails′ one neutral′ {dir′} {loads′} found L ne more at ed el tail single less come =
-            let S = search-found b n low high weight R here few H dir loads (I .marked) cand (I .covers) (I .inside) v e r found ne in
+            let S = search-found b n low high weight R incident few H dir loads (I .marked) cand (I .covers) (I .inside) v e r found ne in
             let far : u < 64 = subst (λ (x : ℕ). x < 64) (sym at) (other-near b n low high weight R r v (S .below) (S .touched)) in
             let room : r < length dir = omega (arith, S .below, R .rocks, I .loop .seen .directed .room) in
             let x : ℕ = plusOf (getD loads u 0) (getD weight r 0) in
@@ -136,9 +136,9 @@ module _ (b : Board) (n : Limits) (low high weight : List ℕ) (R : Rocks b n lo
             let before : (s w : ℕ) → forcesAt (n .bound) weight dir′ loads′ s w ≡ true → w ≢ u → forcesAt (n .bound) weight dir loads s w ≡ true =
             λ s w p apart. forces-after b n low high weight R r v u (S .below) (S .touched) at dir room loads x s w
             (rw (← ed, ← el) p) apart in
-            let kept = covers-left n low high here H (few-rocks b n low high weight R few) (rock-ends b n low high weight R) (few-benches b n low high weight R)
+            let kept = covers-left n low high incident H (few-rocks b n low high weight R few) (rock-ends b n low high weight R) (few-benches b n low high weight R)
             (forcedAt (n .bound) weight dir loads (I .marked)) cand (I .covers) left
-            (left-same (n .bound) weight dir loads (I .marked) here cand (I .inside) left L) in
+            (left-same (n .bound) weight dir loads (I .marked) incident cand (I .inside) left L) in
             record {
               marked = ms;
               long = length-set (I .marked) u true ∙ I .long;
@@ -210,18 +210,18 @@ module _ (b : Board) (n : Limits) (low high weight : List ℕ) (R : Rocks b n lo
           let S = outer-spent b n low high weight R (O .loop) none in
           (S, O .away, nowhere-forced b n low high weight R dirs dir loads (O .pointed) S, O .free)
 
-      module _ (v : ℕ) (e : v ≡ benchOf here (forcesAt (n .bound) weight dir loads) left) where
+      module _ (v : ℕ) (e : v ≡ benchOf incident (forcesAt (n .bound) weight dir loads) left) where
         pub outer-sets-ends : v ≡ 64
             → Seen b (forcedOrientations b dirs) dir loads × Tails n low high dir₀ dir tails × Nowhere n low high (forcesAt (n .bound) weight dir loads)
             × Neutral n dir neutral
         outer-sets-ends stop =
             let S = outer-ends b n low high weight R (O .loop) (n .benches) (replicate 64 true) (λ u h. everywhere u (omega (arith, R .few-benches)))
-            (search-none b n low high weight R here few H dir loads (replicate 64 true) left all-covers (λ u h p. everywhere u h) v e stop) refl in
+            (search-none b n low high weight R incident few H dir loads (replicate 64 true) left all-covers (λ u h p. everywhere u h) v e stop) refl in
             (S, O .away, nowhere-forced b n low high weight R dirs dir loads (O .pointed) S, O .free)
 
         pub outer-sets-next : (r u left₁ tails₁ one neutral₁ left₂ tails₂ neutral₂ : ℕ) (dir₁ loads₁ : List ℕ) {dir₂ loads₂ : List ℕ}
-            → (v < 64 → (r < 64) × (r ≡ rockOf here (forcesAt (n .bound) weight dir loads) v))
-            → Left here (forcesAt (n .bound) weight dir loads) left left₁ → v ≢ 64 → 0 < k
+            → (v < 64 → (r < 64) × (r ≡ rockOf incident (forcesAt (n .bound) weight dir loads) v))
+            → Left incident (forcesAt (n .bound) weight dir loads) left left₁ → v ≢ 64 → 0 < k
             → u ≡ otherAt low high r v → dir₁ ≡ set dir r (plusOf u 1) → loads₁ ≡ set loads u (plusOf (getD loads u 0) (getD weight r 0))
             → WithOne tails tails₁ v → WithOne 0 one r → LessOne neutral neutral₁ one
             → ((x : Directions) → Neutral n dir₁ neutral₁ → CoversBut n low high (forcesAt (n .bound) weight dir₁ loads₁) left₁ u → u < 64 → Seen b x dir₁ loads₁
@@ -230,10 +230,10 @@ module _ (b : Board) (n : Limits) (low high weight : List ℕ) (R : Rocks b n lo
             → OuterSets (k - 1) dir₂ loads₂ left₂ tails₂ neutral₂
         outer-sets-next r u left₁ tails₁ one neutral₁ left₂ tails₂ neutral₂ dir₁ loads₁ {dir₂} {loads₂} found L ne more at ed el tail single less call =
             let ms : List Bool = replicate 64 true in
-            let S = search-found b n low high weight R here few H dir loads ms left all-covers (λ w h p. everywhere w h) v e r found ne in
+            let S = search-found b n low high weight R incident few H dir loads ms left all-covers (λ w h p. everywhere w h) v e r found ne in
             let far : u < 64 = subst (λ (x : ℕ). x < 64) (sym at) (other-near b n low high weight R r v (S .below) (S .touched)) in
             let room : r < length dir = omega (arith, S .below, R .rocks, O .loop .seen .directed .room) in
-            let kept = covers-left n low high here H (few-rocks b n low high weight R few) (rock-ends b n low high weight R) (few-benches b n low high weight R)
+            let kept = covers-left n low high incident H (few-rocks b n low high weight R few) (rock-ends b n low high weight R) (few-benches b n low high weight R)
             (forcesAt (n .bound) weight dir loads) left (O .covers) left₁ L in
             let but : CoversBut n low high (forcesAt (n .bound) weight dir₁ loads₁) left₁ u =
             λ s w l t p. elim (eq-or-ne w u) [

@@ -20,10 +20,10 @@ use Rattle.algorithm.specs.Forced.{forces, direct, forcing, markedForcing, forc
 use Rattle.arrays.specs.Arrays.{plusOf}
 use Rattle.rocks.specs.RockArrays.{lowestEnd, touchesAt, otherAt}
 use Rattle.forced.specs.SetArrays.{forcedAt}
-use Rattle.rocks.specs.BoardArrays.{rocksOf, rockAt, Rocks, Seen, Marked}
+use Rattle.rocks.specs.BoardArrays.{rocksOf, rockAt, Rocks, Seen}
 use Rattle.algorithm.proofs.StepLaws.{forces-touches, forces-neutral}
 use Rattle.algorithm.proofs.TurnLaws.{forcedJob-forces, inner-stop, inner-go, outer-stop, outer-go}
-use Rattle.rocks.proofs.MarkLaws.{marked-none, marked-set}
+use Rattle.forced.proofs.MarkLaws.{Marked, marked-none, marked-set}
 use Rattle.rocks.proofs.ScanLaws.{board-lowest, board-first, rock-below}
 use Rattle.rocks.proofs.BoardLaws.{other-at, directs-seen}
 

@@ -28,8 +28,9 @@ use Rattle.arrays.specs.Arrays.{plusOf}
 use Rattle.rocks.specs.RockArrays.{lowestEnd, touchesAt, otherAt}
 use Rattle.forced.specs.SetArrays.{forcedAt, forcesAt, Covers, Nowhere, Tails}
 use Rattle.rocks.specs.BoardArrays.{rocksOf, rockAt, Rocks, Seen}
-use Rattle.rocks.specs.Neighbours.{Incident}
+use Rattle.rock_graph.specs.Neighbours.{Incident}
 use Rattle.forced.specs.CandidateArrays.{someRock, rockOf, benchOf, Left}
+use Rattle.rocks.proofs.RockLaws.{end-below}
 use Rattle.rocks.proofs.ScanLaws.{rock-below, rock-holds, touches-at}
 use Rattle.forced.proofs.CandidateLaws.{rock-met, first-rock, candidate-below, candidate-some, candidate-lowest, candidate-none, rock-ends, few-rocks, few-benches}
 
@@ -43,11 +44,11 @@ and-middle false m c e = refl
 abbrev pub Inside : ℕ → List Bool → Type 0
 Inside cand marked = (v : ℕ) → v < 64 → isSet 64 cand v ≡ true → getD marked v false ≡ true
 
-pub bench-most : (here : List ℕ) (P : ℕ → ℕ → Bool) (cand v : ℕ) → v ≡ benchOf here P cand → v ≢ 64 → v < 64
+pub bench-most : (incident : List ℕ) (P : ℕ → ℕ → Bool) (cand v : ℕ) → v ≡ benchOf incident P cand → v ≢ 64 → v < 64
 unfolding benchOf
-bench-most here P cand v e ne = elim (lt-or-le v 64) [
+bench-most incident P cand v e ne = elim (lt-or-le v 64) [
   | inl h ↦ h
-  | inr h ↦ absurd (ne (omega (arith, e, least-le 64 (λ u. isSet 64 cand u && someRock here P u))))
+  | inr h ↦ absurd (ne (omega (arith, e, least-le 64 (λ u. isSet 64 cand u && someRock incident P u))))
 ]
 
 module _ (bound : ℕ) (weight dir loads : List ℕ) (marked : List Bool) where
@@ -68,41 +69,35 @@ module _ (bound : ℕ) (weight dir loads : List ℕ) (marked : List Bool) where
   pub forced-forces : (r v : ℕ) → M r v ≡ true → F r v ≡ true
   forced-forces r v p = forces-marked r v (forced-marked r v p) ∙ p
 
-  module _ (here : List ℕ) (cand : ℕ) (I : Inside cand marked) where
-    listed-same : (v : ℕ) → v < 64 → isSet 64 cand v ≡ true → (r : ℕ) → (isSet 64 (getD here v 0) r && F r v) ≡ (isSet 64 (getD here v 0) r && M r v)
-    listed-same v h p r = ap (λ (x : Bool). isSet 64 (getD here v 0) r && x) (forces-marked r v (I v h p))
+  module _ (incident : List ℕ) (cand : ℕ) (I : Inside cand marked) where
+    listed-same : (v : ℕ) → v < 64 → isSet 64 cand v ≡ true → (r : ℕ) → (isSet 64 (getD incident v 0) r && F r v) ≡ (isSet 64 (getD incident v 0) r && M r v)
+    listed-same v h p r = ap (λ (x : Bool). isSet 64 (getD incident v 0) r && x) (forces-marked r v (I v h p))
 
-    some-same : (v : ℕ) → v < 64 → isSet 64 cand v ≡ true → someRock here F v ≡ someRock here M v
+    some-same : (v : ℕ) → v < 64 → isSet 64 cand v ≡ true → someRock incident F v ≡ someRock incident M v
     unfolding someRock
     some-same v h p =
-        any-cong 64 (λ r. isSet 64 (getD here v 0) r && F r v) (λ r. isSet 64 (getD here v 0) r && M r v) (λ r l. listed-same v h p r)
+        any-cong 64 (λ r. isSet 64 (getD incident v 0) r && F r v) (λ r. isSet 64 (getD incident v 0) r && M r v) (λ r l. listed-same v h p r)
 
-    pub rock-same : (v : ℕ) → v < 64 → isSet 64 cand v ≡ true → rockOf here F v ≡ rockOf here M v
+    pub rock-same : (v : ℕ) → v < 64 → isSet 64 cand v ≡ true → rockOf incident F v ≡ rockOf incident M v
     unfolding rockOf
     rock-same v h p =
-        least-cong 64 (λ r. isSet 64 (getD here v 0) r && F r v) (λ r. isSet 64 (getD here v 0) r && M r v) (λ r l. listed-same v h p r)
+        least-cong 64 (λ r. isSet 64 (getD incident v 0) r && F r v) (λ r. isSet 64 (getD incident v 0) r && M r v) (λ r l. listed-same v h p r)
 
-    pub bench-same : benchOf here F cand ≡ benchOf here M cand
+    pub bench-same : benchOf incident F cand ≡ benchOf incident M cand
     unfolding benchOf
-    bench-same = least-cong 64 (λ v. isSet 64 cand v && someRock here F v) (λ v. isSet 64 cand v && someRock here M v) (λ v h. elim (split (isSet 64 cand v)) [
+    bench-same = least-cong 64 (λ v. isSet 64 cand v && someRock incident F v) (λ v. isSet 64 cand v && someRock incident M v) (λ v h. elim (split (isSet 64 cand v)) [
       | inl p ↦ ap (λ (x : Bool). isSet 64 cand v && x) (some-same v h p)
-      | inr p ↦ and-false-left (someRock here F v) p ∙ sym (and-false-left (someRock here M v) p)
+      | inr p ↦ and-false-left (someRock incident F v) p ∙ sym (and-false-left (someRock incident M v) p)
     ])
 
-    pub left-same : (left : ℕ) → Left here F cand left → Left here M cand left
+    pub left-same : (left : ℕ) → Left incident F cand left → Left incident M cand left
     left-same left L = record { inside = L .inside; passed = λ u h p q. sym (some-same u h p) ∙ L .passed u h p q }
 
 module _ (b : Board) (n : Limits) (low high weight : List ℕ) (R : Rocks b n low high weight) where
   -- ── what a search finds ──
 
-  end-at : (r v : ℕ) → r < n .rocks → touchesAt low high r v ≡ true → v < n .benches
-  end-at r v h t = elim (or-elim (eqb v (getD low r 0)) (eqb v (getD high r 0)) t) [
-    | inl p ↦ omega (arith, eqb-true v (getD low r 0) p, rock-ends b n low high weight R r h .0)
-    | inr p ↦ omega (arith, eqb-true v (getD high r 0) p, rock-ends b n low high weight R r h .1)
-  ]
-
   pub bench-below : (r v : ℕ) → r < n .rocks → touchesAt low high r v ≡ true → v < 64
-  bench-below r v h t = omega (arith, end-at r v h t, few-benches b n low high weight R)
+  bench-below r v h t = omega (arith, end-below low high (n .benches) r v (rock-ends b n low high weight R r h) t, few-benches b n low high weight R)
 
   pub record Source (dir loads : List ℕ) (marked : List Bool) (v r : ℕ) : Type 0 where
     pub lowest : v ≡ lowestEnd (n .benches) (n .rocks) low high (forcedAt (n .bound) weight dir loads marked)
@@ -112,35 +107,35 @@ module _ (b : Board) (n : Limits) (low high weight : List ℕ) (R : Rocks b n lo
     pub touched : touchesAt low high r v ≡ true
     pub near : v < 64
 
-  module _ (here : List ℕ) (few : rocksOf b ≤ 64) (H : Incident n low high here) (dir loads : List ℕ) (marked : List Bool) (cand : ℕ)
+  module _ (incident : List ℕ) (few : rocksOf b ≤ 64) (H : Incident n low high incident) (dir loads : List ℕ) (marked : List Bool) (cand : ℕ)
       (C : Covers n low high (forcedAt (n .bound) weight dir loads marked) cand) (I : Inside cand marked) (v : ℕ)
-      (e : v ≡ benchOf here (forcesAt (n .bound) weight dir loads) cand) where
+      (e : v ≡ benchOf incident (forcesAt (n .bound) weight dir loads) cand) where
     abbrev P : ℕ → ℕ → Bool
     P = forcedAt (n .bound) weight dir loads marked
 
     ends : (r : ℕ) → r < n .rocks → (getD low r 0 < n .benches) × (getD high r 0 < n .benches)
     ends = rock-ends b n low high weight R
 
-    at : v ≡ benchOf here P cand
-    at = e ∙ bench-same (n .bound) weight dir loads marked here cand I
+    at : v ≡ benchOf incident P cand
+    at = e ∙ bench-same (n .bound) weight dir loads marked incident cand I
 
-    pub search-found : (r : ℕ) → (v < 64 → (r < 64) × (r ≡ rockOf here (forcesAt (n .bound) weight dir loads) v)) → v ≢ 64 → Source dir loads marked v r
+    pub search-found : (r : ℕ) → (v < 64 → (r < 64) × (r ≡ rockOf incident (forcesAt (n .bound) weight dir loads) v)) → v ≢ 64 → Source dir loads marked v r
     search-found r found ne =
-        let h : v < 64 = bench-most here P cand v at ne in
-        let is-cand = candidate-some n low high here H (few-rocks b n low high weight R few) ends (few-benches b n low high weight R) P cand C v at h .0 in
-        let rock : r ≡ rockOf here P v = found h .1 ∙ rock-same (n .bound) weight dir loads marked here cand I v h is-cand in
-        let met = rock-met n low high here H (few-rocks b n low high weight R few) ends (few-benches b n low high weight R) P v r h rock (found h .0) in
+        let h : v < 64 = bench-most incident P cand v at ne in
+        let is-cand = candidate-some n low high incident H (few-rocks b n low high weight R few) ends (few-benches b n low high weight R) P cand C v at h .0 in
+        let rock : r ≡ rockOf incident P v = found h .1 ∙ rock-same (n .bound) weight dir loads marked incident cand I v h is-cand in
+        let met = rock-met n low high incident H (few-rocks b n low high weight R few) ends (few-benches b n low high weight R) P v r h rock (found h .0) in
         record {
-          lowest = candidate-lowest n low high here H (few-rocks b n low high weight R few) ends (few-benches b n low high weight R) P cand C v at h;
-          some = λ q. omega (arith, candidate-below n low high here H (few-rocks b n low high weight R few) ends (few-benches b n low high weight R) P cand C v at h);
-          first = first-rock n low high here H (few-rocks b n low high weight R few) ends (few-benches b n low high weight R) P v r h rock (found h .0);
+          lowest = candidate-lowest n low high incident H (few-rocks b n low high weight R few) ends (few-benches b n low high weight R) P cand C v at h;
+          some = λ q. omega (arith, candidate-below n low high incident H (few-rocks b n low high weight R few) ends (few-benches b n low high weight R) P cand C v at h);
+          first = first-rock n low high incident H (few-rocks b n low high weight R few) ends (few-benches b n low high weight R) P v r h rock (found h .0);
           below = met .below;
           touched = met .touched;
           near = h;
         }
 
     pub search-none : v ≡ 64 → n .benches ≡ lowestEnd (n .benches) (n .rocks) low high P
-    search-none q = candidate-none n low high here H (few-rocks b n low high weight R few) ends (few-benches b n low high weight R) P cand C v at (omega arith)
+    search-none q = candidate-none n low high incident H (few-rocks b n low high weight R few) ends (few-benches b n low high weight R) P cand C v at (omega arith)
 
   -- ── after a rock is directed ──
 
@@ -223,7 +218,7 @@ module _ (b : Board) (n : Limits) (low high weight : List ℕ) (R : Rocks b n lo
       let l : r < rocksOf b = omega (arith, R .rocks) in
       let j = rockAt b r in
       let D = forcedOrientations b dirs in
-      let hv : v < b .benches = subst (λ (k : ℕ). v < k) (R .benches) (end-at r v h t) in
+      let hv : v < b .benches = subst (λ (k : ℕ). v < k) (R .benches) (end-below low high (n .benches) r v (rock-ends b n low high weight R r h) t) in
       let there : touches b j v ≡ true = sym (touches-at b n low high weight R r v l) ∙ t in
       let still = outer-stable b (R .sound) (b .jobs) dirs pointed (count-le (b .jobs) (neutral dirs)) v hv in
       rw (S .directed .entries r l, S .loaded .entries v hv, R .weights r l, R .bound)

@@ -3,3 +3,4 @@ pub mod NeutralLaws
 pub mod ForcedRun
 pub mod ForcedSets
 pub mod ForcedLoops
+pub mod MarkLaws

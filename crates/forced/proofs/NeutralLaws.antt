@@ -25,7 +25,7 @@ use Rattle.rocks.specs.declared.rocks.Limits.{Limits}
 use Rattle.sets.specs.Sets.{lowestOf}
 use Rattle.arrays.specs.Arrays.{plusOf}
 use Rattle.rocks.specs.RockArrays.{touchesAt}
-use Rattle.rocks.specs.Neighbours.{Incident}
+use Rattle.rock_graph.specs.Neighbours.{Incident}
 use Rattle.forced.specs.SetArrays.{forcesAt}
 use Rattle.forced.specs.CandidateArrays.{Neutral, rockOf}
 use Rattle.sets.proofs.SetRun.{Searched, searched-found, searched-none}
@@ -47,32 +47,32 @@ exceedsAt bound weight load v r = ltb bound (getD load v 0 + getD weight r 0)
 
 -- ── the neutral rocks at a bench ──
 
-module _ (n : Limits) (low high dir here : List ℕ) (neutral : ℕ) (H : Incident n low high here) (N : Neutral n dir neutral) (v : ℕ) (hv : v < 64) (set : ℕ)
-    (both : BothOf set (getD here v 0) neutral) where
+module _ (n : Limits) (low high dir incident : List ℕ) (neutral : ℕ) (H : Incident n low high incident) (N : Neutral n dir neutral) (v : ℕ) (hv : v < 64) (set : ℕ)
+    (both : BothOf set (getD incident v 0) neutral) where
   -- A rock of the set is one at v that is not directed.
-  free-rock : (g : ℕ → Bool) (r : ℕ) → r < 64 → (isSet 64 set r && g r) ≡ (isSet 64 (getD here v 0) r && (eqb (getD dir r 0) 0 && g r))
+  free-rock : (g : ℕ → Bool) (r : ℕ) → r < 64 → (isSet 64 set r && g r) ≡ (isSet 64 (getD incident v 0) r && (eqb (getD dir r 0) 0 && g r))
   free-rock g r h =
-      ap (λ (x : Bool). x && g r) (both r) ∙ elim (split (isSet 64 (getD here v 0) r)) [
+      ap (λ (x : Bool). x && g r) (both r) ∙ elim (split (isSet 64 (getD incident v 0) r)) [
         | inl p ↦
             let below : r < n .rocks =
             ltb-true r (n .rocks) (and-left (ltb r (n .rocks)) (touchesAt low high r v) (sym (H .rocks-at v r hv h) ∙ p)) in
-            and-assoc (isSet 64 (getD here v 0) r) (isSet 64 neutral r) (g r)
-            ∙ ap (λ (x : Bool). isSet 64 (getD here v 0) r && (x && g r)) (N r below h)
+            and-assoc (isSet 64 (getD incident v 0) r) (isSet 64 neutral r) (g r)
+            ∙ ap (λ (x : Bool). isSet 64 (getD incident v 0) r && (x && g r)) (N r below h)
         | inr p ↦
             and-false-left (g r) (and-false-left (isSet 64 neutral r) p) ∙ sym (and-false-left (eqb (getD dir r 0) 0 && g r) p)
       ]
 
-  pub free-least : (g : ℕ → Bool) → least 64 (λ r. isSet 64 set r && g r) ≡ least 64 (λ r. isSet 64 (getD here v 0) r && (eqb (getD dir r 0) 0 && g r))
+  pub free-least : (g : ℕ → Bool) → least 64 (λ r. isSet 64 set r && g r) ≡ least 64 (λ r. isSet 64 (getD incident v 0) r && (eqb (getD dir r 0) 0 && g r))
   free-least g =
-      least-cong 64 (λ r. isSet 64 set r && g r) (λ r. isSet 64 (getD here v 0) r && (eqb (getD dir r 0) 0 && g r)) (free-rock g)
+      least-cong 64 (λ r. isSet 64 set r && g r) (λ r. isSet 64 (getD incident v 0) r && (eqb (getD dir r 0) 0 && g r)) (free-rock g)
 
   module _ (bound : ℕ) (weight load : List ℕ) (left : ℕ) (S : Searched set (exceedsAt bound weight load v) left) where
-    pub free-found : (r : ℕ) → r ≡ lowestOf left → r < 64 → exceedsAt bound weight load v r ≡ true → r ≡ rockOf here (forcesAt bound weight dir load) v
+    pub free-found : (r : ℕ) → r ≡ lowestOf left → r < 64 → exceedsAt bound weight load v r ≡ true → r ≡ rockOf incident (forcesAt bound weight dir load) v
     unfolding rockOf
     free-found r e h p =
         searched-found set (exceedsAt bound weight load v) left r S e h p ∙ free-least (exceedsAt bound weight load v)
 
-    pub free-none : left ≤ 0 → 64 ≡ rockOf here (forcesAt bound weight dir load) v
+    pub free-none : left ≤ 0 → 64 ≡ rockOf incident (forcesAt bound weight dir load) v
     unfolding rockOf
     free-none none = searched-none set (exceedsAt bound weight load v) left S none ∙ free-least (exceedsAt bound weight load v)
 

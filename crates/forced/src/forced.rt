@@ -9,7 +9,8 @@ ghost use Rattle.algorithm.specs.Board.{Board, Directions};
 ghost use Rattle.algorithm.specs.Forced.{inner, nobody, forcedOrientations};
 ghost use Rattle.rocks.specs.BoardArrays.{Seen};
 ghost use Rattle.forced.specs.SetArrays.{forcesAt, Covers, Nowhere, Tails};
-ghost use Rattle.rocks.specs.Neighbours.{Incident, RockGraph};
+ghost use Rattle.rock_graph.specs.Neighbours.{Incident};
+ghost use Rattle.rock_graph.specs.Graph.{incidents, lows, highs, weights, RockGraph};
 ghost use Rattle.forced.specs.CandidateArrays.{Neutral, rockOf, benchOf, Left, CoversBut};
 
 // A bench and a rock at it, and the candidates that are left.
@@ -35,20 +36,21 @@ pub struct Forced {
 // The first rock that is forced from v, and 64 where there is none.
 fn forced_rock<'a>(
     bound: usize,
-    weight: &'a [usize],
-    incident: &'a [usize],
+    graph: &'a [usize],
     neutral: usize,
     load: &'a [usize],
     v: usize,
 ) -> usize
-    ensures { λ r. ⌜ ((n : Limits) → (low : List ℕ) → (high : List ℕ) → (dir : List ℕ)
-        → Incident n low high (now (incident .entry)) → Neutral n dir neutral → v < 64
-        → r ≡ rockOf (now (incident .entry)) (forcesAt bound (now (weight .entry)) dir (now (load .entry))) v) ⌝ }
+    ensures { λ r. ⌜ ((n : Limits) → (dir : List ℕ)
+        → Incident n (lows (now (graph .entry))) (highs (now (graph .entry))) (incidents (now (graph .entry)))
+        → Neutral n dir neutral → v < 64
+        → r ≡ rockOf (incidents (now (graph .entry))) (forcesAt bound (weights (now (graph .entry))) dir
+        (now (load .entry))) v) ⌝ }
 {
-    let mut left = sets::common(arrays::at(incident, v), neutral);
+    let mut left = sets::common(rock_graph::incident(graph, v), neutral);
     while 0 < left {
         let r = sets::lowest(left);
-        if arrays::exceeds(bound, arrays::at(load, v), arrays::at(weight, r)) {
+        if arrays::exceeds(bound, arrays::at(load, v), rock_graph::weight(graph, r)) {
             return r;
         }
         left = sets::after(left, r);
@@ -59,28 +61,31 @@ fn forced_rock<'a>(
 // The lowest candidate from which a rock is forced, and 64 where there is none.
 fn first_forcing<'a>(
     bound: usize,
-    weight: &'a [usize],
-    incident: &'a [usize],
+    graph: &'a [usize],
     neutral: usize,
     load: &'a [usize],
     cand: usize,
 ) -> Found
-    ensures { λ f. ⌜ ((n : Limits) → (low : List ℕ) → (high : List ℕ) → (dir : List ℕ)
-        → Incident n low high (now (incident .entry)) → Neutral n dir neutral
+    ensures { λ f. ⌜ ((n : Limits) → (dir : List ℕ)
+        → Incident n (lows (now (graph .entry))) (highs (now (graph .entry))) (incidents (now (graph .entry)))
+        → Neutral n dir neutral
         → (f .bench
-        ≡ benchOf (now (incident .entry)) (forcesAt bound (now (weight .entry)) dir (now (load .entry))) cand)
+        ≡ benchOf (incidents (now (graph .entry))) (forcesAt bound (weights (now (graph .entry))) dir
+        (now (load .entry))) cand)
         × (f .bench < 64
         → (f .rock < 64)
         × (f .rock
-        ≡ rockOf (now (incident .entry)) (forcesAt bound (now (weight .entry)) dir (now (load .entry)))
+        ≡ rockOf (incidents (now (graph .entry))) (forcesAt bound (weights (now (graph .entry))) dir
+        (now (load .entry)))
         (f .bench)))
-        × Left (now (incident .entry)) (forcesAt bound (now (weight .entry)) dir (now (load .entry))) cand
+        × Left (incidents (now (graph .entry))) (forcesAt bound (weights (now (graph .entry))) dir (now (load .entry)))
+        cand
         (f .left)) ⌝ }
 {
     let mut left = cand;
     while 0 < left {
         let v = sets::lowest(left);
-        let r = forced_rock(bound, weight, incident, neutral, load, v);
+        let r = forced_rock(bound, graph, neutral, load, v);
         if r < 64 {
             return Found {
                 bench: v,
@@ -100,26 +105,25 @@ fn first_forcing<'a>(
 // The rocks that are forced from `first`, and from the benches that these come to.
 fn force_marked<'a>(
     n: Limits,
-    low: &'a [usize],
-    high: &'a [usize],
-    weight: &'a [usize],
-    incident: &'a [usize],
+    graph: &'a [usize],
     sources: Sources,
     dir: &mut [usize],
     load: &mut [usize],
     first: usize,
 ) -> Sources
     ensures { λ s. ⌜ ((b : Board) → (dirs : Directions)
-        → RockGraph b n (now (low .entry)) (now (high .entry)) (now (weight .entry)) (now (incident .entry))
+        → RockGraph b n (now (graph .entry))
         → Neutral n (now (dir .entry)) (sources .neutral)
-        → CoversBut n (now (low .entry)) (now (high .entry))
-        (forcesAt (n .bound) (now (weight .entry)) (now (dir .entry)) (now (load .entry))) (sources .watch) first
+        → CoversBut n (lows (now (graph .entry))) (highs (now (graph .entry)))
+        (forcesAt (n .bound) (weights (now (graph .entry))) (now (dir .entry)) (now (load .entry))) (sources .watch)
+        first
         → first < 64 → Seen b dirs (now (dir .entry)) (now (load .entry))
         → Seen b (inner (b .jobs) b dirs (set (nobody b) first true)) (now (dir .exit)) (now (load .exit))
-        × Covers n (now (low .entry)) (now (high .entry))
-        (forcesAt (n .bound) (now (weight .entry)) (now (dir .exit)) (now (load .exit))) (s .watch)
-        × ((dir₀ : List ℕ) → Tails n (now (low .entry)) (now (high .entry)) dir₀ (now (dir .entry)) (sources .tails)
-        → Tails n (now (low .entry)) (now (high .entry)) dir₀ (now (dir .exit)) (s .tails))
+        × Covers n (lows (now (graph .entry))) (highs (now (graph .entry)))
+        (forcesAt (n .bound) (weights (now (graph .entry))) (now (dir .exit)) (now (load .exit))) (s .watch)
+        × ((dir₀ : List ℕ) → Tails n (lows (now (graph .entry))) (highs (now (graph .entry))) dir₀ (now (dir .entry))
+        (sources .tails)
+        → Tails n (lows (now (graph .entry))) (highs (now (graph .entry))) dir₀ (now (dir .exit)) (s .tails))
         × Neutral n (now (dir .exit)) (s .neutral)) ⌝ }
 {
     let watch = sources.watch;
@@ -128,7 +132,7 @@ fn force_marked<'a>(
     let mut cand = sets::with(0, first);
     let mut turns = n.jobs;
     while 0 < turns {
-        let f = first_forcing(n.bound, weight, incident, neutral, load, cand);
+        let f = first_forcing(n.bound, graph, neutral, load, cand);
         if f.bench == 64 {
             return Sources {
                 watch: watch,
@@ -136,7 +140,7 @@ fn force_marked<'a>(
                 neutral: neutral,
             };
         }
-        let u = rocks::direct(low, high, weight, dir, load, f.rock, f.bench);
+        let u = rock_graph::direct(graph, dir, load, f.rock, f.bench);
         tails = sets::with(tails, f.bench);
         neutral = sets::less(neutral, sets::with(0, f.rock));
         cand = sets::with(f.left, u);
@@ -152,25 +156,23 @@ fn force_marked<'a>(
 // From every bench; says which benches a rock was directed away from, and which rocks are neutral then.
 pub fn force<'a>(
     n: Limits,
-    low: &'a [usize],
-    high: &'a [usize],
-    weight: &'a [usize],
-    incident: &'a [usize],
+    graph: &'a [usize],
     watch: usize,
     before: usize,
     dir: &mut [usize],
     load: &mut [usize],
 ) -> Forced
     ensures { λ t. ⌜ ((b : Board) → (dirs : Directions)
-        → RockGraph b n (now (low .entry)) (now (high .entry)) (now (weight .entry)) (now (incident .entry))
+        → RockGraph b n (now (graph .entry))
         → Neutral n (now (dir .entry)) before
-        → Covers n (now (low .entry)) (now (high .entry))
-        (forcesAt (n .bound) (now (weight .entry)) (now (dir .entry)) (now (load .entry))) watch
+        → Covers n (lows (now (graph .entry))) (highs (now (graph .entry)))
+        (forcesAt (n .bound) (weights (now (graph .entry))) (now (dir .entry)) (now (load .entry))) watch
         → Seen b dirs (now (dir .entry)) (now (load .entry))
         → Seen b (forcedOrientations b dirs) (now (dir .exit)) (now (load .exit))
-        × Tails n (now (low .entry)) (now (high .entry)) (now (dir .entry)) (now (dir .exit)) (t .tails)
-        × Nowhere n (now (low .entry)) (now (high .entry))
-        (forcesAt (n .bound) (now (weight .entry)) (now (dir .exit)) (now (load .exit)))
+        × Tails n (lows (now (graph .entry))) (highs (now (graph .entry))) (now (dir .entry)) (now (dir .exit))
+        (t .tails)
+        × Nowhere n (lows (now (graph .entry))) (highs (now (graph .entry)))
+        (forcesAt (n .bound) (weights (now (graph .entry))) (now (dir .exit)) (now (load .exit)))
         × Neutral n (now (dir .exit)) (t .neutral)) ⌝ }
 {
     let mut left = watch;
@@ -178,22 +180,19 @@ pub fn force<'a>(
     let mut neutral = before;
     let mut turns = n.jobs;
     while 0 < turns {
-        let f = first_forcing(n.bound, weight, incident, neutral, load, left);
+        let f = first_forcing(n.bound, graph, neutral, load, left);
         if f.bench == 64 {
             return Forced {
                 tails: tails,
                 neutral: neutral,
             };
         }
-        let u = rocks::direct(low, high, weight, dir, load, f.rock, f.bench);
+        let u = rock_graph::direct(graph, dir, load, f.rock, f.bench);
         tails = sets::with(tails, f.bench);
         neutral = sets::less(neutral, sets::with(0, f.rock));
         let s = force_marked(
             n,
-            low,
-            high,
-            weight,
-            incident,
+            graph,
             Sources {
                 watch: f.left,
                 tails: tails,

@@ -1,6 +1,6 @@
 -- From the bytes of a sheet to the answer.
 --     refusal f            a fault, with nothing written
---     fields-of, lent      the arrays filled with a sheet hold its day
+--     day-lent             the arrays filled with a sheet hold its day
 --     short-places, short-loads     fault 13
 --     long-enough          with tables that are long enough the answer is that of the day
 --     decided-long, decided-none, decided-plan     the answer, by what is decided
@@ -11,7 +11,7 @@ use mathlib.Core.Bool.{Bool, true, false, cond, _&&_, _||_}
 use mathlib.Core.Logic.{inl, inr}
 use mathlib.Core.List.{List}
 use native.Mathlib.Omega.{arith}
-use lib.ListN.{length, getD}
+use lib.ListN.{length, getD, replicate, length-replicate, getD-replicate}
 use lib.Dec.{ltb}
 use borrow.Author.Tests.{lt-ltb, le-ltb}
 use Rattle.bools.proofs.BoolLaws.{split, clash}
@@ -42,9 +42,10 @@ use Rattle.algorithm.proofs.SheetDay.{accepted-day}
 use Rattle.arrays.specs.Arrays.{filled}
 use Rattle.arrays.proofs.FilledLaws.{getD-filled}
 use Rattle.start.specs.StartArrays.{Fields}
-use Rattle.planning.specs.declared.decision.Decision.the-variants.{Plan as DecidedPlan, Long as DecidedLong, None as DecidedNone}
-use Rattle.planning.specs.declared.decision.PlanMoves.{PlanMoves}
-use Rattle.planning.specs.Decision.{decisionOf, placesIn, Lent}
+use Rattle.deciding.specs.declared.decision.Decision.the-variants.{Plan as DecidedPlan, Long as DecidedLong}
+use Rattle.deciding.specs.declared.decision.Decision.the-variants.{None as DecidedNone}
+use Rattle.deciding.specs.declared.decision.PlanMoves.{PlanMoves}
+use Rattle.deciding.specs.Decision.{decisionOf, placesIn, Lent}
 
 abbrev refusal : Fault → Filled
 refusal f = record { answer = Faulty f; places = 0; loads = 0 }
@@ -69,10 +70,13 @@ module _ (d : Day) where
       record { answer = ap None same; places-written = refl; loads-written = refl; new-places = refl; new-loads = refl }
 
   plan-shown : (o : Outcome) (p : PlanMoves) → DecidedPlan p ≡ decisionOf d o
-      → shown d o ≡ planReply (record { largest = largestOf d (placesIn o); moves = p .moves }) (placesIn o) (loadsOf d (placesIn o))
+      → shown d o
+      ≡ planReply (record { largest = largestOf d (placesIn o); moves = p .moves })
+      (placesIn o) (loadsOf d (placesIn o))
   plan-shown (planned ps moves) p e =
       let same : p ≡ record { moves = moves } = cc in
-      ap (λ (m : PlanMoves). planReply (record { largest = largestOf d ps; moves = m .moves }) ps (loadsOf d ps)) (sym same)
+      ap (λ (m : PlanMoves). planReply (record { largest = largestOf d ps; moves = m .moves }) ps (loadsOf d ps))
+      (sym same)
   plan-shown (long j) p e = clash {b = true} refl cc
   plan-shown (blocked set moves) p e = clash {b = true} refl cc
 
@@ -84,9 +88,11 @@ module _ (d : Day) where
       → Answered (answerTo d) (record { answer = None n; places = 0; loads = 0 }) places loads places loads
   decided-none = none-shown (run d)
 
-  pub decided-plan : (p : PlanMoves) → DecidedPlan p ≡ decisionOf d (run d) → {r : Filled} {places loads places′ loads′ : List ℕ}
-      → Answered (planReply (record { largest = largestOf d (placesIn (run d)); moves = p .moves }) (placesIn (run d)) (loadsOf d (placesIn (run d)))) r
-      places loads places′ loads′
+  pub decided-plan : (p : PlanMoves) → DecidedPlan p ≡ decisionOf d (run d)
+      → {r : Filled} {places loads places′ loads′ : List ℕ}
+      → Answered
+      (planReply (record { largest = largestOf d (placesIn (run d)); moves = p .moves })
+      (placesIn (run d)) (loadsOf d (placesIn (run d)))) r places loads places′ loads′
       → Answered (answerTo d) r places loads places′ loads′
   decided-plan p e {r} {places} {loads} {places′} {loads′} =
       subst (λ (a : Reply). Answered a r places loads places′ loads′) (sym (plan-shown (run d) p e))
@@ -102,13 +108,17 @@ module _ (s : List ℕ) (c : Contents) (x : Sheet) (read : readSheet s ≡ accep
       → (j : ℕ) → j < length (c .jobs) → getD to j 0 ≡ getD from j 0
   entry-is from to₀ room e j l =
       ap (λ (xs : List ℕ). getD xs j 0) e
-      ∙ getD-filled (λ i. getD from i 0) (x .count) to₀ j 0 (omega (arith, T .jobs-are)) (omega (arith, T .sound .at-most-512-jobs))
+      ∙ getD-filled (λ i. getD from i 0) (x .count) to₀ j 0
+      (omega (arith, T .jobs-are)) (omega (arith, T .sound .at-most-512-jobs))
 
-  pub fields-of : (minutes₀ allowed₀ : List ℕ) {minutes allowed : List ℕ} → 512 ≤ length minutes₀ → 512 ≤ length allowed₀
-      → minutes ≡ filled (x .count) (λ i. getD (x .minutes) i 0) minutes₀ → allowed ≡ filled (x .count) (λ i. getD (x .allowed) i 0) allowed₀
+  fields-of : (minutes₀ allowed₀ : List ℕ) {minutes allowed : List ℕ}
+      → 512 ≤ length minutes₀ → 512 ≤ length allowed₀
+      → minutes ≡ filled (x .count) (λ i. getD (x .minutes) i 0) minutes₀
+      → allowed ≡ filled (x .count) (λ i. getD (x .allowed) i 0) allowed₀
       → Fields (dayOf c) (x .count) minutes allowed
   fields-of minutes₀ allowed₀ {minutes} {allowed} rm ra em ea =
-      let set-is : (j : ℕ) → j < length (c .jobs) → getD allowed j 0 ≡ jobAt (c .jobs) j .allowed = λ j l. entry-is (x .allowed) allowed₀ ra ea j l ∙ T .allowed-are j l in
+      let set-is : (j : ℕ) → j < length (c .jobs) → getD allowed j 0 ≡ jobAt (c .jobs) j .allowed =
+      λ j l. entry-is (x .allowed) allowed₀ ra ea j l ∙ T .allowed-are j l in
       record {
         bounded = record {
           few-benches = T .sound .head .at-most-64-benches;
@@ -128,10 +138,15 @@ module _ (s : List ℕ) (c : Contents) (x : Sheet) (read : readSheet s ≡ accep
         ];
       }
 
-  pub lent : (minutes allowed booked : List ℕ) → Fields (dayOf c) (x .count) minutes allowed → ((v : ℕ) → v < c .head .benches → getD booked v 0 ≡ 0)
-      → Lent (dayOf c) (x .head) (x .count) minutes allowed booked
-  lent minutes allowed booked F none =
+  -- A sheet books no minutes.
+  pub day-lent : {minutes allowed : List ℕ}
+      → minutes ≡ filled (x .count) (λ i. getD (x .minutes) i 0) (replicate 512 0)
+      → allowed ≡ filled (x .count) (λ i. getD (x .allowed) i 0) (replicate 512 0)
+      → Lent (dayOf c) (x .head) (x .count) minutes allowed (replicate 64 0)
+  day-lent em ea =
       let head-is : x .head ≡ c .head = ap (λ (y : Sheet). y .head) same in
+      let wide : 512 ≤ length (replicate {A = ℕ} 512 0) = omega (arith, length-replicate {A = ℕ} 512 0) in
+      let F = fields-of (replicate 512 0) (replicate 512 0) wide wide em ea in
       record {
         accepted = accepted-day c (accepted-sound s c read);
         fields = F;
@@ -139,7 +154,7 @@ module _ (s : List ℕ) (c : Contents) (x : Sheet) (read : readSheet s ≡ accep
         p-is = ap (λ (k : Head). k .p) head-is;
         q-is = ap (λ (k : Head). k .q) head-is;
         target-is = ap (λ (k : Head). k .target) head-is;
-        booked-are = none;
+        booked-are = λ v h. getD-replicate {A = ℕ} 64 v 0 0 (omega (arith, h, F .bounded .few-benches));
       }
 
   module _ (np nl : ℕ) where
@@ -147,23 +162,30 @@ module _ (s : List ℕ) (c : Contents) (x : Sheet) (read : readSheet s ≡ accep
     unfolding answerFor
     read-answer = rw (read, answerFor)
 
-    faulty : shortTables c np nl ≡ true → (places loads : List ℕ) → Answered (answerFor s np nl) (refusal (Table 0)) places loads places loads
+    faulty : shortTables c np nl ≡ true → (places loads : List ℕ)
+        → Answered (answerFor s np nl) (refusal (Table 0)) places loads places loads
     faulty short places loads =
-        let answers : answerFor s np nl ≡ faultReply (Table 0) = read-answer ∙ ap (λ (b : Bool). cond b (faultReply (Table 0)) (answerTo (dayOf c))) short in
+        let answers : answerFor s np nl ≡ faultReply (Table 0) =
+        read-answer ∙ ap (λ (b : Bool). cond b (faultReply (Table 0)) (answerTo (dayOf c))) short in
         subst (λ (a : Reply). Answered a (refusal (Table 0)) places loads places loads) (sym answers)
         (record { answer = refl; places-written = refl; loads-written = refl; new-places = refl; new-loads = refl })
 
-    pub short-places : np < x .count → (places loads : List ℕ) → Answered (answerFor s np nl) (refusal (Table 0)) places loads places loads
-    short-places below = faulty (ap (λ (b : Bool). b || ltb nl (c .head .benches)) (lt-ltb np (length (c .jobs)) (omega (arith, T .jobs-are))))
+    pub short-places : np < x .count → (places loads : List ℕ)
+        → Answered (answerFor s np nl) (refusal (Table 0)) places loads places loads
+    short-places below =
+        let one : ltb np (length (c .jobs)) ≡ true = lt-ltb np (length (c .jobs)) (omega (arith, T .jobs-are)) in
+        faulty (ap (λ (b : Bool). b || ltb nl (c .head .benches)) one)
 
-    pub short-loads : x .count ≤ np → nl < x .head .benches → (places loads : List ℕ) → Answered (answerFor s np nl) (refusal (Table 0)) places loads places loads
+    pub short-loads : x .count ≤ np → nl < x .head .benches → (places loads : List ℕ)
+        → Answered (answerFor s np nl) (refusal (Table 0)) places loads places loads
     short-loads enough below =
         let one : ltb np (length (c .jobs)) ≡ false = le-ltb np (length (c .jobs)) (omega (arith, T .jobs-are)) in
         let two : ltb nl (c .head .benches) ≡ true = lt-ltb nl (c .head .benches) (omega (arith, T .benches-are)) in
         faulty (rw (one, two))
 
     pub long-enough : x .count ≤ np → x .head .benches ≤ nl → (r : Filled) (places loads places′ loads′ : List ℕ)
-        → Answered (answerTo (dayOf c)) r places loads places′ loads′ → Answered (answerFor s np nl) r places loads places′ loads′
+        → Answered (answerTo (dayOf c)) r places loads places′ loads′
+        → Answered (answerFor s np nl) r places loads places′ loads′
     long-enough jobs-fit benches-fit r places loads places′ loads′ =
         let one : ltb np (length (c .jobs)) ≡ false = le-ltb np (length (c .jobs)) (omega (arith, T .jobs-are)) in
         let two : ltb nl (c .head .benches) ≡ false = le-ltb nl (c .head .benches) (omega (arith, T .benches-are)) in
@@ -171,14 +193,16 @@ module _ (s : List ℕ) (c : Contents) (x : Sheet) (read : readSheet s ≡ accep
         subst (λ (a : Reply). Answered a r places loads places′ loads′) (sym answers)
 
 module _ (s : List ℕ) (np nl : ℕ) (places loads : List ℕ) where
-  pub refused-answer : {x : Reading} {f : Fault} → x ≡ stored (readSheet s) → x .verdict ≡ Refused f → Answered (answerFor s np nl) (refusal f) places loads places loads
+  pub refused-answer : {x : Reading} {f : Fault} → x ≡ stored (readSheet s) → x .verdict ≡ Refused f
+      → Answered (answerFor s np nl) (refusal f) places loads places loads
   unfolding answerFor
   refused-answer {f = f} e a =
       let answers : answerFor s np nl ≡ faultReply f = rw (verdict-refused (readSheet s) e a, answerFor) in
       subst (λ (b : Reply). Answered b (refusal f) places loads places loads) (sym answers)
       (record { answer = refl; places-written = refl; loads-written = refl; new-places = refl; new-loads = refl })
 
-  pub accepted-answer : (x : Reading) {r : Filled} {places′ loads′ : List ℕ} → x ≡ stored (readSheet s) → x .verdict ≡ Accepted
+  pub accepted-answer : (x : Reading) {r : Filled} {places′ loads′ : List ℕ}
+      → x ≡ stored (readSheet s) → x .verdict ≡ Accepted
       → ((bytes : List ℕ) → (c : Contents) → readSheet bytes ≡ accepted c → x .sheet ≡ sheetOf c
       → Answered (answerFor bytes np nl) r places loads places′ loads′)
       → Answered (answerFor s np nl) r places loads places′ loads′

@@ -25,13 +25,14 @@ use Rattle.answers.specs.Answers.{planReply, front, Answered}
 use Rattle.arrays.specs.Arrays.{filled}
 use Rattle.arrays.specs.Loads.{amountOn}
 use Rattle.arrays.proofs.FilledLaws.{length-filled, getD-filled, filled-rest}
-use Rattle.planning.specs.Decision.{Places}
+use Rattle.planning.specs.Places.{Places}
 
 -- ── a table whose front is filled ──
 
 pub filled-front : (n : ℕ) (f : ℕ → ℕ) (xs : List ℕ) → n ≤ length xs → filled n f xs ≡ table n f ++ drop n xs
 filled-front n f xs room =
-    let back : length (table n f ++ drop n xs) ≡ length xs = length-append (table n f) (drop n xs) ∙ omega (arith, length-table n f, length-drop n xs) in
+    let back : length (table n f ++ drop n xs) ≡ length xs =
+    length-append (table n f) (drop n xs) ∙ omega (arith, length-table n f, length-drop n xs) in
     ext-getD 0 (filled n f xs) (table n f ++ drop n xs) (length-filled f n xs ∙ sym back)
     (λ i h. elim (lt-or-le i n) [
       | inl l ↦
@@ -41,20 +42,23 @@ filled-front n f xs room =
           let at : i ≡ length (table n f) + (i - n) = omega (arith, length-table n f) in
           let there : n + (i - n) ≡ i = omega arith in
           filled-rest f n xs i 0 l
-          ∙ sym (ap (λ (k : ℕ). getD (table n f ++ drop n xs) k 0) at ∙ getD-append-add (table n f) (drop n xs) (i - n) 0
+          ∙ sym (ap (λ (k : ℕ). getD (table n f ++ drop n xs) k 0) at
+          ∙ getD-append-add (table n f) (drop n xs) (i - n) 0
           ∙ getD-drop n xs (i - n) 0 ∙ ap (λ (k : ℕ). getD xs k 0) there)
     ])
 
 -- ── a plan ──
 
 -- What a table shows of the jobs of a day, put on the benches of another table; no job is left out.
-module _ (d : Day) (jobs benches : ℕ) (minutes booked place ps : List ℕ) (P : Places d jobs benches minutes booked place ps)
+module _ (d : Day) (jobs benches : ℕ) (minutes booked place ps : List ℕ)
+    (P : Places d jobs benches minutes booked place ps)
     (bench : List ℕ) (copied : (j : ℕ) → j < d .jobs → getD bench j 0 ≡ getD place j 0) (nothing : List Bool)
     (none : (j : ℕ) → j < d .jobs → getD nothing j false ≡ false) where
   bench-is : (j : ℕ) → j < d .jobs → getD bench j 0 ≡ placeIn ps j
   bench-is j h = copied j h ∙ P .places-are j h
 
-  same-load : (v : ℕ) → v < d .benches → getD booked v 0 + sum jobs (amountOn minutes nothing bench v) ≡ loadOf d (placeIn ps) v
+  same-load : (v : ℕ) → v < d .benches
+      → getD booked v 0 + sum jobs (amountOn minutes nothing bench v) ≡ loadOf d (placeIn ps) v
   same-load v l =
       ap₂ (λ (a b : ℕ). a + b) (P .booked-are v l)
       (ap (λ (k : ℕ). sum k (amountOn minutes nothing bench v)) (P .fields .jobs-are)
@@ -65,38 +69,47 @@ module _ (d : Day) (jobs benches : ℕ) (minutes booked place ps : List ℕ) (P 
   small-load v =
       let B = P .fields .bounded in
       let most : sum (d .jobs) (λ j. on (eqb (placeIn ps j) v) (d .minutes j)) ≤ d .jobs * 1048576 =
-      sum-bound (d .jobs) 1048576 (λ j. on (eqb (placeIn ps j) v) (d .minutes j)) (λ j h. part (eqb (placeIn ps j) v) (d .minutes j) (B .minutes-small j h)) in
+      sum-bound (d .jobs) 1048576 (λ j. on (eqb (placeIn ps j) v) (d .minutes j))
+      (λ j h. part (eqb (placeIn ps j) v) (d .minutes j) (B .minutes-small j h)) in
       omega (arith, most, mul-le-mul (B .few-jobs) (le-refl 1048576), B .booked-small v)
     where
       part : (b : Bool) (x : ℕ) → x < 2 ^ 20 → on b x ≤ 1048576
       part true x h = omega arith
       part false x h = omega arith
 
-  -- The loads that own_loads adds to the booked minutes.
+  -- The loads, which begin with the booked minutes, and the tables filled with them.
   pub plan-written : (moves : ℕ) (load places loads : List ℕ) {places′ loads′ : List ℕ} {most : ℕ}
-      → length booked ≡ 64 → d .jobs ≤ length places → d .benches ≤ length loads
-      → ((v : ℕ) → v < length booked → getD booked v 0 + sum jobs (amountOn minutes nothing bench v) < 2 ^ 63
+      → ((v : ℕ) → v < 64 → getD booked v 0 + sum jobs (amountOn minutes nothing bench v) < 2 ^ 63
       → getD load v 0 ≡ getD booked v 0 + sum jobs (amountOn minutes nothing bench v))
+      → d .jobs ≤ length places → d .benches ≤ length loads
       → places′ ≡ filled jobs (λ i. getD bench i 0) places → loads′ ≡ filled benches (λ i. getD load i 0) loads
       → most ≡ largest benches (λ v. getD load v 0)
       → Answered (planReply (record { largest = largestOf d ps; moves = moves }) ps (loadsOf d ps))
-      (record { answer = Plan (record { largest = most; moves = moves }); places = jobs; loads = benches }) places loads places′ loads′
-  plan-written moves load places loads {places′} {loads′} {most} wide rp rl sums ep el em =
+      (record { answer = Plan (record { largest = most; moves = moves }); places = jobs; loads = benches })
+      places loads places′ loads′
+  plan-written moves load places loads {places′} {loads′} {most} sums rp rl ep el em =
       let load-is : (v : ℕ) → v < d .benches → getD load v 0 ≡ loadOf d (placeIn ps) v =
-      λ v h. sums v (omega (arith, wide, P .fields .bounded .few-benches)) (omega (arith, same-load v h, small-load v)) ∙ same-load v h in
+      λ v h.
+      sums v (omega (arith, P .fields .bounded .few-benches)) (omega (arith, same-load v h, small-load v))
+      ∙ same-load v h in
       let largest-is : most ≡ largestOf d ps =
-      em ∙ ap (λ (k : ℕ). largest k (λ v. getD load v 0)) (P .benches-are) ∙ largest-cong (d .benches) (λ v. getD load v 0) (loadOf d (placeIn ps)) load-is in
+      em ∙ ap (λ (k : ℕ). largest k (λ v. getD load v 0)) (P .benches-are)
+      ∙ largest-cong (d .benches) (λ v. getD load v 0) (loadOf d (placeIn ps)) load-is in
       record {
         answer = ap (λ (k : ℕ). Plan (record { largest = k; moves = moves })) largest-is;
         places-written = P .fields .jobs-are ∙ sym (P .one-to-a-job);
         loads-written = P .benches-are ∙ sym (length-table (d .benches) (loadOf d (placeIn ps)));
         new-places =
-            ep ∙ ap (λ (k : ℕ). filled k (λ i. getD bench i 0) places) (P .fields .jobs-are) ∙ filled-front (d .jobs) (λ i. getD bench i 0) places rp
+            ep ∙ ap (λ (k : ℕ). filled k (λ i. getD bench i 0) places) (P .fields .jobs-are)
+            ∙ filled-front (d .jobs) (λ i. getD bench i 0) places rp
             ∙ ap₂ (λ (a : List ℕ) (k : ℕ). a ++ drop k places)
-            (table-cong (d .jobs) (λ i. getD bench i 0) (λ i. getD ps i 0) bench-is ∙ ap (λ (k : ℕ). table k (λ i. getD ps i 0)) (sym (P .one-to-a-job)) ∙ table-getD ps 0)
+            (table-cong (d .jobs) (λ i. getD bench i 0) (λ i. getD ps i 0) bench-is
+            ∙ ap (λ (k : ℕ). table k (λ i. getD ps i 0)) (sym (P .one-to-a-job)) ∙ table-getD ps 0)
             (sym (P .one-to-a-job));
         new-loads =
-            el ∙ ap (λ (k : ℕ). filled k (λ i. getD load i 0) loads) (P .benches-are) ∙ filled-front (d .benches) (λ i. getD load i 0) loads rl
+            el ∙ ap (λ (k : ℕ). filled k (λ i. getD load i 0) loads) (P .benches-are)
+            ∙ filled-front (d .benches) (λ i. getD load i 0) loads rl
             ∙ ap₂ (λ (a : List ℕ) (k : ℕ). a ++ drop k loads)
-            (table-cong (d .benches) (λ i. getD load i 0) (loadOf d (placeIn ps)) load-is) (sym (length-table (d .benches) (loadOf d (placeIn ps))));
+            (table-cong (d .benches) (λ i. getD load i 0) (loadOf d (placeIn ps)) load-is)
+            (sym (length-table (d .benches) (loadOf d (placeIn ps))));
       }

@@ -1,1 +1,1 @@
-pub mod Decision
+pub mod Places

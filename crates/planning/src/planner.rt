@@ -1,9 +1,8 @@
 // Planning a sheet: it is read, a day is decided, and the tables of a plan are written.
-use crate::deciding;
-use crate::decision::Decision;
 use crate::write;
 use answers::Answer;
 use answers::Filled;
+use deciding::Decision;
 use frame::Fault;
 use frame::Sheet;
 use frame::Verdict;

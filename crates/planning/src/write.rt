@@ -7,7 +7,7 @@ ghost use mathlib.Core.List.{List};
 ghost use lib.ListN.{length};
 ghost use Rattle.day.specs.Day.{Day, loadsOf, largestOf};
 ghost use Rattle.answers.specs.Answers.{planReply, Answered};
-ghost use Rattle.planning.specs.Decision.{Places};
+ghost use Rattle.planning.specs.Places.{Places};
 
 // The plan with these places: both tables, and the answer.
 pub fn write_plan<'a>(

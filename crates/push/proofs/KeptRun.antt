@@ -105,12 +105,12 @@ module _ (choice place : List ℕ) (u : ℕ) where
       (λ p. let (i, l, q) = any-elim j (liesAt choice place u v) (sym before ∙ p) in any-intro jobs (liesAt choice place u v) i (omega arith) q)
       (λ p. ap (λ (k : ℕ). isSet 64 k v) e ∙ all-in p)
 
-pub reach-shifted : (jobs : ℕ) (choice place from : List ℕ) (u v j : ℕ) (full more there : ℕ) (from₁ : List ℕ) {from₂ : List ℕ} → full ≡ getD from u 0
+pub reach-shifted : (jobs : ℕ) (choice place reaches : List ℕ) (u v j : ℕ) (full more there : ℕ) (from₁ : List ℕ) {from₂ : List ℕ} → full ≡ getD reaches u 0
     → ((x : ℕ) → x < 64 → (any jobs (liesAt choice place u x) ≡ true → isSet 64 full x ≡ true) → isSet 64 there x ≡ any jobs (liesAt choice place u x))
-    → more ≡ bitOr (getD from v 0) (getD choice j 0) → from₁ ≡ set from v more → from₂ ≡ set from₁ u there
-    → ReachShifted jobs choice place from u v j from₂
-reach-shifted jobs choice place from u v j full more there from₁ {from₂} ef es em e1 e2 w x h l had =
-    let sized : length from₁ ≡ length from = ap length e1 ∙ length-set from v more in
+    → more ≡ bitOr (getD reaches v 0) (getD choice j 0) → from₁ ≡ set reaches v more → from₂ ≡ set from₁ u there
+    → ReachShifted jobs choice place reaches u v j from₂
+reach-shifted jobs choice place reaches u v j full more there from₁ {from₂} ef es em e1 e2 w x h l had =
+    let sized : length from₁ ≡ length reaches = ap length e1 ∙ length-set reaches v more in
     elim (eq-or-ne w u) [
       | inl e ↦
           rw (eq-eqb w u e)
@@ -118,14 +118,14 @@ reach-shifted jobs choice place from u v j full more there from₁ {from₂} ef 
           ∙ ap (λ (k : ℕ). isSet 64 k x) (getD-set-same from₁ u there 0 (omega (arith, sized)))
           ∙ es x l (λ p. ap (λ (k : ℕ). isSet 64 k x) ef ∙ had p))
       | inr ne ↦
-          let past : isSet 64 (getD from₂ w 0) x ≡ isSet 64 (getD (set from v more) w 0) x =
+          let past : isSet 64 (getD from₂ w 0) x ≡ isSet 64 (getD (set reaches v more) w 0) x =
           ap (λ (xs : List ℕ). isSet 64 (getD xs w 0) x) e2 ∙ ap (λ (k : ℕ). isSet 64 k x) (getD-set-other from₁ u w there 0 ne ∙ ap (λ (xs : List ℕ). getD xs w 0) e1) in
           elim (eq-or-ne w v) [
             | inl e ↦
                 rw (ne-eqb w u ne, eq-eqb w v e)
-                (past ∙ ap (λ (k : ℕ). isSet 64 (getD (set from v more) k 0) x) e
-                ∙ ap (λ (k : ℕ). isSet 64 k x) (getD-set-same from v more 0 (omega arith) ∙ em) ∙ or-isSet (getD from v 0) (getD choice j 0) x)
+                (past ∙ ap (λ (k : ℕ). isSet 64 (getD (set reaches v more) k 0) x) e
+                ∙ ap (λ (k : ℕ). isSet 64 k x) (getD-set-same reaches v more 0 (omega arith) ∙ em) ∙ or-isSet (getD reaches v 0) (getD choice j 0) x)
             | inr other ↦
-                rw (ne-eqb w u ne, ne-eqb w v other) (past ∙ ap (λ (k : ℕ). isSet 64 k x) (getD-set-other from v w more 0 other))
+                rw (ne-eqb w u ne, ne-eqb w v other) (past ∙ ap (λ (k : ℕ). isSet 64 k x) (getD-set-other reaches v w more 0 other))
           ]
     ]

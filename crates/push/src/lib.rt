@@ -5,6 +5,5 @@ mod push;
 pub use kept::Kept;
 pub use kept::shifted;
 pub use push::Move;
-pub use push::fill_goals;
+pub use push::fill_receivers;
 pub use push::first_push;
-pub use push::mark_levels;

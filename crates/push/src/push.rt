@@ -9,16 +9,15 @@ ghost use Rattle.sums.specs.Search.{any};
 ghost use Rattle.algorithm.specs.Board.{Board};
 ghost use Rattle.algorithm.specs.Explore.{Explored};
 ghost use Rattle.algorithm.specs.Push.{pushJob, pushBench};
-ghost use Rattle.arrays.specs.Arrays.{plusOf};
 ghost use Rattle.rocks.specs.RockArrays.{withinAt, touchesAt, childAt};
-ghost use Rattle.rocks.specs.BoardArrays.{Rocks, Owned, Rounds};
+ghost use Rattle.rocks.specs.BoardArrays.{Owned, Rounds};
+ghost use Rattle.rock_graph.specs.Graph.{lows, highs, weights, RockGraph};
 ghost use Rattle.rocks.specs.Shown.{Shown};
 ghost use lib.Dec.{eqb, ltb};
-ghost use lib.Bits.{bitAnd};
 ghost use Rattle.bits.specs.Bits.{isSet};
-ghost use Rattle.push.specs.PushArrays.{heavyAt, receivesAt, Wanted, Goals, Choices};
+ghost use Rattle.push.specs.PushArrays.{heavyAt, receivesAt, Receivers, Choices};
 
-// A job and the bench it goes to; the number of jobs where there is no move.
+// A job and the bench it goes to; the number of jobs and 0 where there is no move.
 pub struct Move {
     pub job: usize,
     pub bench: usize,
@@ -68,9 +67,7 @@ fn mark_edge<'a>(
 // The marks, with those of rock r.
 fn mark_rock<'a>(
     n: Limits,
-    low: &'a [usize],
-    high: &'a [usize],
-    weight: &'a [usize],
+    graph: &'a [usize],
     own: &'a [usize],
     dir: &'a [usize],
     joined: &'a [usize],
@@ -80,20 +77,22 @@ fn mark_rock<'a>(
     ensures { λ s. ⌜ ((v : ℕ) → v < 64
         → isSet 64 (s .children) v
         ≡ (isSet 64 (m .children) v
-        || (touchesAt (now (low .entry)) (now (high .entry)) r v
-        && childAt (n .benches) (now (low .entry)) (now (high .entry)) (now (dir .entry)) (now (joined .entry))
+        || (touchesAt (lows (now (graph .entry))) (highs (now (graph .entry))) r v
+        && childAt (n .benches) (lows (now (graph .entry))) (highs (now (graph .entry))) (now (dir .entry))
+        (now (joined .entry))
         r v)))
         × ((v : ℕ) → v < 64
         → isSet 64 (s .heavy) v
         ≡ (isSet 64 (m .heavy) v
-        || (touchesAt (now (low .entry)) (now (high .entry)) r v
-        && heavyAt (n .benches) (n .limit) (now (low .entry)) (now (high .entry)) (now (weight .entry))
+        || (touchesAt (lows (now (graph .entry))) (highs (now (graph .entry))) r v
+        && heavyAt (n .benches) (n .limit) (lows (now (graph .entry))) (highs (now (graph .entry)))
+        (weights (now (graph .entry)))
         (now (own .entry)) (now (dir .entry)) (now (joined .entry)) r v))) ⌝ }
 {
     let d = arrays::at(dir, r);
-    let lo = arrays::at(low, r);
-    let hi = arrays::at(high, r);
-    let w = arrays::at(weight, r);
+    let lo = rock_graph::low(graph, r);
+    let hi = rock_graph::high(graph, r);
+    let w = rock_graph::weight(graph, r);
     if d == arrays::plus(lo, 1) {
         return mark_edge(n, own, joined, m, hi, lo, w);
     }
@@ -106,9 +105,7 @@ fn mark_rock<'a>(
 // The marks of all rocks: the opposites of leaf b x v and of lightFathers b x v.
 fn mark_all<'a>(
     n: Limits,
-    low: &'a [usize],
-    high: &'a [usize],
-    weight: &'a [usize],
+    graph: &'a [usize],
     own: &'a [usize],
     dir: &'a [usize],
     joined: &'a [usize],
@@ -116,14 +113,16 @@ fn mark_all<'a>(
     ensures { λ s. ⌜ ((v : ℕ) → v < 64
         → isSet 64 (s .children) v
         ≡ any (n .rocks)
-        (λ r. touchesAt (now (low .entry)) (now (high .entry)) r v
-        && childAt (n .benches) (now (low .entry)) (now (high .entry)) (now (dir .entry)) (now (joined .entry))
+        (λ r. touchesAt (lows (now (graph .entry))) (highs (now (graph .entry))) r v
+        && childAt (n .benches) (lows (now (graph .entry))) (highs (now (graph .entry))) (now (dir .entry))
+        (now (joined .entry))
         r v))
         × ((v : ℕ) → v < 64
         → isSet 64 (s .heavy) v
         ≡ any (n .rocks)
-        (λ r. touchesAt (now (low .entry)) (now (high .entry)) r v
-        && heavyAt (n .benches) (n .limit) (now (low .entry)) (now (high .entry)) (now (weight .entry))
+        (λ r. touchesAt (lows (now (graph .entry))) (highs (now (graph .entry))) r v
+        && heavyAt (n .benches) (n .limit) (lows (now (graph .entry))) (highs (now (graph .entry)))
+        (weights (now (graph .entry)))
         (now (own .entry)) (now (dir .entry)) (now (joined .entry)) r v)) ⌝ }
 {
     let mut m = Marks {
@@ -132,7 +131,7 @@ fn mark_all<'a>(
     };
     let mut r = 0;
     while r < n.rocks {
-        m = mark_rock(n, low, high, weight, own, dir, joined, m, r);
+        m = mark_rock(n, graph, own, dir, joined, m, r);
         r += 1;
     }
     m
@@ -161,12 +160,12 @@ fn add_receiver<'a>(
     load: &'a [usize],
     level: &'a [usize],
     m: Marks,
-    wanted: &mut [usize],
+    receivers: &mut [usize],
     v: usize,
 )
-    ensures { λ _. ⌜ ((l : ℕ) → (u : ℕ) → l < length (now (wanted .entry)) → u < 64
-        → isSet 64 (getD (now (wanted .exit)) l 0) u
-        ≡ (isSet 64 (getD (now (wanted .entry)) l 0) u
+    ensures { λ _. ⌜ ((l : ℕ) → (u : ℕ) → l < length (now (receivers .entry)) → u < 64
+        → isSet 64 (getD (now (receivers .exit)) l 0) u
+        ≡ (isSet 64 (getD (now (receivers .entry)) l 0) u
         || (eqb u v
         && (eqb l (getD (now (level .entry)) v 0)
         && receivesAt (n .benches) (n .limit) (now (load .entry)) (now (level .entry)) (m .children) (m .heavy)
@@ -174,83 +173,55 @@ fn add_receiver<'a>(
 {
     if receives(n, load, level, m, v) {
         let l = arrays::at(level, v);
-        let set = sets::with(arrays::at(wanted, l), v);
-        arrays::put(wanted, l, set);
+        let set = sets::with(arrays::at(receivers, l), v);
+        arrays::put(receivers, l, set);
     }
 }
 
 // Entry l: the benches of level l that may receive, as a set.
-pub fn mark_levels<'a>(
+pub fn fill_receivers<'a>(
     n: Limits,
-    low: &'a [usize],
-    high: &'a [usize],
-    weight: &'a [usize],
+    graph: &'a [usize],
     own: &'a [usize],
     dir: &'a [usize],
     load: &'a [usize],
     joined: &'a [usize],
     level: &'a [usize],
-    wanted: &mut [usize],
+    receivers: &mut [usize],
 )
     ensures { λ _. ⌜ ((b : Board) → (x : Explored)
-        → Rocks b n (now (low .entry)) (now (high .entry)) (now (weight .entry)) → Owned b (now (own .entry))
+        → RockGraph b n (now (graph .entry)) → Owned b (now (own .entry))
         → Shown b x (now (dir .entry)) (now (load .entry)) (now (joined .entry)) (now (level .entry))
-        → now (wanted .entry) ≡ replicate 66 0 → Wanted b x (now (wanted .exit))) ⌝ }
+        → now (receivers .entry) ≡ replicate 66 0 → Receivers b x (now (receivers .exit))) ⌝ }
 {
-    let m = mark_all(n, low, high, weight, own, dir, joined);
+    let m = mark_all(n, graph, own, dir, joined);
     let mut v = 0;
     while v < n.benches {
-        add_receiver(n, load, level, m, wanted, v);
+        add_receiver(n, load, level, m, receivers, v);
         v += 1;
     }
 }
 
-// The benches that may receive a pebble from u.
-fn goal<'a>(benches: usize, level: &'a [usize], wanted: &'a [usize], u: usize) -> usize
-    ensures { λ r. ⌜ r
-        ≡ cond (withinAt benches (now (level .entry)) u)
-        (getD (now (wanted .entry)) (plusOf (getD (now (level .entry)) u 0) 1) 0) 0 ⌝ }
-{
-    let l = arrays::at(level, u);
-    if benches < l {
-        return 0;
-    }
-    arrays::at(wanted, arrays::plus(l, 1))
-}
-
-// Entry u: the benches that may receive a pebble from u, as a set.
-pub fn fill_goals<'a>(n: Limits, level: &'a [usize], wanted: &'a [usize], goals: &mut [usize])
-    ensures { λ _. ⌜ ((b : Board) → (x : Explored) → (low : List ℕ) → (high : List ℕ) → (weight : List ℕ)
-        → Rocks b n low high weight → Rounds b (x .level) (now (level .entry)) → Wanted b x (now (wanted .entry))
-        → b .benches ≤ length (now (goals .entry)) → Goals b x (now (goals .exit))) ⌝ }
-{
-    let mut u = 0;
-    while u < n.benches {
-        let set = goal(n.benches, level, wanted, u);
-        arrays::put(goals, u, set);
-        u += 1;
-    }
-}
-
-// The benches to which job j may go.
-fn goals_of<'a>(choice: &'a [usize], place: &'a [u8], goals: &'a [usize], j: usize) -> usize
-    ensures { λ r. ⌜ r
-        ≡ bitAnd (getD (now (choice .entry)) j 0) (getD (now (goals .entry)) (getD (now (place .entry)) j 0) 0) ⌝ }
-{
-    arrays::at(choice, j) & arrays::at(goals, arrays::byte(place, j))
-}
-
-// pushJob b x and pushBench b x; the number of jobs where there is no move.
-pub fn first_push<'a>(n: Limits, choice: &'a [usize], place: &'a [u8], goals: &'a [usize]) -> Move
-    ensures { λ r. ⌜ ((b : Board) → (x : Explored) → (low : List ℕ) → (high : List ℕ) → (weight : List ℕ)
-        → Rocks b n low high weight → Choices b (now (choice .entry)) (now (place .entry))
-        → Goals b x (now (goals .entry)) → (r .job ≡ pushJob b x) × (r .job < b .jobs → r .bench ≡ pushBench b x)) ⌝ }
+// pushJob b x and pushBench b x: the first job that may go one level up, and its first bench there. The number of jobs
+// and bench 0 where there is no move.
+pub fn first_push<'a>(
+    n: Limits,
+    choice: &'a [usize],
+    place: &'a [u8],
+    level: &'a [usize],
+    receivers: &'a [usize],
+) -> Move
+    ensures { λ r. ⌜ ((b : Board) → (x : Explored) → (graph : List ℕ) → RockGraph b n graph
+        → Choices b (now (choice .entry)) (now (place .entry)) → Rounds b (x .level) (now (level .entry))
+        → Receivers b x (now (receivers .entry))
+        → (r .job ≡ pushJob b x) × (r .bench ≡ cond (ltb (pushJob b x) (b .jobs)) (pushBench b x) 0)) ⌝ }
 {
     let mut j = 0;
     let mut v = 0;
     'search: while j < n.jobs {
-        v = 0;
-        let open = goals_of(choice, place, goals, j);
+        // The benches that job j may choose from and that receive, one level above the bench on which it lies.
+        let sender = arrays::at(level, arrays::byte(place, j));
+        let open = arrays::at(choice, j) & arrays::at(receivers, arrays::plus(sender, 1));
         if open != 0 {
             while v < n.benches {
                 if sets::has(open, v) {
@@ -259,6 +230,7 @@ pub fn first_push<'a>(n: Limits, choice: &'a [usize], place: &'a [u8], goals: &'
                 v += 1;
             }
         }
+        v = 0;
         j += 1;
     }
     Move { job: j, bench: v }

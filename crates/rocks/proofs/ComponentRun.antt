@@ -1,19 +1,17 @@
 -- The components of a day's rocks, and how full they are, by the arrays.
 --     linked-joined          neutral rocks link the benches that the day's rocks join
---     alone-shows            a set of one bench
---     component-shows        what spreads from a bench is its component
---     component-rocks, component-balance     and its rocks and its balance are the day's
---     component-found        so it is in a set of 64 entries that was empty
+--     component-found        what spreads from a bench is its component
+--     component-balance      and the balance of that set is the day's
+--     zeros                  an array in which every rock is neutral
 --     balance-cycle, balance-crowded     the balance of one cycle, and of a crowded component
 --     cycles-are, crowded-bench-is       what the array of balances, and the search in it, say of the day
-use Prim.Native.Nat.{ℕ, _≤_, _<_}
+use Prim.Native.Nat.{ℕ, _<_}
 use mathlib.Core.Path.{_≡_, refl, sym, ap, ap₂, subst, _∙_}
-use mathlib.Core.Bool.{Bool, true, false, not, _&&_}
+use mathlib.Core.Bool.{Bool, true, false, not, _&&_, _||_}
 use mathlib.Core.Logic.{inl, inr, ⊎-elim}
 use mathlib.Core.List.{List}
 use native.Mathlib.Omega.{arith}
-use lib.ListN.{length, getD, set, replicate, length-set, length-replicate, getD-replicate, List·getD-eq-default}
-use lib.Seq.{getD-set-same, getD-set-other}
+use lib.ListN.{getD, replicate, length-replicate, getD-replicate, List·getD-eq-default}
 use lib.Dec.{eqb, ltb}
 use borrow.Author.Tests.{eq-eqb, ne-eqb, eqb-true, lt-ltb, le-ltb}
 use Rattle.bools.proofs.BoolLaws.{split, tests, bool-ext, and-intro, and-left, and-right, not-intro-true, not-eqb-true}
@@ -23,18 +21,21 @@ use Rattle.sums.specs.Search.{any, least}
 use Rattle.sums.proofs.SearchLaws.{any-cong, least-cong}
 use Rattle.sums.proofs.CountLaws.{count-cong}
 use Rattle.sums.proofs.MembersLaws.{any-members, count-members}
-use Rattle.closure.specs.Closure.{closure, reach}
-use Rattle.closure.proofs.ClosureLaws.{closure-cong}
+use Rattle.bits.specs.Bits.{isSet}
+use Rattle.closure.specs.Closure.{closure}
 use Rattle.rocks.specs.declared.rocks.Limits.{Limits}
 use Rattle.day.specs.Day.{Day}
 use Rattle.algorithm.specs.Rocks.{rock, lowest, highest}
 use Rattle.algorithm.specs.Start.{joinedBy, joined, component, rocksIn, crowded, crowdedBench, oneCycle}
+use Rattle.sets.specs.Sets.{choicesOf}
+use Rattle.sets.proofs.SetLaws.{choices-below}
 use Rattle.rocks.specs.RockArrays.{touchesAt, otherAt}
 use Rattle.rocks.specs.SpreadArrays.{neutralRock, insideAt, linksAt, linkedAt, balanceOf, Within, Shows}
 use Rattle.rocks.specs.DayArrays.{dayRocks, dayRock, DayRocks, balanceIn, Cycles}
 use Rattle.rocks.proofs.RockLaws.{other-at-low, other-at-high}
 use Rattle.algorithm.proofs.RockLaws.{low-allowed, high-allowed, low-below-high, high-below, allowed-end}
 use Rattle.rocks.proofs.DayRockLaws.{day-rock-holds, touches-are}
+use Rattle.rocks.proofs.SpreadRun.{shows-entry, reach-shown}
 
 four : (r a b c : Bool) → (r && ((a && b) && c)) ≡ (((r && a) && b) && c)
 four true a b c = refl
@@ -110,31 +111,25 @@ module _ (d : Day) (n : Limits) (low high : List ℕ) (R : DayRocks d n low high
         ∙ any-cong (d .jobs) (λ j. rock d j && ((d .allows j u && d .allows j v) && not (eqb u v))) (joinedBy d u v)
         (λ j h. four (rock d j) (d .allows j u) (d .allows j v) (not (eqb u v)))
 
-    pub component-shows : (v : ℕ) (xs : List Bool) → Shows (n .benches) (closure (n .benches) (linkedAt (n .rocks) low high dir) (λ u. eqb u v)) xs
-        → (u : ℕ) → u < d .benches → getD xs u false ≡ component d v u
-    unfolding reach
-    component-shows v xs S u hu =
-        S .entries u (omega (arith, R .benches))
-        ∙ ap (λ (m : ℕ). closure m (linkedAt (n .rocks) low high dir) (λ w. eqb w v) u) (R .benches)
-        ∙ closure-cong (d .benches) (linkedAt (n .rocks) low high dir) (joined d) (λ w. eqb w v) (λ w. eqb w v) linked-joined (λ w h. refl) u hu
+    -- What spreads from one bench is its component.
+    pub component-found : (v one set : ℕ) → v < d .benches → ((u : ℕ) → u < 64 → isSet 64 one u ≡ (isSet 64 0 u || eqb u v))
+        → ((S : ℕ → Bool) → Within (n .benches) (n .rocks) low high → Shows (n .benches) S one
+        → Shows (n .benches) (closure (n .benches) (linkedAt (n .rocks) low high dir) S) set)
+        → Shows (d .benches) (component d v) set
+    component-found = reach-shown (n .benches) (d .benches) (n .rocks) low high dir (joined d) (R .benches) (R .few-benches) within linked-joined
 
-    module _ (v : ℕ) (xs : List Bool) (is : (u : ℕ) → u < d .benches → getD xs u false ≡ component d v u) where
-      pub component-rocks : {k : ℕ} → k ≡ count (n .rocks) (insideAt low dir xs) → k ≡ rocksIn d v
-      component-rocks e =
-          e
-          ∙ ap (λ (k : ℕ). count k (insideAt low dir xs)) (R .rocks)
-          ∙ count-cong (dayRocks d) (insideAt low dir xs) (λ r. component d v (lowest d (dayRock d r)))
+    module _ (v set : ℕ) (X : Shows (d .benches) (component d v) set) where
+      component-rocks : count (n .rocks) (insideAt low dir (isSet 64 set)) ≡ rocksIn d v
+      component-rocks =
+          ap (λ (k : ℕ). count k (insideAt low dir (isSet 64 set))) (R .rocks)
+          ∙ count-cong (dayRocks d) (insideAt low dir (isSet 64 set)) (λ r. component d v (lowest d (dayRock d r)))
           (λ r h. ap₂ (λ (x y : Bool). x && y) (eq-eqb (getD dir r 0) 0 (neutral r))
-          (ap (λ (i : ℕ). getD xs i false) (R .lows r h) ∙ is (lowest d (dayRock d r)) (low-below r h)))
+          (ap (isSet 64 set) (R .lows r h) ∙ shows-entry (d .benches) (component d v) set X (lowest d (dayRock d r)) (low-below r h)))
           ∙ sym (count-members (d .jobs) (rock d) (λ j. component d v (lowest d j)) 0)
 
-      pub component-balance : {k : ℕ} → k ≡ balanceOf (count (n .rocks) (insideAt low dir xs)) (count (n .benches) (λ u. getD xs u false)) → k ≡ balanceIn d v
+      pub component-balance : {k : ℕ} → k ≡ balanceOf (count (n .rocks) (insideAt low dir (isSet 64 set))) (choicesOf set) → k ≡ balanceIn d v
       component-balance e =
-          let size : count (n .benches) (λ u. getD xs u false) ≡ count (d .benches) (component d v) =
-          ap (λ (k : ℕ). count k (λ u. getD xs u false)) (R .benches) ∙ count-cong (d .benches) (λ u. getD xs u false) (component d v) is in
-          e ∙ ap₂ balanceOf (component-rocks refl) size
-
--- ── one bench alone ──
+          e ∙ ap₂ balanceOf component-rocks (choices-below set (d .benches) (component d v) (X .room) (λ u h. X .entries u))
 
 -- All rocks are neutral, however many there are.
 pub zeros : (k i : ℕ) → getD {A = ℕ} (replicate {A = ℕ} k 0) i 0 ≡ 0
@@ -142,32 +137,6 @@ zeros k i = elim (lt-or-le i k) [
   | inl l ↦ getD-replicate {A = ℕ} k i 0 0 l
   | inr l ↦ List·getD-eq-default (replicate {A = ℕ} k 0) 0 (omega (arith, length-replicate {A = ℕ} k 0))
 ]
-
-pub alone-shows : (m v : ℕ) (xs : List Bool) {ys : List Bool} → v < m → m ≤ length xs → ((u : ℕ) → u < m → getD xs u false ≡ false) → ys ≡ set xs v true
-    → Shows m (λ u. eqb u v) ys
-alone-shows m v xs hv room none e =
-    rw e (
-    record {
-      room = omega (arith, length-set xs v true);
-      entries = λ u h. elim (eq-or-ne u v) [
-        | inl q ↦
-            ap (λ (k : ℕ). getD (set xs v true) k false) q ∙ getD-set-same xs v true false (omega arith) ∙ sym (eq-eqb u v q)
-        | inr ne ↦ getD-set-other xs v u true false ne ∙ none u h ∙ sym (ne-eqb u v ne)
-      ];
-    })
-
-alone-in-none : (m k v : ℕ) {ys : List Bool} → v < m → m ≤ k → ys ≡ set (replicate k false) v true → Shows m (λ u. eqb u v) ys
-alone-in-none m k v hv room e =
-    alone-shows m v (replicate k false) hv (omega (arith, length-replicate k false)) (λ u h. getD-replicate k u false false (omega arith)) e
-
--- What spreads from one bench, marked in a set that was empty, is its component.
-pub component-found : (d : Day) (n : Limits) (low high : List ℕ) → DayRocks d n low high → (dir : List ℕ) → ((i : ℕ) → getD dir i 0 ≡ 0)
-    → (v : ℕ) → v < d .benches → {xs ys : List Bool} → xs ≡ set (replicate 64 false) v true
-    → ((S : ℕ → Bool) → Within (n .benches) (n .rocks) low high → Shows (n .benches) S xs → Shows (n .benches) (closure (n .benches) (linkedAt (n .rocks) low high dir) S) ys)
-    → (u : ℕ) → u < d .benches → getD ys u false ≡ component d v u
-component-found d n low high R dir neutral v hv {xs} {ys} e spreads =
-    component-shows d n low high R dir neutral v ys
-    (spreads (λ u. eqb u v) (within d n low high R) (alone-in-none (n .benches) 64 v (omega (arith, R .benches)) (omega (arith, R .benches, R .few-benches)) e))
 
 -- ── balances ──
 

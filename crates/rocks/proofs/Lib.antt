@@ -2,8 +2,6 @@ pub mod RockLaws
 pub mod BalanceRun
 pub mod ComponentRun
 pub mod BoardLaws
-pub mod NeighbourLaws
-pub mod MarkLaws
 pub mod ScanLaws
 pub mod SpreadRun
 pub mod DayRockLaws

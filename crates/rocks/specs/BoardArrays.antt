@@ -2,7 +2,7 @@
 --     rocksOf b, rockAt b r     how many rocks there are, and the job of rock r
 --     Rocks b n low high weight     the numbers and the arrays are those of the board
 --     Directed, Loaded, Seen    the arrays show these directions, the loads under them, both
---     Owned, Rounds, Pebbles, Marked    the other arrays of an exploration
+--     Owned, Rounds, Pebbles    the other arrays of an exploration
 use Prim.Native.Nat.{ℕ, _≤_, _<_, _^_}
 use mathlib.Core.Path.{_≡_}
 use mathlib.Core.Bool.{Bool, true, false}
@@ -68,9 +68,3 @@ pub record Pebbles (b : Board) (pebble : List Bool) (allowed place : List ℕ) :
   pub are : (j : ℕ) → j < b .jobs → getD pebble j false ≡ b .pebble j
   pub allow : (j v : ℕ) → j < b .jobs → v < b .benches → isSet 64 (getD allowed j 0) v ≡ b .allows j v
   pub lie : (j : ℕ) → j < b .jobs → b .pebble j ≡ true → getD place j 0 ≡ b .place j
-
--- A list of marks, one entry for each bench.
-pub record Marked (b : Board) (ms : List Bool) (marks : List Bool) : Type 0 where
-  pub one-to-a-bench : length ms ≡ b .benches
-  pub room : b .benches ≤ length marks
-  pub entries : (v : ℕ) → v < b .benches → getD marks v false ≡ getD ms v false

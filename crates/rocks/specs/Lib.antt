@@ -1,6 +1,5 @@
 pub mod RockArrays
 pub mod BoardArrays
-pub mod Neighbours
 pub mod SpreadArrays
 pub mod Shown
 pub mod DayArrays

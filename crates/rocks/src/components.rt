@@ -3,36 +3,35 @@ use crate::rocks::Limits;
 use crate::spreading;
 ghost use Prim.Native.Nat.{ℕ, _+_, _≤_, _<_};
 ghost use mathlib.Core.Path.{_≡_};
-ghost use mathlib.Core.Bool.{cond, false};
+ghost use mathlib.Core.Bool.{cond};
 ghost use lib.ListN.{getD, length};
 ghost use lib.Dec.{eqb};
 ghost use Rattle.sums.specs.Search.{least};
+ghost use Rattle.bits.specs.Bits.{isSet};
 ghost use Rattle.day.specs.Day.{Day};
 ghost use Rattle.algorithm.specs.Start.{component as componentOf};
-ghost use Rattle.arrays.specs.Arrays.{filled};
-ghost use Rattle.rocks.specs.SpreadArrays.{crowdedBalance, unknownBalance};
+ghost use Rattle.rocks.specs.SpreadArrays.{crowdedBalance, unknownBalance, Shows};
 ghost use Rattle.rocks.specs.DayArrays.{DayRocks, balanceIn, BalancesTo};
 
-// component d v, in a set that was empty.
-pub fn component<'a>(n: Limits, low: &'a [usize], high: &'a [usize], v: usize, set: &mut [bool])
-    ensures { λ _. ⌜ ((d : Day) → DayRocks d n (now (low .entry)) (now (high .entry)) → v < d .benches
-        → d .benches ≤ length (now (set .entry)) → ((u : ℕ) → u < d .benches → getD (now (set .entry)) u false ≡ false)
-        → (u : ℕ) → u < d .benches → getD (now (set .exit)) u false ≡ componentOf d v u) ⌝ }
+// component d v, as a set.
+pub fn component<'a>(n: Limits, low: &'a [usize], high: &'a [usize], v: usize) -> usize
+    ensures { λ s. ⌜ ((d : Day) → DayRocks d n (now (low .entry)) (now (high .entry)) → v < d .benches
+        → Shows (d .benches) (componentOf d v) s) ⌝ }
 {
     let neutral = [0usize; 512];
-    arrays::mark(set, v, true);
-    spreading::spread(n, low, high, &neutral, set);
+    spreading::spread(n, low, high, &neutral, sets::with(0, v))
 }
 
-// Every marked entry below n becomes x.
-fn put_where(n: usize, set: &[bool], x: usize, to: &mut [usize])
-    ensures { λ _. ⌜ now (to .exit)
-        ≡ filled n (λ v. cond (getD (now (set .entry)) v false) x (getD (now (to .entry)) v 0)) (now (to .entry)) ⌝ }
+// The entries of the benches in the set become x.
+fn put_where(set: usize, x: usize, to: &mut [usize])
+    ensures { λ _. ⌜ ((v : ℕ) → v < length (now (to .entry))
+        → getD (now (to .exit)) v 0 ≡ cond (isSet 64 set v) x (getD (now (to .entry)) v 0)) ⌝ }
 {
-    let mut v = 0;
-    while v < n {
-        arrays::put(to, v, arrays::where_marked(set, v, x, arrays::at(to, v)));
-        v += 1;
+    let mut left = set;
+    while 0 < left {
+        let v = sets::lowest(left);
+        arrays::put(to, v, x);
+        left = sets::after(left, v);
     }
 }
 
@@ -52,15 +51,9 @@ fn balance_from<'a>(
     if arrays::at(balance, v) != spreading::UNKNOWN {
         return;
     }
-    let mut set = [false; 64];
-    arrays::mark(&mut set, v, true);
-    spreading::spread(n, low, high, neutral, &mut set);
-    if spreading::rocks_in(n, low, neutral, &set) == 0 {
-        arrays::put(balance, v, spreading::TREE);
-        return;
-    }
-    let b = spreading::balance(n, low, neutral, &set);
-    put_where(n.benches, &set, b, balance);
+    let set = spreading::spread(n, low, high, neutral, sets::with(0, v));
+    let b = spreading::balance(n, low, neutral, set);
+    put_where(set, b, balance);
 }
 
 // Entry v: the balance of the component of v. Every entry is unknown before.

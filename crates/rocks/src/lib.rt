@@ -1,18 +1,12 @@
-// The rocks as arrays: tests at a rock, the rocks and neighbours of each bench, components and their balances.
+// The rocks as arrays: tests at a rock, components and their balances.
 mod components;
-mod neighbours;
 mod rocks;
 mod spreading;
 
 pub use components::balances;
 pub use components::component;
 pub use components::crowded_bench;
-pub use neighbours::fill_incident;
-pub use neighbours::fill_neighbours;
 pub use rocks::Limits;
-pub use rocks::child;
-pub use rocks::direct;
-pub use rocks::father;
 pub use rocks::other;
 pub use rocks::touches;
 pub use rocks::within;

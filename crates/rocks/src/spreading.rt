@@ -1,13 +1,14 @@
 // Sets of benches that neutral rocks join, and their balances.
 use crate::rocks::Limits;
-ghost use Prim.Native.Nat.{ℕ};
+ghost use Prim.Native.Nat.{ℕ, _<_};
 ghost use mathlib.Core.Path.{_≡_};
-ghost use mathlib.Core.Bool.{Bool, false, _||_};
-ghost use lib.ListN.{getD};
+ghost use mathlib.Core.Bool.{Bool};
 ghost use Rattle.sums.specs.Sum.{count};
 ghost use Rattle.sums.specs.Search.{least};
 ghost use Rattle.closure.specs.Closure.{closure};
-ghost use Rattle.rocks.specs.SpreadArrays.{insideAt, crossesAt, joinOf, widenOf, changedOf};
+ghost use Rattle.bits.specs.Bits.{isSet};
+ghost use Rattle.sets.specs.Sets.{choicesOf};
+ghost use Rattle.rocks.specs.SpreadArrays.{insideAt, crossesAt, joinOf, widenOf};
 ghost use Rattle.rocks.specs.SpreadArrays.{linkedAt, balanceOf, Within, Shows};
 
 // The balance of a set of benches: a tree has fewer rocks than benches, one cycle as many, a crowded set more.
@@ -25,62 +26,51 @@ fn crosses<'a>(
     low: &'a [usize],
     high: &'a [usize],
     dir: &'a [usize],
-    chosen: &'a [bool],
+    chosen: usize,
     r: usize,
 ) -> bool
-    ensures { λ t. ⌜ t ≡ crossesAt (now (low .entry)) (now (high .entry)) (now (dir .entry)) (now (chosen .entry)) r ⌝ }
+    ensures { λ t. ⌜ t ≡ crossesAt (now (low .entry)) (now (high .entry)) (now (dir .entry)) (isSet 64 chosen) r ⌝ }
 {
     if arrays::at(dir, r) != 0 {
         return false;
     }
-    if arrays::holds(chosen, arrays::at(low, r)) {
-        return !arrays::holds(chosen, arrays::at(high, r));
+    if sets::has(chosen, arrays::at(low, r)) {
+        return !sets::has(chosen, arrays::at(high, r));
     }
-    arrays::holds(chosen, arrays::at(high, r))
+    sets::has(chosen, arrays::at(high, r))
 }
 
-// Both ends of rock r join the set where it crosses; whether it did, or the set was changed before.
-fn join<'a>(
-    low: &'a [usize],
-    high: &'a [usize],
-    dir: &'a [usize],
-    chosen: &mut [bool],
-    r: usize,
-    changed: bool,
-) -> bool
-    ensures { λ t. ⌜ (t
-        ≡ (changed || crossesAt (now (low .entry)) (now (high .entry)) (now (dir .entry)) (now (chosen .entry)) r))
-        × (now (chosen .exit)
-        ≡ joinOf (now (low .entry)) (now (high .entry)) (now (dir .entry)) (now (chosen .entry)) r) ⌝ }
+// Both ends of rock r join the set where it crosses.
+fn join<'a>(low: &'a [usize], high: &'a [usize], dir: &'a [usize], chosen: usize, r: usize) -> usize
+    ensures { λ s. ⌜ ((v : ℕ) → v < 64 → isSet 64 s v
+        ≡ joinOf (now (low .entry)) (now (high .entry)) (now (dir .entry)) (isSet 64 chosen) r v) ⌝ }
 {
     if !crosses(low, high, dir, chosen, r) {
-        return changed;
+        return chosen;
     }
-    arrays::mark(chosen, arrays::at(low, r), true);
-    arrays::mark(chosen, arrays::at(high, r), true);
-    true
+    let more = sets::with(chosen, arrays::at(low, r));
+    sets::with(more, arrays::at(high, r))
 }
 
-// One rock after the other joins; whether any did.
+// One rock after the other joins.
 fn widen<'a>(
     n: Limits,
     low: &'a [usize],
     high: &'a [usize],
     dir: &'a [usize],
-    chosen: &mut [bool],
-) -> bool
-    ensures { λ t. ⌜ (t
-        ≡ changedOf (now (low .entry)) (now (high .entry)) (now (dir .entry)) (now (chosen .entry)) (n .rocks))
-        × (now (chosen .exit)
-        ≡ widenOf (now (low .entry)) (now (high .entry)) (now (dir .entry)) (now (chosen .entry)) (n .rocks)) ⌝ }
+    chosen: usize,
+) -> usize
+    ensures { λ s. ⌜ (Within 64 (n .rocks) (now (low .entry)) (now (high .entry)) → (v : ℕ) → v < 64
+        → isSet 64 s v
+        ≡ widenOf (now (low .entry)) (now (high .entry)) (now (dir .entry)) (isSet 64 chosen) (n .rocks) v) ⌝ }
 {
-    let mut changed = false;
+    let mut set = chosen;
     let mut r = 0;
     while r < n.rocks {
-        changed = join(low, high, dir, chosen, r, changed);
+        set = join(low, high, dir, set, r);
         r += 1;
     }
-    changed
+    set
 }
 
 // The closure of the set under the neutral rocks.
@@ -89,37 +79,40 @@ pub fn spread<'a>(
     low: &'a [usize],
     high: &'a [usize],
     dir: &'a [usize],
-    chosen: &mut [bool],
-)
-    ensures { λ _. ⌜ ((S : ℕ → Bool) → Within (n .benches) (n .rocks) (now (low .entry)) (now (high .entry))
-        → Shows (n .benches) S (now (chosen .entry))
+    chosen: usize,
+) -> usize
+    ensures { λ s. ⌜ ((S : ℕ → Bool) → Within (n .benches) (n .rocks) (now (low .entry)) (now (high .entry))
+        → Shows (n .benches) S chosen
         → Shows (n .benches)
         (closure (n .benches) (linkedAt (n .rocks) (now (low .entry)) (now (high .entry)) (now (dir .entry))) S)
-        (now (chosen .exit))) ⌝ }
+        s) ⌝ }
 {
+    let mut set = chosen;
     let mut turns = n.benches;
     while 0 < turns {
-        let changed = widen(n, low, high, dir, chosen);
-        if !changed {
-            return;
+        let wider = widen(n, low, high, dir, set);
+        if wider == set {
+            return set;
         }
+        set = wider;
         turns -= 1;
     }
+    set
 }
 
 // Whether rock r is neutral with its lower end in the set.
-fn inside<'a>(low: &'a [usize], dir: &'a [usize], chosen: &'a [bool], r: usize) -> bool
-    ensures { λ t. ⌜ t ≡ insideAt (now (low .entry)) (now (dir .entry)) (now (chosen .entry)) r ⌝ }
+fn inside<'a>(low: &'a [usize], dir: &'a [usize], chosen: usize, r: usize) -> bool
+    ensures { λ t. ⌜ t ≡ insideAt (now (low .entry)) (now (dir .entry)) (isSet 64 chosen) r ⌝ }
 {
     if arrays::at(dir, r) != 0 {
         return false;
     }
-    arrays::holds(chosen, arrays::at(low, r))
+    sets::has(chosen, arrays::at(low, r))
 }
 
 // How many rocks are inside.
-pub fn rocks_in<'a>(n: Limits, low: &'a [usize], dir: &'a [usize], chosen: &'a [bool]) -> usize
-    ensures { λ k. ⌜ k ≡ count (n .rocks) (insideAt (now (low .entry)) (now (dir .entry)) (now (chosen .entry))) ⌝ }
+fn rocks_in<'a>(n: Limits, low: &'a [usize], dir: &'a [usize], chosen: usize) -> usize
+    ensures { λ k. ⌜ k ≡ count (n .rocks) (insideAt (now (low .entry)) (now (dir .entry)) (isSet 64 chosen)) ⌝ }
 {
     let mut k = 0;
     let mut r = 0;
@@ -131,8 +124,8 @@ pub fn rocks_in<'a>(n: Limits, low: &'a [usize], dir: &'a [usize], chosen: &'a [
 }
 
 // The first rock that is inside.
-pub fn first_inside<'a>(n: Limits, low: &'a [usize], dir: &'a [usize], chosen: &'a [bool]) -> usize
-    ensures { λ r. ⌜ r ≡ least (n .rocks) (insideAt (now (low .entry)) (now (dir .entry)) (now (chosen .entry))) ⌝ }
+pub fn first_inside<'a>(n: Limits, low: &'a [usize], dir: &'a [usize], chosen: usize) -> usize
+    ensures { λ r. ⌜ r ≡ least (n .rocks) (insideAt (now (low .entry)) (now (dir .entry)) (isSet 64 chosen)) ⌝ }
 {
     let mut r = 0;
     while r < n.rocks {
@@ -145,13 +138,13 @@ pub fn first_inside<'a>(n: Limits, low: &'a [usize], dir: &'a [usize], chosen: &
 }
 
 // The balance of the set: isTree, oneCycle or crowded.
-pub fn balance<'a>(n: Limits, low: &'a [usize], dir: &'a [usize], chosen: &'a [bool]) -> usize
+pub fn balance<'a>(n: Limits, low: &'a [usize], dir: &'a [usize], chosen: usize) -> usize
     ensures { λ k. ⌜ k
-        ≡ balanceOf (count (n .rocks) (insideAt (now (low .entry)) (now (dir .entry)) (now (chosen .entry))))
-        (count (n .benches) (λ v. getD (now (chosen .entry)) v false)) ⌝ }
+        ≡ balanceOf (count (n .rocks) (insideAt (now (low .entry)) (now (dir .entry)) (isSet 64 chosen)))
+        (choicesOf chosen) ⌝ }
 {
     let rocks = rocks_in(n, low, dir, chosen);
-    let size = arrays::count(n.benches, chosen);
+    let size = sets::choices(chosen);
     if rocks < size {
         return TREE;
     }

@@ -1,5 +1,6 @@
 -- The tables of the run show the board of each state that it reaches.
 --     held-rocks, held-pebbles, few-rocks     from Ready and Held
+--     ready-table                             the table that is made of the rocks serves as they do
 --     own-total, held-owned                   the sums of weights are the board's own loads
 use Prim.Native.Nat.{ℕ, _+_, _*_, _≤_, _<_, _^_}
 use mathlib.Core.Path.{_≡_, refl, sym, ap, _∙_}
@@ -20,6 +21,7 @@ use Rattle.algorithm.specs.Start.{State}
 use Rattle.algorithm.specs.SoundDay.{SoundDay, Uncrowded}
 use Rattle.algorithm.specs.Run.{boardOf, ownMinutes}
 use Rattle.rocks.specs.BoardArrays.{rocksOf, rockAt, Rocks, Owned, Pebbles}
+use Rattle.rock_graph.specs.Graph.{lows, highs, weights as weightsIn, Tabled}
 use Rattle.arrays.specs.Loads.{amountOn}
 use Rattle.run.specs.Held.{isLeft, leftJob, Ready, Held}
 use Rattle.algorithm.proofs.Graph.{inside}
@@ -139,3 +141,29 @@ module _ (d : Day) (n : Limits) (low high weights amount : List ℕ) (pebbles : 
             sum-cong (d .jobs) (amountOn amount left place v)
             (λ j. on (not (getD (s .left) j false) && eqb (getD (s .place) j 0) v) (weight d j))
             (λ j h. rw (H .lefts j h, H .places j h, R .amounts j h))
+
+-- The table that is made of the rocks holds them too.
+pub ready-table : (d : Day) (n : Limits) (low high weights amount : List ℕ) (pebbles : List Bool) (allowed graph : List ℕ)
+    → Ready d n low high weights amount pebbles allowed → Tabled n low high weights graph
+    → Ready d n (lows graph) (highs graph) (weightsIn graph) amount pebbles allowed
+ready-table d n low high weights amount pebbles allowed graph R T =
+    let few = few-left d (R .sound) (R .uncrowded) (R .few-benches) in
+    record {
+      sound = R .sound;
+      uncrowded = R .uncrowded;
+      few-benches = R .few-benches;
+      few-jobs = R .few-jobs;
+      light = R .light;
+      benches = R .benches;
+      jobs = R .jobs;
+      rocks = R .rocks;
+      bounds = R .bounds;
+      smalls = R .smalls;
+      limits = R .limits;
+      lows = λ r h. T .same-lows r (omega (arith, h, few)) ∙ R .lows r h;
+      highs = λ r h. T .same-highs r (omega (arith, h, few)) ∙ R .highs r h;
+      heavies = λ r h. T .same-weights r (omega (arith, h, few)) ∙ R .heavies r h;
+      amounts = R .amounts;
+      pebbly = R .pebbly;
+      allowing = R .allowing;
+    }

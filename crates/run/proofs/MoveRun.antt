@@ -141,9 +141,9 @@ module _ (d : Day) (n : Limits) (low high weights amount : List ℕ) (pebbles : 
           omega (arith, H .places job below, S .allowed-below job (getD (s .place) job 0) below (S .pebble-allowed job below is))
 
       -- A job that is on u now was on u before.
-      had : (from : List ℕ) → Reaches (boardOf d s) from → (y : ℕ) → y < d .benches
-          → any (n .jobs) (liesAt choice place′ u y) ≡ true → isSet 64 (getD from u 0) y ≡ true
-      had from F y hy p =
+      had : (reaches : List ℕ) → Reaches (boardOf d s) reaches → (y : ℕ) → y < d .benches
+          → any (n .jobs) (liesAt choice place′ u y) ≡ true → isSet 64 (getD reaches u 0) y ≡ true
+      had reaches F y hy p =
           let (j, l, q) = any-elim (n .jobs) (liesAt choice place′ u y) p in
           let h : j < d .jobs = omega (arith, R .jobs) in
           F .entries u y u-below hy ∙ sym (lies-day s m place H u y hy)
@@ -155,12 +155,12 @@ module _ (d : Day) (n : Limits) (low high weights amount : List ℕ) (pebbles : 
             | inr far ↦ other-lies u y j far ∙ q
           ])
 
-      pub moved-reach : (from from′ : List ℕ) → length from ≡ 64 → Reaches (boardOf d s) from → ReachShifted (n .jobs) choice place′ from u bench job from′
-          → Reaches (boardOf d s′) from′
-      moved-reach from from′ sized F S =
+      pub moved-reach : (reaches reaches′ : List ℕ) → length reaches ≡ 64 → Reaches (boardOf d s) reaches → ReachShifted (n .jobs) choice place′ reaches u bench job reaches′
+          → Reaches (boardOf d s′) reaches′
+      moved-reach reaches reaches′ sized F S =
           record {
             entries = λ x y hx hy.
-                let step = S x y (omega (arith, sized, R .few-benches)) (omega (arith, R .few-benches)) (had from F y hy) in
+                let step = S x y (omega (arith, sized, R .few-benches)) (omega (arith, R .few-benches)) (had reaches F y hy) in
                 let all-jobs : any (n .jobs) (liesAt choice place′ u y) ≡ any (d .jobs) (liesAt choice place′ u y) =
                 ap (λ (k : ℕ). any k (liesAt choice place′ u y)) (R .jobs) in
                 elim (eq-or-ne x u) [
@@ -168,13 +168,13 @@ module _ (d : Day) (n : Limits) (low high weights amount : List ℕ) (pebbles : 
                       step ∙ rw (eq-eqb x u e)
                       (all-jobs ∙ ap (λ (k : ℕ). any (d .jobs) (liesAt choice place′ k y)) (sym e) ∙ lies-day s′ m′ place′ H′ x y hy)
                   | inr ne ↦
-                      let old : isSet 64 (getD from x 0) y ≡ any (d .jobs) (liesAt choice place x y) =
+                      let old : isSet 64 (getD reaches x 0) y ≡ any (d .jobs) (liesAt choice place x y) =
                       F .entries x y hx hy ∙ sym (lies-day s m place H x y hy) in
                       let was : liesAt choice place x y job ≡ false = rw (ne-eqb u x (λ q. ne (sym q))) in
                       elim (eq-or-ne x bench) [
                         | inl e ↦
                             let comes : liesAt choice place′ x y job ≡ isSet 64 (getD choice job 0) y = rw (place-new, eq-eqb bench x (sym e)) in
-                            let there : isSet 64 (getD from bench 0) y ≡ isSet 64 (getD from x 0) y = ap (λ (k : ℕ). isSet 64 (getD from k 0) y) (sym e) in
+                            let there : isSet 64 (getD reaches bench 0) y ≡ isSet 64 (getD reaches x 0) y = ap (λ (k : ℕ). isSet 64 (getD reaches k 0) y) (sym e) in
                             step ∙ rw (ne-eqb x u ne, eq-eqb x bench e)
                             (ap₂ (λ (a b : Bool). a || b) (there ∙ old) (sym comes)
                             ∙ any-one (d .jobs) (liesAt choice place x y) (liesAt choice place′ x y) job below (λ j h far. other-lies x y j far) was

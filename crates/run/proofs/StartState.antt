@@ -44,7 +44,7 @@ begins-light d jobs minutes allowed F v =
 module _ (d : Day) (n : Limits) (minutes allowed amount job low high balance burden : List ℕ) (rocks pebbles : List Bool)
     (B : Begins d n minutes allowed amount job low high balance burden rocks pebbles) where
   uncrowded : Uncrowded d
-  uncrowded = uncrowded-test d (B .sparse)
+  uncrowded = uncrowded-test d (B .sparse-day .sparse)
 
   -- The limits of the day, and lists of the rocks that are left.
   left-limits : Limits
@@ -66,7 +66,7 @@ module _ (d : Day) (n : Limits) (minutes allowed amount job low high balance bur
       let F = B .fields in
       let k = count (d .jobs) (isLeft d) in
       record {
-        sound = B .day-rocks .sound;
+        sound = B .sparse-day .day-rocks .sound;
         uncrowded = uncrowded;
         few-benches = F .bounded .few-benches;
         few-jobs = F .bounded .few-jobs;
@@ -87,7 +87,7 @@ module _ (d : Day) (n : Limits) (minutes allowed amount job low high balance bur
 
   module _ (left : List Bool) (place : List ℕ) (P : Placed d (start d) left place) where
     pub started-held : Held d 0 (start d) left place
-    started-held = record { reached = at-start (B .short) (B .sparse); lefts = P .lefts; room = P .place-room; places = P .places }
+    started-held = record { reached = at-start (B .sparse-day .short) (B .sparse-day .sparse); lefts = P .lefts; room = P .place-room; places = P .places }
 
     pub started-pebbles : Pebbles (boardOf d (start d)) pebbles allowed place
     started-pebbles =

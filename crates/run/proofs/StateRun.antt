@@ -6,7 +6,7 @@
 --     Turning                         what the loop of the turns keeps; how it goes on, and how it ends
 use Prim.Native.Nat.{ℕ, suc, _+_, _-_, _*_, _%_, _≤_, _<_, _^_}
 use mathlib.Core.Path.{_≡_, refl, sym, ap, subst, _∙_}
-use mathlib.Core.Bool.{Bool, true, false, _&&_}
+use mathlib.Core.Bool.{Bool, true, false, cond, _&&_}
 use mathlib.Core.Logic.{inl, inr, _≢_}
 use mathlib.Core.List.{List}
 use native.Mathlib.Omega.{arith}
@@ -33,9 +33,10 @@ use Rattle.algorithm.specs.Start.{State, start}
 use Rattle.algorithm.specs.Run.{boardOf, explored, congested, canMove, nextState, turns, budget}
 use Rattle.algorithm.specs.States.{Reached, by-move}
 use Rattle.arrays.specs.Arrays.{plusOf}
-use Rattle.rocks.specs.BoardArrays.{rocksOf, Rocks, Owned, Rounds}
+use Rattle.rocks.specs.BoardArrays.{Owned, Rounds}
 use Rattle.explore.specs.ExploreArrays.{Reaches}
-use Rattle.push.specs.PushArrays.{Wanted, Goals, Choices}
+use Rattle.push.specs.PushArrays.{Receivers, Choices}
+use Rattle.rock_graph.specs.Graph.{lows, highs, weights, Mapped, RockGraph}
 use Rattle.push.specs.KeptArrays.{shiftedOf, ReachShifted, Chosen}
 use Rattle.rocks.specs.Shown.{Shown, ShowsActive}
 use Rattle.run.specs.Held.{Ready, Held, Holds, Explores, SameExploration, Pushed, a-move, no-move, Last}
@@ -63,40 +64,55 @@ module _ (b : Board) (x : Explored) (few : b .benches ≤ 64) (set : ℕ) (A : S
       any-intro (b .benches) (activated b x) v (ltb-true v (b .benches) (and-left (ltb v (b .benches)) (activated b x v) both))
       (and-right (ltb v (b .benches)) (activated b x v) both)
 
-module _ (d : Day) (n : Limits) (low high weights amount : List ℕ) (pebbles : List Bool) (allowed : List ℕ)
-    (R : Ready d n low high weights amount pebbles allowed) where
-  -- ── an exploration ──
+-- ── an exploration, and what a push finds ──
+
+-- The rocks of the day, as a table.
+module _ (d : Day) (n : Limits) (graph amount : List ℕ) (pebbles : List Bool) (allowed : List ℕ)
+    (R : Ready d n (lows graph) (highs graph) (weights graph) amount pebbles allowed) (M : Mapped n graph) where
+  held-graph : (m : ℕ) (s : State) (kept : Kept) → Holds d m s kept → RockGraph (boardOf d s) n graph
+  held-graph m s kept H =
+      record {
+        rocks = held-rocks d n (lows graph) (highs graph) (weights graph) amount pebbles allowed R m s (kept .left) (kept .place) (H .held);
+        few-rocks = few-rocks d n (lows graph) (highs graph) (weights graph) amount pebbles allowed R m s (kept .left) (kept .place) (H .held);
+        maps = M;
+      }
 
   -- The fields besides the exploration are kept.
   pub orients : (m : ℕ) (s : State) (before after : Kept) → Holds d m s before
       → after .left ≡ before .left → after .place ≡ before .place → after .moves ≡ before .moves → after .own ≡ before .own → after .reach ≡ before .reach
-      → (Rocks (boardOf d s) n low high weights → Owned (boardOf d s) (before .own) → Reaches (boardOf d s) (before .reach) → rocksOf (boardOf d s) ≤ 64
+      → (RockGraph (boardOf d s) n graph → Owned (boardOf d s) (before .own) → Reaches (boardOf d s) (before .reach)
       → Shown (boardOf d s) (explored d s) (after .dir) (after .load) (after .joined) (after .level) × ShowsActive (boardOf d s) (explored d s) (after .active))
       → after .active < 2 ^ 64 → Holds d m s after × Explores d s after
   orients m s before after H l p k o f call fits =
-      let X = call (held-rocks d n low high weights amount pebbles allowed R m s (before .left) (before .place) (H .held)) (H .owned) (H .reaches)
-      (few-rocks d n low high weights amount pebbles allowed R m s (before .left) (before .place) (H .held)) in (
+      let X = call (held-graph m s before H) (H .owned) (H .reaches) in (
         record { held = rw (l, p) (H .held); made = k ∙ H .made; owned = rw o (H .owned); reaches = rw f (H .reaches) },
         record { shown = X .0; active = X .1; active-fits = fits },
       )
 
-  -- The first pair, from what the three functions of the search promise.
+  -- The first pair, from what the two functions of the search promise.
   pub push-found-at : (m : ℕ) (s : State) (kept : Kept) → Holds d m s kept → Explores d s kept → (choice : List ℕ) → Chosen (n .jobs) pebbles allowed choice
-      → (wanted goals : List ℕ) {job bench : ℕ}
-      → (Rocks (boardOf d s) n low high weights → Owned (boardOf d s) (kept .own)
+      → (receivers : List ℕ) {job bench : ℕ}
+      → (RockGraph (boardOf d s) n graph → Owned (boardOf d s) (kept .own)
       → Shown (boardOf d s) (explored d s) (kept .dir) (kept .load) (kept .joined) (kept .level)
-      → replicate {A = ℕ} 66 0 ≡ replicate {A = ℕ} 66 0 → Wanted (boardOf d s) (explored d s) wanted)
-      → ((low′ high′ weights′ : List ℕ) → Rocks (boardOf d s) n low′ high′ weights′ → Rounds (boardOf d s) (explored d s .level) (kept .level)
-      → Wanted (boardOf d s) (explored d s) wanted → d .benches ≤ length (replicate {A = ℕ} 64 0) → Goals (boardOf d s) (explored d s) goals)
-      → ((low′ high′ weights′ : List ℕ) → Rocks (boardOf d s) n low′ high′ weights′ → Choices (boardOf d s) choice (kept .place)
-      → Goals (boardOf d s) (explored d s) goals
-      → (job ≡ pushJob (boardOf d s) (explored d s)) × (job < d .jobs → bench ≡ pushBench (boardOf d s) (explored d s)))
+      → replicate {A = ℕ} 66 0 ≡ replicate {A = ℕ} 66 0 → Receivers (boardOf d s) (explored d s) receivers)
+      → ((graph′ : List ℕ) → RockGraph (boardOf d s) n graph′ → Choices (boardOf d s) choice (kept .place)
+      → Rounds (boardOf d s) (explored d s .level) (kept .level) → Receivers (boardOf d s) (explored d s) receivers
+      → (job ≡ pushJob (boardOf d s) (explored d s))
+      × (bench ≡ cond (ltb (pushJob (boardOf d s) (explored d s)) (d .jobs)) (pushBench (boardOf d s) (explored d s)) 0))
       → (job ≡ pushJob (boardOf d s) (explored d s)) × (job < d .jobs → bench ≡ pushBench (boardOf d s) (explored d s))
-  push-found-at m s kept H X choice C wanted goals want aim find =
-      let rocks = held-rocks d n low high weights amount pebbles allowed R m s (kept .left) (kept .place) (H .held) in
-      let goals-are = aim low high weights rocks (X .shown .level) (want rocks (H .owned) (X .shown) refl) (omega (arith, length-replicate {A = ℕ} 64 0, R .few-benches)) in
-      find low high weights rocks (held-choices d n low high weights amount pebbles allowed R m s (kept .left) (kept .place) (H .held) choice C) goals-are
+  push-found-at m s kept H X choice C receivers receive find =
+      let G = held-graph m s kept H in
+      let found = find graph G (held-choices d n (lows graph) (highs graph) (weights graph) amount pebbles allowed R m s (kept .left) (kept .place) (H .held) choice C)
+      (X .shown .level) (receive G (H .owned) (X .shown) refl) in (
+        found .0,
+        λ h.
+            found .1
+            ∙ ap (λ (t : Bool). cond t (pushBench (boardOf d s) (explored d s)) 0)
+            (lt-ltb (pushJob (boardOf d s) (explored d s)) (d .jobs) (omega (arith, found .0, h))),
+      )
 
+module _ (d : Day) (n : Limits) (low high weights amount : List ℕ) (pebbles : List Bool) (allowed : List ℕ)
+    (R : Ready d n low high weights amount pebbles allowed) where
   -- ── a push ──
 
   few-moves : (m : ℕ) (s : State) → Reached d m s → m ≤ 32768

@@ -1,7 +1,9 @@
 -- What the program's tables hold of a day, and its state of a state of the run.
 --     isLeft d j, leftJob d r   the jobs of the rocks that are left after the start; the r-th of them
---     Begins d n ..             the tables that the start reads: the day's jobs, rocks, pebbles, weights and booked
---                               minutes
+--     Sparse d n ..             tables hold the rocks of a day without a long job or a crowded component, and its
+--                               limits
+--     Begins d n ..             the tables that the start reads: such a day's jobs, rocks, pebbles, weights and
+--                               booked minutes
 --     Ready d n ..              the tables that the turns read: numbers, rocks left, weights, pebbles and allowed
 --                               benches
 --     Held d m s left place     two tables hold the state s, to which the run comes after m moves
@@ -43,22 +45,26 @@ leftJob d r = getD (members (d .jobs) (isLeft d)) r 0
 
 -- ── tables of a day ──
 
--- A day without a long job or a crowded component. All its rocks are in the tables; weights are multiplied by 3q.
-pub record Begins (d : Day) (n : Limits) (minutes allowed amount job low high balance burden : List ℕ)
-    (rocks pebbles : List Bool) : Type 0 where
-  pub fields : Fields d (n .jobs) minutes allowed
+-- A day without a long job or a crowded component: all its rocks, and its limits.
+pub record Sparse (d : Day) (n : Limits) (job low high balance : List ℕ) (rocks : List Bool) : Type 0 where
   pub day-rocks : DayRocks d n low high
   pub rock-jobs : JobsOf d job
   pub cycles : Cycles d balance
   pub rocky : (j : ℕ) → j < d .jobs → getD rocks j false ≡ rock d j
-  pub pebbly : (j : ℕ) → j < d .jobs → getD pebbles j false ≡ pebble d j
-  pub amounts : (j : ℕ) → j < d .jobs → getD amount j 0 ≡ weight d j
-  pub burdens : (v : ℕ) → v < d .benches → getD burden v 0 ≡ scale d * d .booked v
   pub bounds : n .bound ≡ bound d
   pub smalls : n .small ≡ small d
   pub limits : n .limit ≡ limit d
   pub short : ltb (longJob d) (d .jobs) ≡ false
   pub sparse : ltb (crowdedBench d) (d .benches) ≡ false
+
+-- Such a day with its pebbles, and with weights multiplied by 3q.
+pub record Begins (d : Day) (n : Limits) (minutes allowed amount job low high balance burden : List ℕ)
+    (rocks pebbles : List Bool) : Type 0 where
+  pub fields : Fields d (n .jobs) minutes allowed
+  pub sparse-day : Sparse d n job low high balance rocks
+  pub pebbly : (j : ℕ) → j < d .jobs → getD pebbles j false ≡ pebble d j
+  pub amounts : (j : ℕ) → j < d .jobs → getD amount j 0 ≡ weight d j
+  pub burdens : (v : ℕ) → v < d .benches → getD burden v 0 ≡ scale d * d .booked v
 
 pub record Ready (d : Day) (n : Limits) (low high weights amount : List ℕ) (pebbles : List Bool) (allowed : List ℕ)
     : Type 0 where

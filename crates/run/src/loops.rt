@@ -7,7 +7,7 @@ ghost use Rattle.algorithm.specs.Start.{start as startOf};
 ghost use Rattle.algorithm.specs.Run.{budget as budgetOf};
 ghost use Rattle.run.specs.Held.{Ready, Holds, Last};
 
-// Explorations and pushes one after another, until no bench is overloaded or no push is possible. The tables and sets
+// Explorations and pushes one after another, until no bench is overloaded or no push is possible. The tables
 // that every turn reads are made first.
 pub fn turns<'a>(
     first: State,
@@ -25,25 +25,21 @@ pub fn turns<'a>(
         (now (pebble .entry)) (now (allowed .entry))
         → Holds d 0 (startOf d) first → budget ≡ budgetOf d → Last d r) ⌝ }
 {
-    let mut incident = [0usize; 64];
-    rocks::fill_incident(n, low, high, &mut incident);
-    let mut neighbours = [0usize; 64];
-    rocks::fill_neighbours(low, high, &incident, &mut neighbours);
-    let all = sets::everywhere(n.benches);
-    let touched = sets::some(&incident);
+    let mut graph = [0usize; 323];
+    rock_graph::fill_graph(n, low, high, weight, &mut graph);
     let mut choice = [0usize; 512];
     start::choose(n.jobs, pebble, allowed, &mut choice);
     let mut s = first;
     // One exploration more than there can be moves.
     let mut left = arrays::plus(budget, 1);
     while 0 < left {
-        s = s.orient(n, low, high, weight, &incident, &neighbours, all, touched);
+        s = s.orient(n, &graph);
         let active = s.active;
         if active == 0 {
             return s;
         }
         let before = s.moves;
-        s = s.push(n, low, high, weight, amount, &choice);
+        s = s.push(n, &graph, amount, &choice);
         let after = s.moves;
         if after == before {
             return s;

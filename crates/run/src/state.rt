@@ -5,7 +5,7 @@ ghost use mathlib.Core.Bool.{Bool};
 ghost use Prim.Native.Nat.{ℕ};
 ghost use Rattle.day.specs.Day.{Day};
 ghost use Rattle.algorithm.specs.Start.{State as RunState, start as startOf};
-ghost use Rattle.rocks.specs.Neighbours.{Mapped};
+ghost use Rattle.rock_graph.specs.Graph.{lows, highs, weights, Mapped};
 ghost use Rattle.push.specs.KeptArrays.{Chosen};
 ghost use Rattle.start.specs.StartArrays.{Placed};
 ghost use Rattle.run.specs.Held.{Begins, Ready, Holds, Unexplored, Explores, Pushed};
@@ -74,23 +74,12 @@ impl State {
     }
 
     // explored d s, from nothing.
-    pub fn orient<'a>(
-        mut self,
-        n: Limits,
-        low: &'a [usize],
-        high: &'a [usize],
-        weight: &'a [usize],
-        incident: &'a [usize],
-        neighbours: &'a [usize],
-        all: usize,
-        touched: usize,
-    ) -> State
+    pub fn orient<'a>(mut self, n: Limits, graph: &'a [usize]) -> State
         ensures { λ r. ⌜ ((d : Day) → (m : ℕ) → (s : RunState) → (amount : List ℕ) → (pebble : List Bool)
             → (allowed : List ℕ)
-            → Ready d n (now (low .entry)) (now (high .entry)) (now (weight .entry)) amount pebble allowed
-            → Mapped n (now (low .entry)) (now (high .entry)) (now (incident .entry)) (now (neighbours .entry)) all
-            touched
-            → Holds d m s self → Holds d m s r × Explores d s r) ⌝ }
+            → Ready d n (lows (now (graph .entry))) (highs (now (graph .entry))) (weights (now (graph .entry))) amount
+            pebble allowed
+            → Mapped n (now (graph .entry)) → Holds d m s self → Holds d m s r × Explores d s r) ⌝ }
     {
         let own = self.own;
         let never = arrays::plus(n.benches, 1);
@@ -100,13 +89,7 @@ impl State {
         let mut level = [never; 64];
         let active = explore::explore(
             n,
-            low,
-            high,
-            weight,
-            incident,
-            neighbours,
-            all,
-            touched,
+            graph,
             &own,
             &self.reach,
             &mut dir,
@@ -126,34 +109,28 @@ impl State {
     pub fn push<'a>(
         mut self,
         n: Limits,
-        low: &'a [usize],
-        high: &'a [usize],
-        weight: &'a [usize],
+        graph: &'a [usize],
         amount: &'a [usize],
         choice: &'a [usize],
     ) -> State
         ensures { λ r. ⌜ ((d : Day) → (m : ℕ) → (s : RunState) → (pebble : List Bool) → (allowed : List ℕ)
-            → Ready d n (now (low .entry)) (now (high .entry)) (now (weight .entry)) (now (amount .entry)) pebble
-            allowed
-            → Chosen (n .jobs) pebble allowed (now (choice .entry))
+            → Ready d n (lows (now (graph .entry))) (highs (now (graph .entry))) (weights (now (graph .entry)))
+            (now (amount .entry)) pebble allowed
+            → Mapped n (now (graph .entry)) → Chosen (n .jobs) pebble allowed (now (choice .entry))
             → Holds d m s self → Explores d s self → Pushed d m s self r) ⌝ }
     {
-        let mut wanted = [0usize; 66];
-        push::mark_levels(
+        let mut receivers = [0usize; 66];
+        push::fill_receivers(
             n,
-            low,
-            high,
-            weight,
+            graph,
             &self.own,
             &self.dir,
             &self.load,
             &self.joined,
             &self.level,
-            &mut wanted,
+            &mut receivers,
         );
-        let mut goals = [0usize; 64];
-        push::fill_goals(n, &self.level, &wanted, &mut goals);
-        let m = push::first_push(n, choice, &self.place, &goals);
+        let m = push::first_push(n, choice, &self.place, &self.level, &receivers);
         let job = m.job;
         let bench = m.bench;
         if job < n.jobs {

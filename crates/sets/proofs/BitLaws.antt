@@ -2,10 +2,9 @@
 --     leading-least, trailing-least  zeros before the first and behind the last number of a set
 --     choices-count, lowest-leading, highest-trailing     so the processor's counts are those of the set
 --     with-bench, with-none          a set with one more number
---     set-more                       the numbers with P, one number more
 use Prim.Native.Nat.{ℕ, zero, suc, _+_, _-_, _*_, _/_, _%_, _^_, _≤_, _<_, max}
 use mathlib.Core.Path.{_≡_, refl, sym, ap, _∙_}
-use mathlib.Core.Bool.{true, false, _||_, Bool}
+use mathlib.Core.Bool.{true, false, _||_}
 use mathlib.Core.Logic.{inl, inr}
 use native.Mathlib.Nat.{pow-suc, eq-zero-or-pos, div-lt-iff-lt-mul, div-one}
 use native.Mathlib.Omega.{arith}
@@ -13,7 +12,7 @@ use lib.Dec.{eqb}
 use lib.Bits.{bitOr}
 use lib.Pow.{pow-mono, pow-pos, pow-lt, pow-add, shl-shr, shr-shr}
 use lib.Count.{ones, leadingZeros, trailingZeros, leading-of-zero, leading-top}
-use borrow.Author.Tests.{eq-eqb, ne-eqb, le-leb, lt-leb}
+use borrow.Author.Tests.{eq-eqb, ne-eqb}
 use Rattle.bools.proofs.BoolLaws.{or-right, or-unit}
 use Rattle.bools.proofs.OrderLaws.{eq-or-ne, lt-or-le, lt-of-ne}
 use Rattle.sums.specs.Search.{least}
@@ -21,9 +20,7 @@ use Rattle.sums.proofs.SearchLaws.{least-found, least-none, least-here, least-t
 use Rattle.bits.specs.Bits.{isSet}
 use Rattle.bits.proofs.SetBits.{isSet-digit, isSet-zero, count-isSet}
 use Rattle.sets.proofs.SetLaws.{or-bit}
-use Rattle.sets.specs.Sets.{choicesOf, lowestOf, highestOf, bitOf, setMore, setUpTo}
-use native.Mathlib.Numerals.{add-one}
-use Rattle.arrays.specs.Arrays.{plusOf}
+use Rattle.sets.specs.Sets.{choicesOf, lowestOf, highestOf}
 
 -- ── sets of benches ──
 
@@ -137,23 +134,3 @@ with-bench set v u hv hu =
 
 pub with-none : (set v u : ℕ) → 63 < v → u < 64 → isSet 64 set u ≡ (isSet 64 set u || eqb u v)
 with-none set v u hv hu = sym (or-unit (isSet 64 set u) (ne-eqb u v (λ e. omega arith)))
-
-pub bit-none : (v : ℕ) → 63 < v → 0 ≡ bitOf v
-bit-none v h = rw (lt-leb v 63 h)
-
-pub bit-some : (v : ℕ) → v ≤ 63 → 1 * 2 ^ (63 - v) % 18446744073709551616 ≡ bitOf v
-bit-some v h =
-    let small : 2 ^ (63 - v) < 2 ^ 64 = pow-lt {i = 63 - v} {j = 64} (omega arith) in
-    let power : 1 * 2 ^ (63 - v) % 18446744073709551616 ≡ 2 ^ (63 - v) = omega arith in
-    rw (le-leb v 63 h) power
-
-pub set-none : (P : ℕ → Bool) → 0 ≡ setUpTo 0 P
-unfolding setUpTo
-set-none P = refl
-
-pub set-more : (P : ℕ → Bool) (v : ℕ) {s next : ℕ} {t : Bool} → s ≡ setUpTo v P → t ≡ P v → next ≡ setMore s v t → next ≡ setUpTo (v + 1) P
-unfolding setUpTo
-set-more P v e a b = rw add-one (b ∙ cc)
-
-pub more-yes : (s v : ℕ) {t : Bool} {next : ℕ} → t ≡ true → next ≡ plusOf s (bitOf v) → next ≡ setMore s v t
-more-yes s v e n = rw e n

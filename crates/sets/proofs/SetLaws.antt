@@ -5,6 +5,8 @@
 --     above-set                 the numbers of a set that are higher than one
 --     after-set, after-less     a set without its lowest number; as a number it is less
 --     has-past, has-in          whether a number is in a set
+--     in-isSet                  that it is below 64 need not be tested
+--     choices-below             how many numbers a set of numbers below m has
 use Prim.Native.Nat.{ℕ, zero, suc, _+_, _-_, _*_, _/_, _%_, _^_, _≤_, _<_, min, max}
 use mathlib.Core.Path.{_≡_, refl, sym, ap, subst, _∙_}
 use mathlib.Core.Bool.{Bool, true, false, not, _&&_, _||_}
@@ -14,13 +16,15 @@ use lib.Bits.{bitAnd, bitOr, bitXor, differ, and-step, and-shr, or-step, or-shr,
 use lib.Dec.{eqb, ltb}
 use native.Mathlib.Nat.{mod-lt, mul-le-mul, le-refl}
 use lib.Pow.{field, mod-mod-pow, pow-pos, pow-lt, pow-mono, shr-lt, split as parts-of}
-use borrow.Author.Tests.{eq-eqb, ne-eqb, eqb-true, lt-ltb, le-ltb, le-leb, lt-leb}
+use borrow.Author.Tests.{eq-eqb, ne-eqb, eqb-true, lt-ltb, le-ltb}
 use Rattle.bools.proofs.BoolLaws.{and-intro, and-false-left, and-false-right, not-intro-true, and-unit}
 use Rattle.bools.proofs.OrderLaws.{eq-or-ne, lt-or-le, lt-of-ne}
+use Rattle.sums.specs.Sum.{count}
 use Rattle.sums.proofs.SearchLaws.{least-holds, least-before}
+use Rattle.sums.proofs.CountLaws.{count-cong, count-none, count-split}
 use Rattle.bits.specs.Bits.{isSet}
 use Rattle.bits.proofs.SetBits.{isSet-digit, isSet-past, isSet-zero}
-use Rattle.sets.specs.Sets.{lowestOf, hasAt}
+use Rattle.sets.specs.Sets.{choicesOf, lowestOf}
 
 even-plus : (k m : ℕ) → m < 2 → (k * 2 + m) % 2 ≡ m
 even-plus k m h = omega arith
@@ -181,11 +185,29 @@ above-none set v u h l = isSet-zero 64 u ∙ sym (and-false-right (isSet 64 set 
 
 -- ── a set of benches in a mask ──
 
-pub has-past : (mask v : ℕ) → 63 < v → false ≡ hasAt mask v
-has-past mask v h = sym (and-false-left (isSet 64 mask v) (lt-leb v 63 h))
+pub has-past : (mask v : ℕ) → 63 < v → false ≡ isSet 64 mask v
+has-past mask v h = sym (isSet-past 64 mask v (omega arith))
 
-pub has-in : (mask v : ℕ) → v ≤ 63 → eqb (mask / 2 ^ (63 - v) % 2) 1 ≡ hasAt mask v
-has-in mask v h = rw (le-leb v 63 h, isSet-digit 64 mask v (omega arith))
+pub has-in : (mask v : ℕ) → v ≤ 63 → eqb (mask / 2 ^ (63 - v) % 2) 1 ≡ isSet 64 mask v
+has-in mask v h = sym (isSet-digit 64 mask v (omega arith))
 
-pub has-set : (mask v : ℕ) → v < 64 → hasAt mask v ≡ isSet 64 mask v
-has-set mask v h = ap (λ (k : Bool). k && isSet 64 mask v) (le-leb v 63 (omega arith))
+pub in-isSet : (set v : ℕ) → (ltb v 64 && isSet 64 set v) ≡ isSet 64 set v
+in-isSet set v = elim (lt-or-le v 64) [
+  | inl l ↦ ap (λ (k : Bool). k && isSet 64 set v) (lt-ltb v 64 l)
+  | inr l ↦ and-false-right (ltb v 64) (isSet-past 64 set v l) ∙ sym (isSet-past 64 set v l)
+]
+
+-- ── how many numbers ──
+
+count-below : (m n : ℕ) (f : ℕ → Bool) → m ≤ n → count n (λ i. ltb i m && f i) ≡ count m f
+count-below m n f few =
+    let k : ℕ = n - m in
+    let parts : n ≡ m + k = omega arith in
+    let g : ℕ → Bool = λ i. ltb i m && f i in
+    let near : count m g ≡ count m f = count-cong m g f (λ i h. ap (λ (t : Bool). t && f i) (lt-ltb i m h)) in
+    let far : count k (λ i. g (m + i)) ≡ 0 = count-none k (λ i. g (m + i)) (λ i h. and-false-left (f (m + i)) (le-ltb (m + i) m (omega arith))) in
+    ap (λ (x : ℕ). count x g) parts ∙ count-split m k g ∙ omega (arith, near, far)
+
+pub choices-below : (set m : ℕ) (S : ℕ → Bool) → m ≤ 64 → ((v : ℕ) → v < 64 → isSet 64 set v ≡ (ltb v m && S v)) → choicesOf set ≡ count m S
+unfolding choicesOf
+choices-below set m S few same = count-cong 64 (isSet 64 set) (λ v. ltb v m && S v) same ∙ count-below m 64 S few

@@ -2,12 +2,11 @@
 use crate::sets;
 ghost use mathlib.Core.Path.{_≡_};
 ghost use Prim.Native.Nat.{ℕ, _<_};
-ghost use mathlib.Core.Bool.{true, not, _&&_, _||_, false};
+ghost use mathlib.Core.Bool.{true, not, _&&_, _||_};
 ghost use lib.Dec.{eqb, ltb};
 ghost use lib.ListN.{getD};
 ghost use Rattle.sums.specs.Search.{any};
 ghost use Rattle.bits.specs.Bits.{isSet};
-ghost use Rattle.sets.specs.Sets.{bitOf, setMore, setUpTo};
 
 // The benches that some entry of the set has; of those that are not in `full` only some.
 pub fn reach_of(table: &[usize], benches: usize, full: usize) -> usize
@@ -60,37 +59,4 @@ pub fn everywhere(benches: usize) -> usize
         v += 1;
     }
     all
-}
-
-// Bench v as a set: the bit of weight 2 ^ (63 - v).
-fn bit(v: usize) -> usize
-    ensures { λ r. ⌜ r ≡ bitOf v ⌝ }
-{
-    if 63 < v {
-        return 0;
-    }
-    1 << (63 - v)
-}
-
-// A set with bench v where it counts.
-fn more(set: usize, v: usize, counts: bool) -> usize
-    ensures { λ r. ⌜ r ≡ setMore set v counts ⌝ }
-{
-    if counts {
-        return arrays::plus(set, bit(v));
-    }
-    set
-}
-
-// The marked benches, as a set.
-pub fn set_of(benches: usize, marked: &[bool]) -> usize
-    ensures { λ r. ⌜ r ≡ setUpTo benches (λ v. getD (now (marked .entry)) v false) ⌝ }
-{
-    let mut set = 0;
-    let mut v = 0;
-    while v < benches {
-        set = more(set, v, arrays::holds(marked, v));
-        v += 1;
-    }
-    set
 }

@@ -4,13 +4,20 @@ ghost use Prim.Native.Nat.{ℕ, _<_};
 ghost use mathlib.Core.Bool.{not, _&&_, _||_};
 ghost use lib.Dec.{eqb, ltb};
 ghost use Rattle.bits.specs.Bits.{isSet};
-ghost use Rattle.sets.specs.Sets.{lowestOf, hasAt, choicesOf, highestOf};
+ghost use Rattle.sets.specs.Sets.{lowestOf, choicesOf, highestOf};
 
 // The numbers that both sets have.
 pub fn common(a: usize, b: usize) -> usize
     ensures { λ r. ⌜ ((u : ℕ) → isSet 64 r u ≡ (isSet 64 a u && isSet 64 b u)) ⌝ }
 {
     a & b
+}
+
+// The numbers that one of the sets has.
+pub fn either(a: usize, b: usize) -> usize
+    ensures { λ r. ⌜ ((u : ℕ) → isSet 64 r u ≡ (isSet 64 a u || isSet 64 b u)) ⌝ }
+{
+    a | b
 }
 
 // The numbers of the first set that the second lacks.
@@ -50,7 +57,7 @@ pub fn above(set: usize, v: usize) -> usize
 
 // Whether the set `mask` has number v.
 pub fn has(mask: usize, v: usize) -> bool
-    ensures { λ r. ⌜ r ≡ hasAt mask v ⌝ }
+    ensures { λ r. ⌜ r ≡ isSet 64 mask v ⌝ }
 {
     if 63 < v {
         return false;

@@ -6,22 +6,23 @@ ghost use mathlib.Core.Bool.{Bool, _&&_};
 ghost use mathlib.Core.List.{List};
 ghost use lib.ListN.{set};
 ghost use Rattle.sums.specs.Search.{least};
+ghost use Rattle.bits.specs.Bits.{isSet};
 ghost use Rattle.algorithm.specs.Board.{Board, Directions};
 ghost use Rattle.algorithm.specs.Settle.{follow, settleSystem, settle};
 ghost use Rattle.arrays.specs.Arrays.{plusOf};
 ghost use Rattle.rocks.specs.RockArrays.{lowestEnd, touchesAt, otherAt};
-ghost use Rattle.rocks.specs.BoardArrays.{Rocks, Directed, Marked};
+ghost use Rattle.rocks.specs.BoardArrays.{Rocks, Directed};
 ghost use Rattle.rocks.specs.SpreadArrays.{neutralRock};
-ghost use Rattle.settle.specs.SettleArrays.{followsAt};
+ghost use Rattle.settle.specs.SettleArrays.{followsAt, ShowsMarks};
 
 // Whether rock r is neutral and bench v, one of its ends, is marked.
-fn follows<'a>(dir: &'a [usize], marked: &'a [bool], r: usize, v: usize) -> bool
-    ensures { λ t. ⌜ t ≡ followsAt (now (dir .entry)) (now (marked .entry)) r v ⌝ }
+fn follows(dir: &[usize], marked: usize, r: usize, v: usize) -> bool
+    ensures { λ t. ⌜ t ≡ followsAt (now (dir .entry)) (isSet 64 marked) r v ⌝ }
 {
     if arrays::at(dir, r) != 0 {
         return false;
     }
-    arrays::holds(marked, v)
+    sets::has(marked, v)
 }
 
 // The lowest marked bench with a neutral rock.
@@ -30,11 +31,11 @@ fn first_neutral<'a>(
     low: &'a [usize],
     high: &'a [usize],
     dir: &'a [usize],
-    marked: &'a [bool],
+    marked: usize,
 ) -> usize
     ensures { λ v. ⌜ v
         ≡ lowestEnd (n .benches) (n .rocks) (now (low .entry)) (now (high .entry))
-        (followsAt (now (dir .entry)) (now (marked .entry))) ⌝ }
+        (followsAt (now (dir .entry)) (isSet 64 marked)) ⌝ }
 {
     let mut v = n.benches;
     let mut r = 0;
@@ -97,17 +98,12 @@ fn turn<'a>(low: &'a [usize], high: &'a [usize], dir: &mut [usize], r: usize, v:
 }
 
 // Every neutral rock at a marked bench leaves it, and marks its other end.
-fn follow<'a>(
-    n: Limits,
-    low: &'a [usize],
-    high: &'a [usize],
-    dir: &mut [usize],
-    marked: &mut [bool],
-)
+fn follow<'a>(n: Limits, low: &'a [usize], high: &'a [usize], dir: &mut [usize], first: usize)
     ensures { λ _. ⌜ ((b : Board) → (weight : List ℕ) → (dirs : Directions) → (ms : List Bool)
         → Rocks b n (now (low .entry)) (now (high .entry)) weight → Directed b dirs (now (dir .entry))
-        → Marked b ms (now (marked .entry)) → Directed b (follow (b .jobs) b dirs ms) (now (dir .exit))) ⌝ }
+        → ShowsMarks b ms first → Directed b (follow (b .jobs) b dirs ms) (now (dir .exit))) ⌝ }
 {
+    let mut marked = first;
     let mut turns = n.jobs;
     while 0 < turns {
         let v = first_neutral(n, low, high, dir, marked);
@@ -116,7 +112,7 @@ fn follow<'a>(
         }
         let r = neutral_rock(n, low, high, dir, v);
         let u = turn(low, high, dir, r, v);
-        arrays::mark(marked, u, true);
+        marked = sets::with(marked, u);
         turns -= 1;
     }
 }
@@ -127,20 +123,16 @@ fn settle_system<'a>(n: Limits, low: &'a [usize], high: &'a [usize], dir: &mut [
         → Rocks b n (now (low .entry)) (now (high .entry)) weight → Directed b dirs (now (dir .entry)) → v < b .benches
         → Directed b (settleSystem b dirs v) (now (dir .exit))) ⌝ }
 {
-    let mut system = [false; 64];
-    arrays::mark(&mut system, v, true);
-    rocks::spread(n, low, high, dir, &mut system);
-    let kind = rocks::balance(n, low, dir, &system);
-    let mut marked = [false; 64];
+    let alone = sets::with(0, v);
+    let system = rocks::spread(n, low, high, dir, alone);
+    let kind = rocks::balance(n, low, dir, system);
     if kind == rocks::TREE {
-        arrays::mark(&mut marked, v, true);
-        follow(n, low, high, dir, &mut marked);
+        follow(n, low, high, dir, alone);
         return;
     }
-    let r = rocks::first_inside(n, low, dir, &system);
+    let r = rocks::first_inside(n, low, dir, system);
     let u = turn(low, high, dir, r, arrays::at(low, r));
-    arrays::mark(&mut marked, u, true);
-    follow(n, low, high, dir, &mut marked);
+    follow(n, low, high, dir, sets::with(0, u));
 }
 
 // One neutral tree or cycle after another, by lowest bench.
@@ -149,10 +141,10 @@ pub fn settle<'a>(n: Limits, low: &'a [usize], high: &'a [usize], dir: &mut [usi
         → Rocks b n (now (low .entry)) (now (high .entry)) weight → Directed b dirs (now (dir .entry))
         → Directed b (settle b dirs) (now (dir .exit))) ⌝ }
 {
-    let everywhere = [true; 64];
+    let all = sets::everywhere(n.benches);
     let mut turns = n.jobs;
     while 0 < turns {
-        let v = first_neutral(n, low, high, dir, &everywhere);
+        let v = first_neutral(n, low, high, dir, all);
         if v == n.benches {
             return;
         }

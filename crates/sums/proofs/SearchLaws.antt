@@ -13,6 +13,7 @@
 --     all-intro, all-elim         all n f is true: from f true everywhere below n, and back
 --     all-fails, all-false        all n f is false: from an index, and back to one
 --     all-cong                    equal functions
+--     any-and, any-or             a search with one test more, and one for either of two
 use Prim.Native.Nat.{ℕ, zero, suc, _≤_, _<_}
 use mathlib.Core.Bool.{Bool, true, false, _&&_, _||_}
 use mathlib.Core.Path.{_≡_, refl, sym, _∙_, ap, ap₂}
@@ -129,3 +130,21 @@ all-false (suc n) f p = elim (and-false-elim (all n f) (f n) p) [
 pub all-cong : (n : ℕ) (f g : ℕ → Bool) → ((i : ℕ) → i < n → f i ≡ g i) → all n f ≡ all n g
 all-cong zero f g e = refl
 all-cong (suc n) f g e = ap₂ _&&_ (all-cong n f g (λ i h. e i (omega arith))) (e n (omega arith))
+
+-- ── searches in parts ──
+
+pub any-and : (n : ℕ) (c : Bool) (f : ℕ → Bool) → any n (λ j. c && f j) ≡ (c && any n f)
+any-and n true f = refl
+any-and n false f = any-false n (λ j. false) (λ j h. refl)
+
+or-four : (a b c d : Bool) → ((a || b) || (c || d)) ≡ ((a || c) || (b || d))
+or-four true b true d = refl
+or-four true b false d = refl
+or-four false true true d = refl
+or-four false true false d = refl
+or-four false false true d = refl
+or-four false false false d = refl
+
+pub any-or : (n : ℕ) (f g : ℕ → Bool) → any n (λ j. f j || g j) ≡ (any n f || any n g)
+any-or zero f g = refl
+any-or (suc n) f g = ap (λ (k : Bool). k || (f n || g n)) (any-or n f g) ∙ or-four (any n f) (any n g) (f n) (g n)

@@ -66,8 +66,8 @@ loop-again c =
     let first = second .before .before .before .before .before in
     let l = first .before .before .before .before in
     let a = l .before .before .before .before .args in
-    let more = jobs-more (now (a .table)) (now (a .minutes)) (now (a .allowed)) (l .loop .i) (omega arith) (l .loop .inv .2)
-    (first .put .ensures ∙ put-some _ (4 + 2 * l .loop .i) _ (omega arith))
+    let more = jobs-more (now (a .table)) (now (a .minutes)) (now (a .allowed)) (l .loop .i) (omega arith)
+    (l .loop .inv .2) (first .put .ensures ∙ put-some _ (4 + 2 * l .loop .i) _ (omega arith))
     (second .put2 .ensures ∙ put-some _ (5 + 2 * l .loop .i) _ (omega arith)) in
     (omega arith, second .put2 .kept .0 ∙ first .put .kept .0 ∙ l .loop .inv .1, more)
 

@@ -37,7 +37,8 @@ returns c =
     let h = c .before .before in
     let r = h .before .before .before .before in
     let a = r .before .before .before .args in
-    no-room (now (a .sheet)) (now (a .table)) (r .read .result .sheet) (told h) (c .before .if1 .taken) (c .fault-word2 .ensures)
+    no-room (now (a .sheet)) (now (a .table)) (r .read .result .sheet) (told h) (c .before .if1 .taken)
+    (c .fault-word2 .ensures)
 
 put-head-requires : tie.Need-put-head-requires
 put-head-requires c κs = search needs
@@ -52,7 +53,8 @@ returns-2 : tie.Need-returns-2
 returns-2 c =
     let r = c .before .before .before .before in
     let a = r .before .before .before .args in
-    fault-shown (now (a .sheet)) (now (a .table)) (r .read .ensures) (c .before .before .verdict .given .1) (c .fault-word .ensures)
+    fault-shown (now (a .sheet)) (now (a .table)) (r .read .ensures) (c .before .before .verdict .given .1)
+    (c .fault-word .ensures)
 
 same-length : tie.Need-same-length
 same-length c = search needs
@@ -64,7 +66,8 @@ returns-3 c =
     let room = head .before .before in
     let r = room .before .before .before .before .before in
     let a = r .before .before .before .args in
-    all-shown (now (a .sheet)) (now (a .table)) (r .read .result .sheet) (told (room .before)) (room .if1 .left) (head .put-head .ensures) (jobs .put-jobs .ensures)
+    all-shown (now (a .sheet)) (now (a .table)) (r .read .result .sheet) (told (room .before)) (room .if1 .left)
+    (head .put-head .ensures) (jobs .put-jobs .ensures)
 
 pub yinqocha-inspect-spec : {M : Type 1} → statement M
 yinqocha-inspect-spec =

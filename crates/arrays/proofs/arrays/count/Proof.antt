@@ -32,10 +32,20 @@ loop-less : tie.Need-loop-less Inv-loop μ-loop
 loop-less c = omega arith
 
 loop-again : tie.Need-loop-again Inv-loop μ-loop
-loop-again c = (omega arith, count-next (λ j. getD (c .before .before .before .before .before .args .t .now) j false) (c .before .before .before .loop .i) (omega arith) (c .before .before .before .loop .inv .1) (c .before .holds .ensures) (c .more .ensures))
+loop-again c =
+    let at-loop = c .before .before .before .loop in
+    let at-args = c .before .before .before .before .before .args in (
+      omega arith,
+      count-next (λ j. getD (at-args .t .now) j false) (at-loop .i) (omega arith) (at-loop .inv .1)
+          (c .before .holds .ensures) (c .more .ensures),
+    )
 
 returns : tie.Need-returns Inv-loop μ-loop
-returns c = let e : c .before .loop .i ≡ c .before .before .before .args .n = omega arith in rw (← e) (c .before .loop .inv .1)
+returns c =
+    let at-loop = c .before .loop in
+    let at-args = c .before .before .before .args in
+    let e : at-loop .i ≡ at-args .n = omega arith in
+    rw (← e) (at-loop .inv .1)
 
 pub count-spec : {M : Type 1} → statement M
 count-spec =

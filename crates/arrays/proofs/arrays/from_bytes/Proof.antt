@@ -22,7 +22,9 @@ least-requires-2 : tie.Need-least-requires-2 Inv-loop μ-loop
 least-requires-2 c κs = search needs
 
 loop-holds : tie.Need-loop-holds Inv-loop μ-loop
-loop-holds c = let at-args = c .before .before .before .before .args in (refl, omega arith, filled-none (λ k. getD (at-args .from .now) k 0) (at-args .to .now))
+loop-holds c =
+    let at-args = c .before .before .before .before .args in
+    (refl, omega arith, filled-none (λ k. getD (at-args .from .now) k 0) (at-args .to .now))
 
 byte-requires : tie.Need-byte-requires Inv-loop μ-loop
 byte-requires c κs = search needs
@@ -37,13 +39,31 @@ loop-less : tie.Need-loop-less Inv-loop μ-loop
 loop-less c = omega arith
 
 loop-again : tie.Need-loop-again Inv-loop μ-loop
-loop-again c = let at-put = c .before .before .put in let at-loop = c .before .before .before .before .before .before .loop in let at-args = c .before .before .before .before .before .before .before .before .before .before .before .args in let at-byte = c .before .before .before .byte in (ap length (at-put .ensures) ∙ simp length-set (at-loop .inv .0), omega arith, filled-more (λ k. getD (at-args .from .now) k 0) (at-loop .i) (at-args .to .now) (at-loop .inv .2) (at-byte .ensures) (at-put .ensures))
+loop-again c =
+    let at-put = c .before .before .put in
+    let at-byte = c .before .before .before .byte in
+    let at-loop = c .before .before .before .before .before .before .loop in
+    let at-args = c .before .before .before .before .before .before .before .before .before .before .before .args in (
+      ap length (at-put .ensures) ∙ simp length-set (at-loop .inv .0),
+      omega arith,
+      filled-more
+          (λ k. getD (at-args .from .now) k 0) (at-loop .i) (at-args .to .now) (at-loop .inv .2) (at-byte .ensures)
+          (at-put .ensures),
+    )
 
 same-length : tie.Need-same-length Inv-loop μ-loop
 same-length c = let at-loop = c .before .loop in at-loop .inv .0
 
 returns : tie.Need-returns Inv-loop μ-loop
-returns c = let at-args = c .before .before .before .before .before .before .args in let at-loop = c .before .loop in let at-least = c .before .before .before .least in let at-least2 = c .before .before .least2 in λ hf ht. filled-end (λ k. getD (at-args .from .now) k 0) (at-args .n) (at-loop .i) (at-args .to .now) (omega (arith, at-loop .inv .1, at-least .ensures, at-least2 .ensures)) (omega (arith, hf, ht, at-least .ensures, at-least2 .ensures)) (at-loop .inv .2)
+returns c =
+    let at-loop = c .before .loop in
+    let at-least2 = c .before .before .least2 in
+    let at-least = c .before .before .before .least in
+    let at-args = c .before .before .before .before .before .before .args in
+    λ hf ht.
+    filled-end (λ k. getD (at-args .from .now) k 0) (at-args .n) (at-loop .i) (at-args .to .now)
+    (omega (arith, at-loop .inv .1, at-least .ensures, at-least2 .ensures))
+    (omega (arith, hf, ht, at-least .ensures, at-least2 .ensures)) (at-loop .inv .2)
 
 pub from-bytes-spec : {M : Type 1} → statement M
 from-bytes-spec = tie.close (tie.spec Inv-loop μ-loop least-requires least-requires-2 loop-holds byte-requires put-requires add-i loop-less loop-again same-length returns)

@@ -31,10 +31,20 @@ loop-less : tie.Need-loop-less Inv-loop μ-loop
 loop-less c = omega arith
 
 loop-again : tie.Need-loop-again Inv-loop μ-loop
-loop-again c = (omega arith, largest-more (λ v. getD (c .before .before .before .before .before .args .load .now) v 0) (c .before .before .before .loop .v) (c .before .before .before .loop .inv .1) (c .before .at .ensures) (c .higher .ensures))
+loop-again c =
+    let at-loop = c .before .before .before .loop in
+    let at-args = c .before .before .before .before .before .args in (
+      omega arith,
+      largest-more (λ v. getD (at-args .load .now) v 0) (at-loop .v) (at-loop .inv .1)
+          (c .before .at .ensures) (c .higher .ensures),
+    )
 
 returns : tie.Need-returns Inv-loop μ-loop
-returns c = let e : c .before .loop .v ≡ c .before .before .before .args .benches = omega arith in rw (← e) (c .before .loop .inv .1)
+returns c =
+    let at-loop = c .before .loop in
+    let at-args = c .before .before .before .args in
+    let e : at-loop .v ≡ at-args .benches = omega arith in
+    rw (← e) (at-loop .inv .1)
 
 pub greatest-spec : {M : Type 1} → statement M
 greatest-spec =

@@ -6,13 +6,21 @@ use Rattle.arrays.proofs.arrays.lower.Statement.{statement}
 use Rattle.arrays.proofs.arrays.lower.Tie as tie
 
 returns : tie.Need-returns
-returns c = lower-not (c .before .args .counts) (c .before .args .u) (c .before .args .v) (not-true (c .before .args .counts) (c .if1 .taken))
+returns c =
+    let at-args = c .before .args in
+    lower-not (at-args .counts) (at-args .u) (at-args .v) (not-true (at-args .counts) (c .if1 .taken))
 
 returns-2 : tie.Need-returns-2
-returns-2 c = lower-yes (c .before .before .args .counts) (c .before .before .args .u) (c .before .before .args .v) (not-false (c .before .before .args .counts) (c .before .if1 .left)) (c .if2 .taken)
+returns-2 c =
+    let at-args = c .before .before .args in
+    lower-yes (at-args .counts) (at-args .u) (at-args .v) (not-false (at-args .counts) (c .before .if1 .left))
+    (c .if2 .taken)
 
 returns-3 : tie.Need-returns-3
-returns-3 c = lower-keeps (c .before .before .args .counts) (c .before .before .args .u) (c .before .before .args .v) (not-false (c .before .before .args .counts) (c .before .if1 .left)) (c .if2 .left)
+returns-3 c =
+    let at-args = c .before .before .args in
+    lower-keeps (at-args .counts) (at-args .u) (at-args .v) (not-false (at-args .counts) (c .before .if1 .left))
+    (c .if2 .left)
 
 pub lower-spec : {M : Type 1} → statement M
 lower-spec = tie.close (tie.spec returns returns-2 returns-3)

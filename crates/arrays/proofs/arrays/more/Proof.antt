@@ -9,7 +9,9 @@ plus-requires : tie.Need-plus-requires
 plus-requires c κs = search needs
 
 returns : tie.Need-returns
-returns c = more-yes (c .before .before .args .k) (c .before .before .args .counts) (c .before .if1 .taken) (c .plus .ensures)
+returns c =
+    let at-args = c .before .before .args in
+    more-yes (at-args .k) (at-args .counts) (c .before .if1 .taken) (c .plus .ensures)
 
 returns-2 : tie.Need-returns-2
 returns-2 c = more-not (c .before .args .k) (c .before .args .counts) (omega arith) (c .if1 .left)

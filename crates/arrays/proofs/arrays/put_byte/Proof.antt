@@ -19,7 +19,9 @@ returns : tie.Need-returns
 returns c = search needs
 
 returns-2 : tie.Need-returns-2
-returns-2 c = let at-args = c .before .args in sym (set-out (at-args .t .now) (at-args .i) (at-args .v % 256) (c .if1 .left))
+returns-2 c =
+    let at-args = c .before .args in
+    sym (set-out (at-args .t .now) (at-args .i) (at-args .v % 256) (c .if1 .left))
 
 pub put-byte-spec : {M : Type 1} → statement M
 put-byte-spec = tie.close (tie.spec cast-t slice-write-t same-length returns returns-2)

@@ -11,7 +11,9 @@ use Rattle.arrays.proofs.arrays.to_bytes.Statement.{statement}
 use Rattle.arrays.proofs.arrays.to_bytes.Tie as tie
 
 abbrev Inv-loop : tie.InvT-loop
-Inv-loop n from to₀ end i₀ to i = (length to ≡ length to₀) × (i ≤ end) × (((k : ℕ) → k < i → getD from k 0 < 256) → to ≡ filled i (λ k. getD from k 0) to₀)
+Inv-loop n from to₀ end i₀ to i =
+    (length to ≡ length to₀) × (i ≤ end) × (((k : ℕ) → k < i → getD from k 0 < 256) → to ≡ filled i
+    (λ k. getD from k 0) to₀)
 
 abbrev μ-loop : tie.MeasureT-loop
 μ-loop n from to₀ end i₀ to i = end - i
@@ -23,7 +25,9 @@ least-requires-2 : tie.Need-least-requires-2 Inv-loop μ-loop
 least-requires-2 c κs = search needs
 
 loop-holds : tie.Need-loop-holds Inv-loop μ-loop
-loop-holds c = let at-args = c .before .before .before .before .args in (refl, omega arith, λ bytes. filled-none (λ k. getD (at-args .from .now) k 0) (at-args .to .now))
+loop-holds c =
+    let at-args = c .before .before .before .before .args in
+    (refl, omega arith, λ bytes. filled-none (λ k. getD (at-args .from .now) k 0) (at-args .to .now))
 
 at-requires : tie.Need-at-requires Inv-loop μ-loop
 at-requires c κs = search needs
@@ -38,13 +42,34 @@ loop-less : tie.Need-loop-less Inv-loop μ-loop
 loop-less c = omega arith
 
 loop-again : tie.Need-loop-again Inv-loop μ-loop
-loop-again c = let at-put-byte = c .before .before .put-byte in let at-loop = c .before .before .before .before .before .before .loop in let at-args = c .before .before .before .before .before .before .before .before .before .before .before .args in let at-at = c .before .before .before .at in (ap length (at-put-byte .ensures) ∙ simp length-set (at-loop .inv .0), omega arith, λ bytes. filled-more (λ k. getD (at-args .from .now) k 0) (at-loop .i) (at-args .to .now) (at-loop .inv .2 (λ k h. bytes k (omega arith))) (at-at .ensures) (let small : at-at .result < 256 = rw (at-at .ensures) (bytes (at-loop .i) (omega arith)) in at-put-byte .ensures ∙ ap (λ (k : ℕ). set (at-loop .to) (at-loop .i) k) (mod-eq-of-lt small)))
+loop-again c =
+    let at-put-byte = c .before .before .put-byte in
+    let at-at = c .before .before .before .at in
+    let at-loop = c .before .before .before .before .before .before .loop in
+    let at-args = c .before .before .before .before .before .before .before .before .before .before .before .args in (
+      ap length (at-put-byte .ensures) ∙ simp length-set (at-loop .inv .0),
+      omega arith,
+      λ bytes. filled-more
+          (λ k. getD (at-args .from .now) k 0) (at-loop .i) (at-args .to .now)
+          (at-loop .inv .2 (λ k h. bytes k (omega arith))) (at-at .ensures)
+          (let small : at-at .result < 256 = rw (at-at .ensures) (bytes (at-loop .i) (omega arith)) in at-put-byte .ensures
+          ∙ ap (λ (k : ℕ). set (at-loop .to) (at-loop .i) k) (mod-eq-of-lt small)),
+    )
 
 same-length : tie.Need-same-length Inv-loop μ-loop
 same-length c = let at-loop = c .before .loop in at-loop .inv .0
 
 returns : tie.Need-returns Inv-loop μ-loop
-returns c = let at-args = c .before .before .before .before .before .before .args in let at-loop = c .before .loop in let at-least = c .before .before .before .least in let at-least2 = c .before .before .least2 in λ hf ht bytes. filled-end (λ k. getD (at-args .from .now) k 0) (at-args .n) (at-loop .i) (at-args .to .now) (omega (arith, at-loop .inv .1, at-least .ensures, at-least2 .ensures)) (omega (arith, hf, ht, at-least .ensures, at-least2 .ensures)) (at-loop .inv .2 (λ k h. bytes k (omega (arith, at-loop .inv .1, at-least .ensures, at-least2 .ensures))))
+returns c =
+    let at-loop = c .before .loop in
+    let at-least2 = c .before .before .least2 in
+    let at-least = c .before .before .before .least in
+    let at-args = c .before .before .before .before .before .before .args in
+    λ hf ht bytes.
+    filled-end (λ k. getD (at-args .from .now) k 0) (at-args .n) (at-loop .i) (at-args .to .now)
+    (omega (arith, at-loop .inv .1, at-least .ensures, at-least2 .ensures))
+    (omega (arith, hf, ht, at-least .ensures, at-least2 .ensures)) (at-loop .inv .2
+    (λ k h. bytes k (omega (arith, at-loop .inv .1, at-least .ensures, at-least2 .ensures))))
 
 pub to-bytes-spec : {M : Type 1} → statement M
 to-bytes-spec = tie.close (tie.spec Inv-loop μ-loop least-requires least-requires-2 loop-holds at-requires put-byte-requires add-i loop-less loop-again same-length returns)

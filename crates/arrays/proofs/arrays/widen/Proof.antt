@@ -19,7 +19,9 @@ least-requires : tie.Need-least-requires Inv-loop μ-loop
 least-requires c κs = search needs
 
 loop-holds : tie.Need-loop-holds Inv-loop μ-loop
-loop-holds c = let at-args = c .before .before .before .args in (refl, omega arith, filled-none (λ k. getD (at-args .from .now) k 0) (at-args .to .now))
+loop-holds c =
+    let at-args = c .before .before .before .args in
+    (refl, omega arith, filled-none (λ k. getD (at-args .from .now) k 0) (at-args .to .now))
 
 at-requires : tie.Need-at-requires Inv-loop μ-loop
 at-requires c κs = search needs
@@ -34,13 +36,28 @@ loop-less : tie.Need-loop-less Inv-loop μ-loop
 loop-less c = omega arith
 
 loop-again : tie.Need-loop-again Inv-loop μ-loop
-loop-again c = let at-store = c .before .before .store in let at-loop = c .before .before .before .before .before .before .loop in let at-args = c .before .before .before .before .before .before .before .before .before .before .args in let at-at = c .before .before .before .at in (ap length (at-store .ensures) ∙ simp length-set (at-loop .inv .0), omega arith, filled-more (λ k. getD (at-args .from .now) k 0) (at-loop .i) (at-args .to .now) (at-loop .inv .2) (at-at .ensures) (at-store .ensures))
+loop-again c =
+    let at-store = c .before .before .store in
+    let at-at = c .before .before .before .at in
+    let at-loop = c .before .before .before .before .before .before .loop in
+    let at-args = c .before .before .before .before .before .before .before .before .before .before .args in (
+      ap length (at-store .ensures) ∙ simp length-set (at-loop .inv .0),
+      omega arith,
+      filled-more
+          (λ k. getD (at-args .from .now) k 0) (at-loop .i) (at-args .to .now) (at-loop .inv .2) (at-at .ensures)
+          (at-store .ensures),
+    )
 
 same-length : tie.Need-same-length Inv-loop μ-loop
 same-length c = let at-loop = c .before .loop in at-loop .inv .0
 
 returns : tie.Need-returns Inv-loop μ-loop
-returns c = let at-args = c .before .before .before .before .before .args in let at-loop = c .before .loop in let at-least = c .before .before .least in filled-cut (λ k. getD (at-args .from .now) k 0) (at-args .n) _ (at-loop .i) (at-args .to .now) (at-least .ensures) (at-loop .inv .1) (omega arith) (at-loop .inv .2)
+returns c =
+    let at-loop = c .before .loop in
+    let at-least = c .before .before .least in
+    let at-args = c .before .before .before .before .before .args in
+    filled-cut (λ k. getD (at-args .from .now) k 0) (at-args .n) _ (at-loop .i) (at-args .to .now) (at-least .ensures)
+    (at-loop .inv .1) (omega arith) (at-loop .inv .2)
 
 pub widen-spec : {M : Type 1} → statement M
 widen-spec = tie.close (tie.spec Inv-loop μ-loop least-requires loop-holds at-requires store-requires add-i loop-less loop-again same-length returns)

@@ -8,7 +8,10 @@ holds-requires : tie.Need-holds-requires
 holds-requires c κs = search needs
 
 returns : tie.Need-returns
-returns c = added-left (c .before .before .before .before .before .before .args .amount .now) (c .before .before .before .before .before .before .args .left .now) (c .before .before .before .before .before .before .args .place .now) (c .before .before .before .before .before .before .args .own .now) (c .before .before .before .before .before .before .args .j) (c .before .holds .ensures) (c .if1 .taken)
+returns c =
+    let at-args = c .before .before .before .before .before .before .args in
+    added-left (at-args .amount .now) (at-args .left .now) (at-args .place .now) (at-args .own .now) (at-args .j)
+    (c .before .holds .ensures) (c .if1 .taken)
 
 at-requires : tie.Need-at-requires
 at-requires c κs = search needs
@@ -29,7 +32,19 @@ same-length : tie.Need-same-length
 same-length c = search needs
 
 returns-2 : tie.Need-returns-2
-returns-2 c = added-here (c .before .before .before .before .before .before .before .before .before .before .before .before .before .before .before .args .amount .now) (c .before .before .before .before .before .before .before .before .before .before .before .before .before .before .before .args .left .now) (c .before .before .before .before .before .before .before .before .before .before .before .before .before .before .before .args .place .now) (c .before .before .before .before .before .before .before .before .before .before .before .before .before .before .before .args .own .now) _ (c .before .before .before .before .before .before .before .before .before .before .before .before .before .before .before .args .j) (c .before .before .before .before .before .before .before .before .before .before .holds .ensures) (c .before .before .before .before .before .before .before .before .before .if1 .left) (c .before .before .before .before .before .before .before .before .at .ensures) (c .before .before .before .before .before .before .at2 .ensures) (c .before .before .before .before .before .at3 .ensures) (c .before .before .before .before .plus .ensures) (c .before .before .put .ensures)
+returns-2 c =
+    let after-plus = c .before .before .before .before in
+    let at-plus = after-plus .plus in
+    let at-at3 = c .before .before .before .before .before .at3 in
+    let at-at2 = c .before .before .before .before .before .before .at2 in
+    let after-at = after-plus .before .before .before .before in
+    let at-at = after-at .at in
+    let at-if1 = c .before .before .before .before .before .before .before .before .before .if1 in
+    let at-holds = c .before .before .before .before .before .before .before .before .before .before .holds in
+    let at-args = after-at .before .before .before .before .before .before .before .args in
+    added-here (at-args .amount .now) (at-args .left .now) (at-args .place .now) (at-args .own .now) _ (at-args .j)
+    (at-holds .ensures) (at-if1 .left) (at-at .ensures) (at-at2 .ensures) (at-at3 .ensures) (at-plus .ensures)
+    (c .before .before .put .ensures)
 
 pub add-spec : {M : Type 1} → statement M
 add-spec =

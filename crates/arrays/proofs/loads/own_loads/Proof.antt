@@ -11,7 +11,9 @@ use Rattle.arrays.proofs.loads.own_loads.Statement.{statement}
 use Rattle.arrays.proofs.loads.own_loads.Tie as tie
 
 abbrev Inv-loop : tie.InvT-loop
-Inv-loop jobs amount left place own₀ j₀ own j = (j ≤ jobs) × (length own ≡ length own₀) × ((v : ℕ) → v < length own₀ → getD own₀ v 0 + sum j (amountOn amount left place v) < 2 ^ 63 → getD own v 0 ≡ getD own₀ v 0 + sum j (amountOn amount left place v))
+Inv-loop jobs amount left place own₀ j₀ own j =
+    (j ≤ jobs) × (length own ≡ length own₀) × ((v : ℕ) → v < length own₀ → getD own₀ v 0 + sum j
+    (amountOn amount left place v) < 2 ^ 63 → getD own v 0 ≡ getD own₀ v 0 + sum j (amountOn amount left place v))
 
 abbrev μ-loop : tie.MeasureT-loop
 μ-loop jobs amount left place own₀ j₀ own j = jobs - j
@@ -29,13 +31,27 @@ loop-less : tie.Need-loop-less Inv-loop μ-loop
 loop-less c = omega arith
 
 loop-again : tie.Need-loop-again Inv-loop μ-loop
-loop-again c = (omega arith, own-length (c .before .before .before .before .before .before .before .before .before .before .args .amount .now) (c .before .before .before .before .before .before .before .before .before .before .args .left .now) (c .before .before .before .before .before .before .before .before .before .before .args .place .now) (c .before .before .before .before .before .loop .own) _ (c .before .before .before .before .before .loop .j) (c .before .before .add .ensures) ∙ c .before .before .before .before .before .loop .inv .1, λ v h fits. own-more (c .before .before .before .before .before .before .before .before .before .before .args .amount .now) (c .before .before .before .before .before .before .before .before .before .before .args .left .now) (c .before .before .before .before .before .before .before .before .before .before .args .place .now) (c .before .before .before .before .before .loop .own) _ (getD (c .before .before .before .before .before .before .before .before .before .before .args .own .now) v 0) v (c .before .before .before .before .before .loop .j) (c .before .before .add .ensures) (omega (arith, c .before .before .before .before .before .loop .inv .1)) fits (c .before .before .before .before .before .loop .inv .2 v h))
+loop-again c =
+    let at-add = c .before .before .add in
+    let at-loop = c .before .before .before .before .before .loop in
+    let at-args = c .before .before .before .before .before .before .before .before .before .before .args in (
+      omega arith,
+      own-length (at-args .amount .now) (at-args .left .now) (at-args .place .now) (at-loop .own) _
+          (at-loop .j) (at-add .ensures) ∙ at-loop .inv .1,
+      λ v h fits. own-more (at-args .amount .now) (at-args .left .now)
+          (at-args .place .now) (at-loop .own) _ (getD (at-args .own .now) v 0) v (at-loop .j) (at-add .ensures)
+          (omega (arith, at-loop .inv .1)) fits (at-loop .inv .2 v h),
+    )
 
 same-length : tie.Need-same-length Inv-loop μ-loop
 same-length c = c .before .loop .inv .1
 
 returns : tie.Need-returns Inv-loop μ-loop
-returns c = let e : c .before .loop .j ≡ c .before .before .before .before .before .before .args .jobs = omega arith in rw (← e) (c .before .loop .inv .2)
+returns c =
+    let at-loop = c .before .loop in
+    let at-args = c .before .before .before .before .before .before .args in
+    let e : at-loop .j ≡ at-args .jobs = omega arith in
+    rw (← e) (at-loop .inv .2)
 
 pub own-loads-spec : {M : Type 1} → statement M
 own-loads-spec =

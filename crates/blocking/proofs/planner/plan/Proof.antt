@@ -15,8 +15,10 @@ same-length-2 c = search needs
 
 returns : tie.Need-returns
 returns c =
-    let called = c .before .before .before .before .plan .ensures in
-    (called, answered-claim (c .before .before .before .before .before .before .before .before .before .before .args .s .now) (c .before .before .before .before .before .before .before .before .before .before .args .places .now) (c .before .before .before .before .before .before .before .before .before .before .args .loads .now) _ _ _ called)
+    let at-plan = c .before .before .before .before .plan in
+    let at-args = c .before .before .before .before .before .before .before .before .before .before .args in
+    let called = at-plan .ensures in
+    (called, answered-claim (at-args .s .now) (at-args .places .now) (at-args .loads .now) _ _ _ called)
 
 pub plan-spec : {M : Type 1} → statement M
 plan-spec = tie.close (tie.spec plan-requires same-length same-length-2 returns)

@@ -56,9 +56,20 @@ entry-requires c κs = search needs
 
 mul-if4-2 : tie.Need-mul-if4-2 Inv-loop μ-loop
 mul-if4-2 c =
-    let a = c .before .before .before .before .before .before .before .before .before .before .before .before .before .args in
-    let at-most = largest-bound (a .count) (λ i. getD (now (a .minutes)) i 0) (c .before .before .before .before .loop .n) (c .before .before .before .loop-test .taken) in
-    record { fits = product-fits (a .h .q) (c .before .entry .result) (c .before .before .before .before .before .before .if2 .left) (omega (arith, at-most, c .before .before .before .before .before .before .before .before .before .before .longest .ensures, c .before .entry .ensures, c .before .before .before .before .before .if3 .left)) }
+    let at-entry = c .before .entry in
+    let at-loop-test = c .before .before .before .loop-test in
+    let after-loop = c .before .before .before .before in
+    let at-loop = after-loop .loop in
+    let at-if3 = c .before .before .before .before .before .if3 in
+    let at-if2 = c .before .before .before .before .before .before .if2 in
+    let after-longest = after-loop .before .before .before .before .before .before in
+    let at-longest = after-longest .longest in
+    let a = after-longest .before .before .before .args in
+    let at-most = largest-bound (a .count) (λ i. getD (now (a .minutes)) i 0) (at-loop .n) (at-loop-test .taken) in
+    record {
+      fits = product-fits (a .h .q) (at-entry .result) (at-if2 .left)
+          (omega (arith, at-most, at-longest .ensures, at-entry .ensures, at-if3 .left));
+    }
 
 entry-requires-2 : tie.Need-entry-requires-2 Inv-loop μ-loop
 entry-requires-2 c κs = search needs
@@ -88,17 +99,21 @@ loop-less c = omega arith
 
 loop-again : tie.Need-loop-again Inv-loop μ-loop
 loop-again c =
-    let a = c .before .before .before .before .before .before .before .before .before .before .before .before .before .before .args in
+    let after-loop = c .before .before .before .before .before in
+    let at-loop = after-loop .loop in
+    let after-longest = after-loop .before .before .before .before .before .before in
+    let at-longest = after-longest .longest in
+    let at-shared-slice-known2 = after-longest .before .shared-slice-known2 in
+    let a = after-longest .before .before .before .args in
     let bs = now (a .allowed) in
-    let n = c .before .before .before .before .before .loop .n in
-    let w = c .before .before .before .before .before .before .before .before .before .before .before .longest .result in
+    let n = at-loop .n in
+    let w = at-longest .result in
     let job = tableJob (now (a .minutes)) bs n in
-    let fits : getD bs n 0 < 2 ^ 64 = omega (arith, c .before .before .before .before .before .before .before .before .before .before .before .before .shared-slice-known2 .given n) in (
+    let fits : getD bs n 0 < 2 ^ 64 = omega (arith, at-shared-slice-known2 .given n) in (
       omega arith,
-      below-more _ _ (c .before .before .before .before .before .loop .inv .1)
-          (⊎-elim (λ k. light-benches (a .h) w job fits (rw (← k .1 .ensures) (k .2 .left)))
-          (λ k. light-minutes (a .h) w job fits (rw (← c .before .before .entry .ensures) (k .left)))
-          (c .if4 .came)),
+      below-more _ _ (at-loop .inv .1) (⊎-elim (λ k. light-benches (a .h) w job fits
+          (rw (← k .1 .ensures) (k .2 .left))) (λ k. light-minutes (a .h) w job fits
+          (rw (← c .before .before .entry .ensures) (k .left))) (c .if4 .came)),
     )
 
 returns-5 : tie.Need-returns-5 Inv-loop μ-loop

@@ -20,13 +20,23 @@ mul-if4-2 : tie.Need-mul-if4-2
 mul-if4-2 c = search needs
 
 returns-4 : tie.Need-returns-4
-returns-4 c = rw (shareFault-low (c .before .before .before .before .before .before .before .before .before .args .h) (c .if4 .taken))
+returns-4 c =
+    let at-args = c .before .before .before .before .before .before .before .before .before .args in
+    rw (shareFault-low (at-args .h) (c .if4 .taken))
 
 returns-5 : tie.Need-returns-5
-returns-5 c = rw (shareFault-high (c .before .before .before .before .before .before .before .before .before .before .before .args .h) (c .if5 .taken))
+returns-5 c =
+    let at-args = c .before .before .before .before .before .before .before .before .before .before .before .args in
+    rw (shareFault-high (at-args .h) (c .if5 .taken))
 
 returns-6 : tie.Need-returns-6
-returns-6 c = rw (shareFault-sound (c .before .before .before .before .before .before .before .before .before .before .before .args .h) (c .before .before .before .before .before .before .before .before .before .if1 .left) (c .before .before .before .before .before .before .before .if2 .left) (c .before .before .before .before .before .if3 .left) (c .before .before .if4 .left) (c .if5 .left))
+returns-6 c =
+    let at-if3 = c .before .before .before .before .before .if3 in
+    let at-if2 = c .before .before .before .before .before .before .before .if2 in
+    let at-if1 = c .before .before .before .before .before .before .before .before .before .if1 in
+    let at-args = c .before .before .before .before .before .before .before .before .before .before .before .args in
+    rw (shareFault-sound (at-args .h) (at-if1 .left) (at-if2 .left) (at-if3 .left) (c .before .before .if4 .left)
+    (c .if5 .left))
 
 pub check-share-spec : {M : Type 1} → statement M
 check-share-spec =

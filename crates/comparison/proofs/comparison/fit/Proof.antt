@@ -1,6 +1,6 @@
 -- One bit of the set.
 use mathlib.Core.Path.{ap₂, _∙_}
-use Rattle.sets.specs.Sets.{hasAt}
+use Rattle.bits.specs.Bits.{isSet}
 use borrow.Author.Needs.{needs}
 use Rattle.comparison.proofs.comparison.fit.Statement.{statement}
 use Rattle.comparison.proofs.comparison.fit.Tie as tie
@@ -15,7 +15,7 @@ has-requires : tie.Need-has-requires
 has-requires c κs = search needs
 
 returns : tie.Need-returns
-returns c = c .has .ensures ∙ ap₂ hasAt (c .before .before .entry .ensures) (c .before .entry2 .ensures)
+returns c = c .has .ensures ∙ ap₂ (isSet 64) (c .before .before .entry .ensures) (c .before .entry2 .ensures)
 
 pub fit-spec : {M : Type 1} → statement M
 fit-spec = tie.close (tie.spec entry-requires entry-requires-2 has-requires returns)

@@ -27,10 +27,25 @@ same-length : tie.Need-same-length
 same-length c = search needs
 
 returns : tie.Need-returns
-returns c = cond-yes (c .before .before .before .before .before .before .before .before .before .before .before .before .before .before .args .reach .now) (c .before .before .before .before .before .before .before .before .before .holds .ensures) (c .before .before .before .before .before .before .before .before .if1 .taken) (c .before .before .put .ensures ∙ ap₂ (λ (u m : ℕ). set (c .before .before .before .before .before .before .before .before .before .before .before .before .before .before .args .reach .now) u m) (c .before .before .before .before .before .before .before .at .ensures) (ap₂ bitOr (c .before .before .before .before .before .at2 .ensures ∙ ap (λ (u : ℕ). getD (c .before .before .before .before .before .before .before .before .before .before .before .before .before .before .args .reach .now) u 0) (c .before .before .before .before .before .before .before .at .ensures)) (c .before .before .before .before .at3 .ensures)))
+returns c =
+    let after-at3 = c .before .before .before .before in
+    let at-at3 = after-at3 .at3 in
+    let at-at2 = c .before .before .before .before .before .at2 in
+    let at-at = c .before .before .before .before .before .before .before .at in
+    let after-if1 = after-at3 .before .before .before .before in
+    let at-if1 = after-if1 .if1 in
+    let at-holds = c .before .before .before .before .before .before .before .before .before .holds in
+    let at-args = after-if1 .before .before .before .before .before .before .args in
+    cond-yes (at-args .reach .now) (at-holds .ensures) (at-if1 .taken)
+    (c .before .before .put .ensures ∙ ap₂ (λ (u m : ℕ). set (at-args .reach .now) u m) (at-at .ensures)
+    (ap₂ bitOr (at-at2 .ensures ∙ ap (λ (u : ℕ). getD (at-args .reach .now) u 0) (at-at .ensures)) (at-at3 .ensures)))
 
 returns-2 : tie.Need-returns-2
-returns-2 c = cond-no (set (c .before .before .before .before .before .before .args .reach .now) (getD (c .before .before .before .before .before .before .args .place .now) (c .before .before .before .before .before .before .args .j) 0) (bitOr (getD (c .before .before .before .before .before .before .args .reach .now) (getD (c .before .before .before .before .before .before .args .place .now) (c .before .before .before .before .before .before .args .j) 0) 0) (getD (c .before .before .before .before .before .before .args .allowed .now) (c .before .before .before .before .before .before .args .j) 0))) (c .before .holds .ensures) (c .if1 .left) refl
+returns-2 c =
+    let at-args = c .before .before .before .before .before .before .args in
+    cond-no (set (at-args .reach .now) (getD (at-args .place .now) (at-args .j) 0)
+    (bitOr (getD (at-args .reach .now) (getD (at-args .place .now) (at-args .j) 0) 0)
+    (getD (at-args .allowed .now) (at-args .j) 0))) (c .before .holds .ensures) (c .if1 .left) refl
 
 pub add-pebble-spec : {M : Type 1} → statement M
 add-pebble-spec =

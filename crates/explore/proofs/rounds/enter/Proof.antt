@@ -17,13 +17,22 @@ same-length : tie.Need-same-length
 same-length c = search needs
 
 returns : tie.Need-returns
-returns c = cond-no (c .before .before .before .before .before .before .before .before .args .joined .now) (c .before .before .before .before .before .within .ensures) (not-true (c .before .before .before .before .before .within .result) (c .before .before .before .before .if1 .taken)) (c .before .before .put .ensures)
+returns c =
+    let at-if1 = c .before .before .before .before .if1 in
+    let at-within = c .before .before .before .before .before .within in
+    let at-args = c .before .before .before .before .before .before .before .before .args in
+    cond-no (at-args .joined .now) (at-within .ensures) (not-true (at-within .result) (at-if1 .taken))
+    (c .before .before .put .ensures)
 
 same-length-2 : tie.Need-same-length-2
 same-length-2 c = search needs
 
 returns-2 : tie.Need-returns-2
-returns-2 c = cond-yes (set (c .before .before .before .before .args .joined .now) (c .before .before .before .before .args .v) (c .before .before .before .before .args .i)) (c .before .within .ensures) (not-false (c .before .within .result) (c .if1 .left)) refl
+returns-2 c =
+    let at-within = c .before .within in
+    let at-args = c .before .before .before .before .args in
+    cond-yes (set (at-args .joined .now) (at-args .v) (at-args .i)) (at-within .ensures)
+    (not-false (at-within .result) (c .if1 .left)) refl
 
 pub enter-spec : {M : Type 1} → statement M
 enter-spec =

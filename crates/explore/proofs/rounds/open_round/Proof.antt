@@ -17,7 +17,10 @@ same-length-2 : tie.Need-same-length-2
 same-length-2 c = search needs
 
 returns : tie.Need-returns
-returns c = (c .before .before .before .before .before .before .before .opening .ensures, c .before .before .before .before .enter-all .ensures .0, c .before .before .before .before .enter-all .ensures .1)
+returns c =
+    let at-enter-all = c .before .before .before .before .enter-all in
+    let at-opening = c .before .before .before .before .before .before .before .opening in
+    (at-opening .ensures, at-enter-all .ensures .0, at-enter-all .ensures .1)
 
 pub open-round-spec : {M : Type 1} → statement M
 open-round-spec =

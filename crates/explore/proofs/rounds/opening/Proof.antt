@@ -14,7 +14,11 @@ overloaded-requires : tie.Need-overloaded-requires
 overloaded-requires c κs = search needs
 
 returns : tie.Need-returns
-returns c = λ v h. cond-yes (isSet 64 (c .before .before .before .args .all) v && (isSet 64 (c .before .before .before .args .reached) v && not (isSet 64 (c .before .before .before .args .active) v))) refl (eq-eqb (c .before .before .before .args .i) 0 (c .before .if1 .taken)) (c .overloaded .ensures v h)
+returns c =
+    let at-args = c .before .before .before .args in
+    λ v h.
+    cond-yes (isSet 64 (at-args .all) v && (isSet 64 (at-args .reached) v && not (isSet 64 (at-args .active) v))) refl
+    (eq-eqb (at-args .i) 0 (c .before .if1 .taken)) (c .overloaded .ensures v h)
 
 less-requires : tie.Need-less-requires
 less-requires c κs = search needs
@@ -23,7 +27,12 @@ common-requires : tie.Need-common-requires
 common-requires c κs = search needs
 
 returns-2 : tie.Need-returns-2
-returns-2 c = λ v h. cond-no (ltb v (c .before .before .before .before .args .n .benches) && ltb (c .before .before .before .before .args .n .bound) (getD (c .before .before .before .before .args .load .now) v 0)) refl (ne-eqb (c .before .before .before .before .args .i) 0 (c .before .before .if1 .left)) (c .common .ensures v ∙ ap (λ (x : Bool). isSet 64 (c .before .before .before .before .args .all) v && x) (c .before .less .ensures v))
+returns-2 c =
+    let at-args = c .before .before .before .before .args in
+    λ v h.
+    cond-no (ltb v (at-args .n .benches) && ltb (at-args .n .bound) (getD (at-args .load .now) v 0)) refl
+    (ne-eqb (at-args .i) 0 (c .before .before .if1 .left)) (c .common .ensures v ∙ ap
+    (λ (x : Bool). isSet 64 (at-args .all) v && x) (c .before .less .ensures v))
 
 pub opening-spec : {M : Type 1} → statement M
 opening-spec =

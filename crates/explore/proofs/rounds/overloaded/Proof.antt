@@ -16,7 +16,9 @@ abbrev μ-loop : tie.MeasureT-loop
 μ-loop n load over₀ v₀ over v = n .benches - v
 
 loop-holds : tie.Need-loop-holds Inv-loop μ-loop
-loop-holds c = (omega arith, gathered-none (λ u. ltb (c .before .args .n .bound) (getD (c .before .args .load .now) u 0)))
+loop-holds c =
+    let at-args = c .before .args in
+    (omega arith, gathered-none (λ u. ltb (at-args .n .bound) (getD (at-args .load .now) u 0)))
 
 at-requires : tie.Need-at-requires Inv-loop μ-loop
 at-requires c κs = search needs
@@ -31,10 +33,22 @@ loop-less : tie.Need-loop-less Inv-loop μ-loop
 loop-less c = omega arith
 
 loop-again : tie.Need-loop-again Inv-loop μ-loop
-loop-again c = (omega arith, gathered-more (λ u. ltb (c .before .before .before .before .before .before .before .args .n .bound) (getD (c .before .before .before .before .before .before .before .args .load .now) u 0)) (c .before .before .before .before .before .loop .v) (c .before .before .before .before .before .loop .over) (c .add .result) (ltb (c .before .before .before .before .before .before .before .args .n .bound) (c .before .before .at .result)) (c .before .before .before .before .before .loop .inv .1) (ap (λ (k : ℕ). ltb (c .before .before .before .before .before .before .before .args .n .bound) k) (c .before .before .at .ensures)) (c .add .ensures))
+loop-again c =
+    let at-at = c .before .before .at in
+    let at-loop = c .before .before .before .before .before .loop in
+    let at-args = c .before .before .before .before .before .before .before .args in (
+      omega arith,
+      gathered-more (λ u. ltb (at-args .n .bound) (getD (at-args .load .now) u 0)) (at-loop .v)
+          (at-loop .over) (c .add .result) (ltb (at-args .n .bound) (at-at .result)) (at-loop .inv .1)
+          (ap (λ (k : ℕ). ltb (at-args .n .bound) k) (at-at .ensures)) (c .add .ensures),
+    )
 
 returns : tie.Need-returns Inv-loop μ-loop
-returns c = gathered-all (λ u. ltb (c .before .before .before .before .args .n .bound) (getD (c .before .before .before .before .args .load .now) u 0)) (c .before .before .loop .v) (c .before .before .loop .over) (c .before .before .loop .inv .1) (omega (arith, c .before .before .loop .inv .0))
+returns c =
+    let at-loop = c .before .before .loop in
+    let at-args = c .before .before .before .before .args in
+    gathered-all (λ u. ltb (at-args .n .bound) (getD (at-args .load .now) u 0)) (at-loop .v) (at-loop .over)
+    (at-loop .inv .1) (omega (arith, at-loop .inv .0))
 
 pub overloaded-spec : {M : Type 1} → statement M
 overloaded-spec =

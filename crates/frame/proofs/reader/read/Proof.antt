@@ -23,13 +23,17 @@ refusal-requires : tie.Need-refusal-requires Inv-loop μ-loop
 refusal-requires c κs = search needs
 
 returns : tie.Need-returns Inv-loop μ-loop
-returns c = rw (c .refusal .ensures) (ap stored (sym (read-too-long (now (c .before .before .before .args .s)) (c .before .if1 .taken))))
+returns c =
+    let at-args = c .before .before .before .args in
+    rw (c .refusal .ensures) (ap stored (sym (read-too-long (now (at-args .s)) (c .before .if1 .taken))))
 
 empty-requires : tie.Need-empty-requires Inv-loop μ-loop
 empty-requires c κs = search needs
 
 loop-holds : tie.Need-loop-holds Inv-loop μ-loop
-loop-holds c = state-start (now (c .before .before .before .args .s)) (c .empty .result) (c .before .if1 .left) (c .empty .ensures)
+loop-holds c =
+    let at-args = c .before .before .before .args in
+    state-start (now (at-args .s)) (c .empty .result) (c .before .if1 .left) (c .empty .ensures)
 
 sub-frame-size : tie.Need-sub-frame-size Inv-loop μ-loop
 sub-frame-size c = omega arith
@@ -66,10 +70,17 @@ refusal-requires-2 c κs = search needs
 
 returns-2 : tie.Need-returns-2 Inv-loop μ-loop
 returns-2 c =
-    let s = now (c .before .before .before .before .before .before .before .before .before .before .before .before .before .args .s) in
-    let l = c .before .before .before .before .before .before .before .before .before .loop in
-    c .refusal2 .ensures
-    ∙ ap stored (sym (state-fault s (l .sheet) (l .stage) (l .at) (l .inv) (c .before .before .before .before .before .before .before .before .loop-test .taken) _ (found-is s (l .sheet) (l .stage) (l .at) (l .inv) _ _ (c .before .before .before .before .frame-at .ensures) (c .before .before .f .given .1))))
+    let after-frame-at = c .before .before .before .before in
+    let at-frame-at = after-frame-at .frame-at in
+    let after-loop-test = after-frame-at .before .before .before .before in
+    let at-loop-test = after-loop-test .loop-test in
+    let at-loop = c .before .before .before .before .before .before .before .before .before .loop in
+    let at-args = after-loop-test .before .before .before .before .before .args in
+    let s = now (at-args .s) in
+    let l = at-loop in
+    c .refusal2 .ensures ∙ ap stored (sym (state-fault s (l .sheet) (l .stage) (l .at) (l .inv) (at-loop-test .taken)
+    _ (found-is s (l .sheet) (l .stage) (l .at) (l .inv) _ _ (at-frame-at .ensures)
+    (c .before .before .f .given .1))))
 
 enum-told : tie.Need-enum-told Inv-loop μ-loop
 enum-told c = search needs
@@ -110,36 +121,66 @@ loop-less c = omega arith
 
 loop-again : tie.Need-loop-again Inv-loop μ-loop
 loop-again c =
-    let s = now (c .before .before .before .before .before .before .before .before .before .before .before .args .s) in
-    let l = c .before .before .before .before .before .before .before .loop in
-    state-foreign s (l .sheet) (l .stage) (l .at) (l .inv) (c .before .before .before .before .before .before .loop-test .taken) _ (next-is s (l .at) (c .before .before .before .before .frame-size .result) (c .before .before .before .before .frame-size .ensures .0)) (found-is s (l .sheet) (l .stage) (l .at) (l .inv) _ _ (c .before .before .frame-at .ensures) (c .enum-told .given .1))
+    let at-frame-size = c .before .before .before .before .frame-size in
+    let at-loop-test = c .before .before .before .before .before .before .loop-test in
+    let at-loop = c .before .before .before .before .before .before .before .loop in
+    let at-args = c .before .before .before .before .before .before .before .before .before .before .before .args in
+    let s = now (at-args .s) in
+    let l = at-loop in
+    state-foreign s (l .sheet) (l .stage) (l .at) (l .inv) (at-loop-test .taken) _
+    (next-is s (l .at) (at-frame-size .result) (at-frame-size .ensures .0))
+    (found-is s (l .sheet) (l .stage) (l .at) (l .inv) _ _ (c .before .before .frame-at .ensures)
+    (c .enum-told .given .1))
 
 loop-less-2 : tie.Need-loop-less-2 Inv-loop μ-loop
 loop-less-2 c = omega arith
 
 loop-again-2 : tie.Need-loop-again-2 Inv-loop μ-loop
 loop-again-2 c =
-    let s = now (c .before .before .before .before .before .before .before .before .before .before .before .before .args .s) in
-    let l = c .before .before .before .before .before .before .before .before .loop in
-    state-head s (l .sheet) (l .stage) (l .at) (l .inv) (c .before .before .before .before .before .before .before .loop-test .taken) _ (next-is s (l .at) (c .before .before .before .before .before .frame-size .result) (c .before .before .before .before .before .frame-size .ensures .0)) _ (found-is s (l .sheet) (l .stage) (l .at) (l .inv) _ _ (c .before .before .before .frame-at .ensures) (c .before .h .given .1))
+    let at-frame-at = c .before .before .before .frame-at in
+    let after-frame-size = c .before .before .before .before .before in
+    let at-frame-size = after-frame-size .frame-size in
+    let at-loop-test = c .before .before .before .before .before .before .before .loop-test in
+    let at-loop = c .before .before .before .before .before .before .before .before .loop in
+    let at-args = after-frame-size .before .before .before .before .before .before .before .args in
+    let s = now (at-args .s) in
+    let l = at-loop in
+    state-head s (l .sheet) (l .stage) (l .at) (l .inv) (at-loop-test .taken) _
+    (next-is s (l .at) (at-frame-size .result) (at-frame-size .ensures .0)) _
+    (found-is s (l .sheet) (l .stage) (l .at) (l .inv) _ _ (at-frame-at .ensures) (c .before .h .given .1))
 
 loop-less-3 : tie.Need-loop-less-3 Inv-loop μ-loop
 loop-less-3 c = omega arith
 
 loop-again-3 : tie.Need-loop-again-3 Inv-loop μ-loop
 loop-again-3 c =
-    let s = now (c .before .before .before .before .before .before .before .before .before .before .before .before .args .s) in
-    let l = c .before .before .before .before .before .before .before .before .loop in
-    state-job s (l .sheet) (l .stage) (l .at) (l .inv) (c .before .before .before .before .before .before .before .loop-test .taken) _ (next-is s (l .at) (c .before .before .before .before .before .frame-size .result) (c .before .before .before .before .before .frame-size .ensures .0)) _ (found-is s (l .sheet) (l .stage) (l .at) (l .inv) _ _ (c .before .before .before .frame-at .ensures) (c .before .j .given .1))
+    let at-frame-at = c .before .before .before .frame-at in
+    let after-frame-size = c .before .before .before .before .before in
+    let at-frame-size = after-frame-size .frame-size in
+    let at-loop-test = c .before .before .before .before .before .before .before .loop-test in
+    let at-loop = c .before .before .before .before .before .before .before .before .loop in
+    let at-args = after-frame-size .before .before .before .before .before .before .before .args in
+    let s = now (at-args .s) in
+    let l = at-loop in
+    state-job s (l .sheet) (l .stage) (l .at) (l .inv) (at-loop-test .taken) _
+    (next-is s (l .at) (at-frame-size .result) (at-frame-size .ensures .0)) _
+    (found-is s (l .sheet) (l .stage) (l .at) (l .inv) _ _ (at-frame-at .ensures) (c .before .j .given .1))
 
 loop-less-4 : tie.Need-loop-less-4 Inv-loop μ-loop
 loop-less-4 c = omega arith
 
 loop-again-4 : tie.Need-loop-again-4 Inv-loop μ-loop
 loop-again-4 c =
-    let s = now (c .before .before .before .before .before .before .before .before .before .before .before .args .s) in
-    let l = c .before .before .before .before .before .before .before .loop in
-    state-end s (l .sheet) (l .stage) (l .at) (l .inv) (c .before .before .before .before .before .before .loop-test .taken) _ (next-is s (l .at) (c .before .before .before .before .frame-size .result) (c .before .before .before .before .frame-size .ensures .0)) (found-is s (l .sheet) (l .stage) (l .at) (l .inv) _ _ (c .before .before .frame-at .ensures) (c .enum-told2 .given .1))
+    let at-frame-size = c .before .before .before .before .frame-size in
+    let at-loop-test = c .before .before .before .before .before .before .loop-test in
+    let at-loop = c .before .before .before .before .before .before .before .loop in
+    let at-args = c .before .before .before .before .before .before .before .before .before .before .before .args in
+    let s = now (at-args .s) in
+    let l = at-loop in
+    state-end s (l .sheet) (l .stage) (l .at) (l .inv) (at-loop-test .taken) _
+    (next-is s (l .at) (at-frame-size .result) (at-frame-size .ensures .0))
+    (found-is s (l .sheet) (l .stage) (l .at) (l .inv) _ _ (c .before .before .frame-at .ensures)
+    (c .enum-told2 .given .1))
 
 finish-requires : tie.Need-finish-requires Inv-loop μ-loop
 finish-requires c κs =
@@ -157,15 +198,25 @@ enum-told-3 c = search needs
 
 returns-3 : tie.Need-returns-3 Inv-loop μ-loop
 returns-3 c =
+    let after-finish = c .before .before .before .before in
+    let at-finish = after-finish .finish in
+    let after-loop-test = after-finish .before .before .before .before .before .before .before in
+    let at-loop-test = after-loop-test .loop-test in
     let l = c .before .before .before .before .before .before .before .before .before .before .before .before .loop in
-    state-over (now (c .before .before .before .before .before .before .before .before .before .before .before .before .before .before .before .before .args .s)) (l .sheet) (l .stage) (l .at) (l .inv) (c .before .before .before .before .before .before .before .before .before .before .before .loop-test .left) _
-    (c .refusal3 .ensures ∙ sym (ap (λ (v : Verdict). readingOf v (l .sheet)) (sym (c .before .before .before .before .finish .ensures) ∙ c .before .before .f2 .given .1)))
+    let at-args = after-loop-test .before .before .before .before .before .args in
+    state-over (now (at-args .s)) (l .sheet) (l .stage) (l .at) (l .inv) (at-loop-test .left) _
+    (c .refusal3 .ensures ∙ sym (ap (λ (v : Verdict). readingOf v (l .sheet))
+    (sym (at-finish .ensures) ∙ c .before .before .f2 .given .1)))
 
 returns-4 : tie.Need-returns-4 Inv-loop μ-loop
 returns-4 c =
+    let after-loop-test = c .before .before .before .before .before .before .before .before .before in
+    let at-loop-test = after-loop-test .loop-test in
     let l = c .before .before .before .before .before .before .before .before .before .before .loop in
-    state-over (now (c .before .before .before .before .before .before .before .before .before .before .before .before .before .before .args .s)) (l .sheet) (l .stage) (l .at) (l .inv) (c .before .before .before .before .before .before .before .before .before .loop-test .left) _
-    (sym (ap (λ (v : Verdict). readingOf v (l .sheet)) (sym (c .before .before .finish .ensures) ∙ c .enum-told3 .given .1)))
+    let at-args = after-loop-test .before .before .before .before .before .args in
+    state-over (now (at-args .s)) (l .sheet) (l .stage) (l .at) (l .inv) (at-loop-test .left) _
+    (sym (ap (λ (v : Verdict). readingOf v (l .sheet)) (sym (c .before .before .finish .ensures) ∙
+    c .enum-told3 .given .1)))
 
 pub read-spec : {M : Type 1} → statement M
 read-spec =

@@ -46,15 +46,16 @@ returns-2 c =
 
 returns-3 : tie.Need-returns-3
 returns-3 c =
+    let at-enum-told2 = c .before .enum-told2 in
     let jobs = c .before .before .before in
     let head = jobs .before .before .before in
     let a = head .before .before .before .args in
     let what = given (a .h) (a .n) (now (a .minutes)) (now (a .allowed)) in
-    let ready = hyper-edges-ready (a .h) (a .n) (now (a .minutes)) (now (a .allowed)) (head .check-head .ensures) (jobs .before .enum-told .given .1)
-    (jobs .check-jobs .ensures) (c .before .enum-told2 .given .1) in
+    let ready = hyper-edges-ready (a .h) (a .n) (now (a .minutes)) (now (a .allowed)) (head .check-head .ensures)
+    (jobs .before .enum-told .given .1) (jobs .check-jobs .ensures) (at-enum-told2 .given .1) in
     all-checked what (head .check-head .ensures) (jobs .before .enum-told .given .1) (jobs .check-jobs .ensures)
-    (c .before .enum-told2 .given .1)
-    (c .check-hyper-edges .ensures ∙ checked-fits (now (a .minutes)) (now (a .allowed)) (a .n) (a .h) ready)
+    (at-enum-told2 .given .1) (c .check-hyper-edges .ensures ∙ checked-fits (now (a .minutes)) (now (a .allowed))
+    (a .n) (a .h) ready)
 
 pub check-spec : {M : Type 1} → statement M
 check-spec =

@@ -37,8 +37,9 @@ returns c =
     let checked = c .before .before .before in
     let l = checked .before .before .before .before in
     let a = l .before .before .before .args in
-    let fault = jobs-fault (a .benches) (a .n) (now (a .minutes)) (now (a .allowed)) (l .loop .i) _ (checked .before .before .before .loop-test .taken)
-    (checked .before .before .entry .ensures) (checked .before .entry2 .ensures) (checked .check-job .ensures) (c .before .f .given .1) in
+    let fault = jobs-fault (a .benches) (a .n) (now (a .minutes)) (now (a .allowed)) (l .loop .i) _
+    (checked .before .before .before .loop-test .taken) (checked .before .before .entry .ensures)
+    (checked .before .entry2 .ensures) (checked .check-job .ensures) (c .before .f .given .1) in
     sym (l .loop .inv .1 ∙ fault)
 
 enum-told : tie.Need-enum-told Inv-loop μ-loop
@@ -55,15 +56,17 @@ loop-again c =
     let checked = c .before .before in
     let l = checked .before .before .before .before in
     let a = l .before .before .before .args in
-    let sound = jobs-sound (a .benches) (a .n) (now (a .minutes)) (now (a .allowed)) (l .loop .i) _ (checked .before .before .before .loop-test .taken)
-    (checked .before .before .entry .ensures) (checked .before .entry2 .ensures) (checked .check-job .ensures) (c .enum-told .given .1) in
+    let sound = jobs-sound (a .benches) (a .n) (now (a .minutes)) (now (a .allowed)) (l .loop .i) _
+    (checked .before .before .before .loop-test .taken) (checked .before .before .entry .ensures)
+    (checked .before .entry2 .ensures) (checked .check-job .ensures) (c .enum-told .given .1) in
     (omega arith, l .loop .inv .1 ∙ sound)
 
 returns-2 : tie.Need-returns-2 Inv-loop μ-loop
 returns-2 c =
     let l = c .before in
     let a = l .before .before .before .args in
-    sym (l .loop .inv .1 ∙ jobs-over (a .benches) (a .n) (now (a .minutes)) (now (a .allowed)) (l .loop .i) (c .loop-test .left))
+    sym (l .loop .inv .1 ∙ jobs-over (a .benches) (a .n) (now (a .minutes)) (now (a .allowed)) (l .loop .i)
+    (c .loop-test .left))
 
 pub check-jobs-spec : {M : Type 1} → statement M
 check-jobs-spec =

@@ -65,19 +65,23 @@ loop-again c =
     let a = l .before .before .before .before .args in
     let out = l .loop .out in
     let at = 10 + 14 * l .loop .i in
-    let fits = l .before .before .before .before .pre .2 (l .loop .i) (put .before .before .before .before .loop-test .taken) in
+    let fits = l .before .before .before .before .pre .2 (l .loop .i)
+    (put .before .before .before .before .loop-test .taken) in
     let minutes = put .before .before .before .entry in
     let j : Job = record { minutes = minutes .result; allowed = put .before .before .entry2 .result } in
     let narrow : minutes .result < 2 ^ 20 = omega (arith, minutes .ensures, fits) in
     let size : at + 14 - at ≡ 14 = omega arith in
     let part = put .put-job .ensures ∙ job-fits j out size at narrow (omega arith) in
-    let whole =
-    ap (λ (ys : List ℕ). take at out ++ (ys ++ postOf at (at + 14 - at) out)) part
-    ∙ ap (λ (rest : List ℕ). take at out ++ (jobFrame j ++ rest)) (post-is at (at + 14) out (omega arith))
-    ∙ sym (append-assoc (take at out) (jobFrame j) (drop (at + 14) out)) in
-    let more = jobs-more (now (a .out)) (now (a .minutes)) (now (a .allowed)) (l .loop .i) j (omega arith) (l .loop .inv .2)
-    (minutes .ensures) (put .before .before .entry2 .ensures) whole in
-    (omega arith, same-len-mid at (at + 14 - at) out (put .put-job .last .1 .0) (put .put-job .kept .1 .0) ∙ l .loop .inv .1, more)
+    let whole = ap (λ (ys : List ℕ). take at out ++ (ys ++ postOf at (at + 14 - at) out)) part ∙ ap
+    (λ (rest : List ℕ). take at out ++ (jobFrame j ++ rest)) (post-is at (at + 14) out (omega arith)) ∙ sym
+    (append-assoc (take at out) (jobFrame j) (drop (at + 14) out)) in
+    let more = jobs-more (now (a .out)) (now (a .minutes)) (now (a .allowed)) (l .loop .i) j (omega arith)
+    (l .loop .inv .2) (minutes .ensures) (put .before .before .entry2 .ensures) whole in (
+      omega arith,
+      same-len-mid at (at + 14 - at) out (put .put-job .last .1 .0) (put .put-job .kept .1 .0) ∙
+          l .loop .inv .1,
+      more,
+    )
 
 same-length : tie.Need-same-length Inv-loop μ-loop
 same-length c = c .before .loop .inv .1

@@ -17,13 +17,16 @@ returns : tie.Need-returns
 returns c =
     let a = c .before .before .before .before .args in
     let r = c .before .before .read .ensures in
-    at-short (a .stage) (a .benches) (a .n) (a .at) (now (a .rest)) _ _ _ (record { version-is = r .0; kind-is = r .1; size-is = r .2 }) (omega arith)
+    at-short (a .stage) (a .benches) (a .n) (a .at) (now (a .rest)) _ _ _
+    (record { version-is = r .0; kind-is = r .1; size-is = r .2 }) (omega arith)
 
 returns-2 : tie.Need-returns-2
 returns-2 c =
+    let at-read = c .before .before .before .before .read in
     let a = c .before .before .before .before .before .before .args in
-    let r = c .before .before .before .before .read .ensures in
-    at-foreign (a .stage) (a .benches) (a .n) (a .at) (now (a .rest)) _ _ _ (record { version-is = r .0; kind-is = r .1; size-is = r .2 }) (omega arith) (λ e. omega arith)
+    let r = at-read .ensures in
+    at-foreign (a .stage) (a .benches) (a .n) (a .at) (now (a .rest)) _ _ _
+    (record { version-is = r .0; kind-is = r .1; size-is = r .2 }) (omega arith) (λ e. omega arith)
 
 sub-judge : tie.Need-sub-judge
 sub-judge c = search needs
@@ -39,10 +42,12 @@ judge-requires c κs = search needs
 
 returns-3 : tie.Need-returns-3
 returns-3 c =
+    let at-read = c .before .before .before .before .before .before .read in
     let a = c .before .before .before .before .before .before .before .before .args in
-    let r = c .before .before .before .before .before .before .read .ensures in
-    let ours : c .before .before .before .before .before .before .read .result .version ≡ 1 = omega arith in
-    at-ours (a .stage) (a .benches) (a .n) (a .at) (now (a .rest)) _ _ _ (record { version-is = r .0; kind-is = r .1; size-is = r .2 }) (omega arith) ours _ (c .judge .ensures)
+    let r = at-read .ensures in
+    let ours : at-read .result .version ≡ 1 = omega arith in
+    at-ours (a .stage) (a .benches) (a .n) (a .at) (now (a .rest)) _ _ _
+    (record { version-is = r .0; kind-is = r .1; size-is = r .2 }) (omega arith) ours _ (c .judge .ensures)
 
 pub frame-at-spec : {M : Type 1} → statement M
 frame-at-spec =

@@ -42,13 +42,13 @@ loop-less c = omega arith
 
 loop-again : tie.Need-loop-again Inv-loop μ-loop
 loop-again c =
-    let set = c .before .before .before .before .before .args .set in
+    let at-args = c .before .before .before .before .before .args in
+    let set = at-args .set in
     let l = c .before .before .loop in (
       omega arith,
-      ⊎-elim
-          (λ w. puts-moved (w .5) (w .6) (puts-as (bench-in set (l .b) (omega arith) (w .0 .taken)) (puts-then (l .inv .1) (w .2 .ensures))))
-          (λ w. puts-moved (w .1) (w .2) (puts-as (bench-out set (l .b) (w .0 .left)) (l .inv .1)))
-          (c .if1 .came),
+      ⊎-elim (λ w. puts-moved (w .5) (w .6) (puts-as (bench-in set (l .b) (omega arith) (w .0 .taken))
+          (puts-then (l .inv .1) (w .2 .ensures)))) (λ w. puts-moved (w .1) (w .2)
+          (puts-as (bench-out set (l .b) (w .0 .left)) (l .inv .1))) (c .if1 .came),
     )
 
 same-length : tie.Need-same-length Inv-loop μ-loop

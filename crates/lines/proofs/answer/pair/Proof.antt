@@ -24,7 +24,8 @@ returns c =
     let second = third .before .before .before .before in
     let first = second .before .before .before .before in
     let a = first .before .before .before .args in
-    puts-as (line-pair (digits (a .x)) (digits (a .y))) (puts-then (puts-then (first .number .ensures) (second .word .ensures)) (third .end-line .ensures))
+    puts-as (line-pair (digits (a .x)) (digits (a .y))) (puts-then (puts-then (first .number .ensures)
+    (second .word .ensures)) (third .end-line .ensures))
 
 pub pair-spec : {M : Type 1} → statement M
 pair-spec = tie.close (tie.spec number-requires word-requires end-line-requires same-length returns)

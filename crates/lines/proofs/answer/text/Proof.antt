@@ -80,7 +80,8 @@ returns c =
     let second = third .before .before .before .before in
     let first = second .before .before .before .before in
     let found = first .before .before .before .before in
-    plan-text (now (found .before .before .before .before .args .places)) (found .answer .given .1) (first .bytes .ensures) (second .pair .ensures) (third .jobs .ensures)
+    plan-text (now (found .before .before .before .before .args .places)) (found .answer .given .1)
+    (first .bytes .ensures) (second .pair .ensures) (third .jobs .ensures)
 
 same-length-2 : tie.Need-same-length-2
 same-length-2 c = search needs
@@ -91,7 +92,8 @@ returns-2 c =
     let second = third .before .before .before .before in
     let first = second .before .before .before .before in
     let found = first .before .before .before .before in
-    long-text (now (found .before .before .before .before .args .places)) (found .answer2 .given .1) (first .bytes2 .ensures) (second .word .ensures) (third .end-line .ensures)
+    long-text (now (found .before .before .before .before .args .places)) (found .answer2 .given .1)
+    (first .bytes2 .ensures) (second .word .ensures) (third .end-line .ensures)
 
 same-length-3 : tie.Need-same-length-3
 same-length-3 c = search needs
@@ -103,8 +105,8 @@ returns-3 c =
     let second = third .before .before .before .before in
     let first = second .before .before .before .before in
     let found = first .before .before .before .before in
-    none-text (now (found .before .before .before .before .args .places)) (found .answer3 .given .1) (first .bytes3 .ensures) (second .word2 .ensures)
-    (third .benches .ensures) (fourth .end-line2 .ensures)
+    none-text (now (found .before .before .before .before .args .places)) (found .answer3 .given .1)
+    (first .bytes3 .ensures) (second .word2 .ensures) (third .benches .ensures) (fourth .end-line2 .ensures)
 
 same-length-4 : tie.Need-same-length-4
 same-length-4 c = search needs
@@ -114,8 +116,9 @@ returns-4 c =
     let second = c .before .before in
     let first = second .before .before .before .before .before .before in
     let found = first .before .before .before .before in
-    fault-text (now (found .before .before .before .before .args .places)) (found .answer4 .given .1) (second .before .before .number .ensures) (second .before .place .ensures)
-    (first .bytes4 .ensures) (second .pair2 .ensures)
+    fault-text (now (found .before .before .before .before .args .places)) (found .answer4 .given .1)
+    (second .before .before .number .ensures) (second .before .place .ensures) (first .bytes4 .ensures)
+    (second .pair2 .ensures)
 
 pub text-spec : {M : Type 1} → statement M
 text-spec =

@@ -14,7 +14,9 @@ same-length : tie.Need-same-length
 same-length c = search needs
 
 returns : tie.Need-returns
-returns c = let second = c .before .before in puts-then (second .before .before .before .before .byte .ensures) (second .number .ensures)
+returns c =
+    let second = c .before .before in
+    puts-then (second .before .before .before .before .byte .ensures) (second .number .ensures)
 
 pub word-spec : {M : Type 1} → statement M
 word-spec = tie.close (tie.spec byte-requires number-requires same-length returns)

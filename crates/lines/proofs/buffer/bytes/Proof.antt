@@ -21,7 +21,9 @@ within-requires : tie.Need-within-requires Inv-loop μ-loop
 within-requires c κs = search needs
 
 loop-holds : tie.Need-loop-holds Inv-loop μ-loop
-loop-holds c = let a = c .before .before .before .args in (omega arith, puts-none (now (a .out)) (a .at) (c .within .ensures))
+loop-holds c =
+    let a = c .before .before .before .args in
+    (omega arith, puts-none (now (a .out)) (a .at) (c .within .ensures))
 
 shared-slice-read-byte : tie.Need-shared-slice-read-byte Inv-loop μ-loop
 shared-slice-read-byte c = omega arith

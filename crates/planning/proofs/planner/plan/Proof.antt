@@ -21,7 +21,12 @@ plan-sheet-requires c κs = search needs
 
 returns : tie.Need-returns
 returns c =
-    rw (c .unwritten .ensures) (refused-answer (c .before .before .before .before .before .before .before .before .args .s .now) _ _ (c .before .before .before .before .before .before .before .before .args .places .now) (c .before .before .before .before .before .before .before .before .args .loads .now) (c .before .before .before .before .read .ensures) (c .before .before .verdict .given .1))
+    let after-verdict = c .before .before in
+    let after-read = after-verdict .before .before in
+    let at-args = after-read .before .before .before .before .args in
+    rw (c .unwritten .ensures)
+    (refused-answer (at-args .s .now) _ _ (at-args .places .now) (at-args .loads .now)
+    (after-read .read .ensures) (after-verdict .verdict .given .1))
 
 same-length : tie.Need-same-length
 same-length c = search needs
@@ -31,7 +36,13 @@ same-length-2 c = search needs
 
 returns-2 : tie.Need-returns-2
 returns-2 c =
-    accepted-answer (c .before .before .before .before .before .before .before .before .before .before .before .before .before .before .args .s .now) _ _ (c .before .before .before .before .before .before .before .before .before .before .before .before .before .before .args .places .now) (c .before .before .before .before .before .before .before .before .before .before .before .before .before .before .args .loads .now) (c .before .before .before .before .before .before .before .before .before .before .read .result) (c .before .before .before .before .before .before .before .before .before .before .read .ensures) (c .before .before .before .before .before .before .before .before .enum-told .given .1) (c .before .before .before .before .plan-sheet .ensures)
+    let after-plan-sheet = c .before .before .before .before in
+    let after-told = after-plan-sheet .before .before .before .before in
+    let after-read = after-told .before .before in
+    let at-args = after-read .before .before .before .before .args in
+    accepted-answer (at-args .s .now) _ _ (at-args .places .now) (at-args .loads .now)
+    (after-read .read .result) (after-read .read .ensures) (after-told .enum-told .given .1)
+    (after-plan-sheet .plan-sheet .ensures)
 
 pub plan-spec : {M : Type 1} → statement M
 plan-spec =

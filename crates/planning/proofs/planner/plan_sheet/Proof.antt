@@ -1,12 +1,13 @@
 -- Fault 13, what is decided, and the tables of a plan (SheetRun).
-use Prim.Native.Nat.{ℕ, _≤_, _<_}
-use mathlib.Core.Path.{_≡_, refl, sym, ap, _∙_}
+use mathlib.Core.Path.{_≡_, sym, _∙_}
 use native.Mathlib.Omega.{arith}
-use lib.ListN.{length, getD, replicate, length-replicate, getD-replicate}
+use lib.ListN.{length, replicate}
 use Rattle.day.specs.Day.{dayOf}
 use Rattle.algorithm.specs.Run.{run}
-use Rattle.planning.specs.Decision.{placesIn, Places}
-use Rattle.planning.proofs.SheetRun.{fields-of, lent, short-places, short-loads, long-enough, decided-long, decided-none, decided-plan}
+use Rattle.deciding.specs.Decision.{placesIn}
+use Rattle.planning.specs.Places.{Places}
+use Rattle.planning.proofs.SheetRun.{day-lent, short-places, short-loads, long-enough}
+use Rattle.planning.proofs.SheetRun.{decided-long, decided-none, decided-plan}
 use borrow.Author.Needs.{needs}
 use Rattle.planning.proofs.planner.plan_sheet.Statement.{statement}
 use Rattle.planning.proofs.planner.plan_sheet.Tie as tie
@@ -16,20 +17,29 @@ unwritten-requires c κs = search needs
 
 returns : tie.Need-returns
 returns c =
-    let s = c .before .before .before .before .before .args .t1 in
+    let after-if1 = c .before in
+    let at-args = after-if1 .before .before .before .before .args in
+    let places = at-args .places .now in
+    let loads = at-args .loads .now in
     λ bytes sheet read same.
-    rw (c .unwritten .ensures) (short-places bytes sheet s read same (length (c .before .before .before .before .before .args .places .now)) (length (c .before .before .before .before .before .args .loads .now)) (omega (arith, c .before .if1 .taken))
-    (c .before .before .before .before .before .args .places .now) (c .before .before .before .before .before .args .loads .now))
+    rw (c .unwritten .ensures)
+    (short-places bytes sheet (at-args .t1) read same (length places) (length loads)
+    (omega (arith, after-if1 .if1 .taken)) places loads)
 
 unwritten-requires-2 : tie.Need-unwritten-requires-2
 unwritten-requires-2 c κs = search needs
 
 returns-2 : tie.Need-returns-2
 returns-2 c =
-    let s = c .before .before .before .before .before .before .args .t1 in
+    let after-if2 = c .before in
+    let after-if1 = after-if2 .before in
+    let at-args = after-if1 .before .before .before .before .args in
+    let places = at-args .places .now in
+    let loads = at-args .loads .now in
     λ bytes sheet read same.
-    rw (c .unwritten2 .ensures) (short-loads bytes sheet s read same (length (c .before .before .before .before .before .before .args .places .now)) (length (c .before .before .before .before .before .before .args .loads .now)) (omega (arith, c .before .before .if1 .left))
-    (omega (arith, c .before .if2 .taken)) (c .before .before .before .before .before .before .args .places .now) (c .before .before .before .before .before .before .args .loads .now))
+    rw (c .unwritten2 .ensures)
+    (short-loads bytes sheet (at-args .t1) read same (length places) (length loads)
+    (omega (arith, after-if1 .if1 .left)) (omega (arith, after-if2 .if2 .taken)) places loads)
 
 slice-aggregate-narrow : tie.Need-slice-aggregate-narrow
 slice-aggregate-narrow c = search needs
@@ -75,31 +85,43 @@ write-plan-requires c κs = search needs
 
 returns-3 : tie.Need-returns-3
 returns-3 c =
-    let s = c .before .before .before .before .before .before .before .before .before .before .before .before .before .before .before .before .before .before .before .before .before .before .before .before .args .t1 in
-    let places = c .before .before .before .before .before .before .before .before .before .before .before .before .before .before .before .before .before .before .before .before .before .before .before .before .args .places .now in
-    let loads = c .before .before .before .before .before .before .before .before .before .before .before .before .before .before .before .before .before .before .before .before .before .before .before .before .args .loads .now in
-    let wide : 512 ≤ length (replicate {A = ℕ} 512 0) = omega (arith, length-replicate {A = ℕ} 512 0) in
+    let after-decision = c .before .before in
+    let after-decide = after-decision .before .before in
+    let after-narrow2 = after-decide .before .before .before .before in
+    let after-narrow = after-narrow2 .before .before .before .before .before .before in
+    let after-if2 = after-narrow .before .before .before .before .before in
+    let after-if1 = after-if2 .before in
+    let at-args = after-if1 .before .before .before .before .args in
+    let s = at-args .t1 in
+    let places = at-args .places .now in
+    let loads = at-args .loads .now in
     λ bytes sheet read same.
-    let F = fields-of bytes sheet s read same (replicate 512 0) (replicate 512 0) wide wide (c .before .before .before .before .before .before .before .before .before .before .before .before .before .before .narrow .ensures) (c .before .before .before .before .before .before .before .before .narrow2 .ensures) in
-    let none : (v : ℕ) → v < sheet .head .benches → getD (replicate {A = ℕ} 64 0) v 0 ≡ 0 =
-    λ v h. getD-replicate {A = ℕ} 64 v 0 0 (omega (arith, h, F .bounded .few-benches)) in
-    let D = c .before .before .before .before .decide .ensures (dayOf sheet) (lent bytes sheet s read same _ _ (replicate 64 0) F none) in
-    let enough = long-enough bytes sheet s read same (length places) (length loads) (omega (arith, c .before .before .before .before .before .before .before .before .before .before .before .before .before .before .before .before .before .before .before .before .if1 .left)) (omega (arith, c .before .before .before .before .before .before .before .before .before .before .before .before .before .before .before .before .before .before .before .if2 .left)) in
-    rw (c .unwritten3 .ensures) (enough _ places loads places loads (decided-long (dayOf sheet) _ (sym (c .before .before .decision .given .1) ∙ D .decision) places loads))
+    let L = day-lent bytes sheet s read same (after-narrow .narrow .ensures) (after-narrow2 .narrow2 .ensures) in
+    let D = after-decide .decide .ensures (dayOf sheet) L in
+    let enough = long-enough bytes sheet s read same (length places) (length loads)
+    (omega (arith, after-if1 .if1 .left)) (omega (arith, after-if2 .if2 .left)) in
+    let told = sym (after-decision .decision .given .1) ∙ D .decision in
+    rw (c .unwritten3 .ensures) (enough _ places loads places loads (decided-long (dayOf sheet) _ told places loads))
 
 returns-4 : tie.Need-returns-4
 returns-4 c =
-    let s = c .before .before .before .before .before .before .before .before .before .before .before .before .before .before .before .before .before .before .before .before .before .before .before .before .args .t1 in
-    let places = c .before .before .before .before .before .before .before .before .before .before .before .before .before .before .before .before .before .before .before .before .before .before .before .before .args .places .now in
-    let loads = c .before .before .before .before .before .before .before .before .before .before .before .before .before .before .before .before .before .before .before .before .before .before .before .before .args .loads .now in
-    let wide : 512 ≤ length (replicate {A = ℕ} 512 0) = omega (arith, length-replicate {A = ℕ} 512 0) in
+    let after-decision = c .before .before in
+    let after-decide = after-decision .before .before in
+    let after-narrow2 = after-decide .before .before .before .before in
+    let after-narrow = after-narrow2 .before .before .before .before .before .before in
+    let after-if2 = after-narrow .before .before .before .before .before in
+    let after-if1 = after-if2 .before in
+    let at-args = after-if1 .before .before .before .before .args in
+    let s = at-args .t1 in
+    let places = at-args .places .now in
+    let loads = at-args .loads .now in
     λ bytes sheet read same.
-    let F = fields-of bytes sheet s read same (replicate 512 0) (replicate 512 0) wide wide (c .before .before .before .before .before .before .before .before .before .before .before .before .before .before .narrow .ensures) (c .before .before .before .before .before .before .before .before .narrow2 .ensures) in
-    let none : (v : ℕ) → v < sheet .head .benches → getD (replicate {A = ℕ} 64 0) v 0 ≡ 0 =
-    λ v h. getD-replicate {A = ℕ} 64 v 0 0 (omega (arith, h, F .bounded .few-benches)) in
-    let D = c .before .before .before .before .decide .ensures (dayOf sheet) (lent bytes sheet s read same _ _ (replicate 64 0) F none) in
-    let enough = long-enough bytes sheet s read same (length places) (length loads) (omega (arith, c .before .before .before .before .before .before .before .before .before .before .before .before .before .before .before .before .before .before .before .before .if1 .left)) (omega (arith, c .before .before .before .before .before .before .before .before .before .before .before .before .before .before .before .before .before .before .before .if2 .left)) in
-    rw (c .unwritten4 .ensures) (enough _ places loads places loads (decided-none (dayOf sheet) _ (sym (c .before .before .decision2 .given .1) ∙ D .decision) places loads))
+    let L = day-lent bytes sheet s read same (after-narrow .narrow .ensures) (after-narrow2 .narrow2 .ensures) in
+    let D = after-decide .decide .ensures (dayOf sheet) L in
+    let enough = long-enough bytes sheet s read same (length places) (length loads)
+    (omega (arith, after-if1 .if1 .left)) (omega (arith, after-if2 .if2 .left)) in
+    let told = sym (after-decision .decision2 .given .1) ∙ D .decision in
+    rw (c .unwritten4 .ensures) (enough _ places loads places loads (decided-none (dayOf sheet) _ told places loads))
 
 same-length : tie.Need-same-length
 same-length c = search needs
@@ -109,29 +131,39 @@ same-length-2 c = search needs
 
 returns-5 : tie.Need-returns-5
 returns-5 c =
-    let s = c .before .before .before .before .before .before .before .before .before .before .before .before .before .before .before .before .before .before .before .before .before .before .before .before .before .before .before .before .before .before .before .before .before .before .args .t1 in
-    let places = c .before .before .before .before .before .before .before .before .before .before .before .before .before .before .before .before .before .before .before .before .before .before .before .before .before .before .before .before .before .before .before .before .before .before .args .places .now in
-    let loads = c .before .before .before .before .before .before .before .before .before .before .before .before .before .before .before .before .before .before .before .before .before .before .before .before .before .before .before .before .before .before .before .before .before .before .args .loads .now in
-    let wide : 512 ≤ length (replicate {A = ℕ} 512 0) = omega (arith, length-replicate {A = ℕ} 512 0) in
+    let after-write-plan = c .before .before .before .before in
+    let after-decision = after-write-plan .before .before .before .before .before .before .before .before in
+    let after-decide = after-decision .before .before in
+    let after-narrow2 = after-decide .before .before .before .before in
+    let after-narrow = after-narrow2 .before .before .before .before .before .before in
+    let after-if2 = after-narrow .before .before .before .before .before in
+    let after-if1 = after-if2 .before in
+    let at-args = after-if1 .before .before .before .before .args in
+    let s = at-args .t1 in
+    let places = at-args .places .now in
+    let loads = at-args .loads .now in
+    let told = after-decision .decision3 .given .1 in
+    let place = after-decide .decide .result .places in
+    let sized : length place ≡ 512 = after-write-plan .before .before .before .write-plan-arg2 .given .0 in
     λ bytes sheet read same.
-    let F = fields-of bytes sheet s read same (replicate 512 0) (replicate 512 0) wide wide (c .before .before .before .before .before .before .before .before .before .before .before .before .before .before .before .before .before .before .before .before .before .before .before .before .narrow .ensures) (c .before .before .before .before .before .before .before .before .before .before .before .before .before .before .before .before .before .before .narrow2 .ensures) in
-    let none : (v : ℕ) → v < sheet .head .benches → getD (replicate {A = ℕ} 64 0) v 0 ≡ 0 =
-    λ v h. getD-replicate {A = ℕ} 64 v 0 0 (omega (arith, h, F .bounded .few-benches)) in
-    let D = c .before .before .before .before .before .before .before .before .before .before .before .before .before .before .decide .ensures (dayOf sheet) (lent bytes sheet s read same _ _ (replicate 64 0) F none) in
-    let enough = long-enough bytes sheet s read same (length places) (length loads) (omega (arith, c .before .before .before .before .before .before .before .before .before .before .before .before .before .before .before .before .before .before .before .before .before .before .before .before .before .before .before .before .before .before .if1 .left)) (omega (arith, c .before .before .before .before .before .before .before .before .before .before .before .before .before .before .before .before .before .before .before .before .before .before .before .before .before .before .before .before .before .if2 .left)) in
-    let told = c .before .before .before .before .before .before .before .before .before .before .before .before .decision3 .given .1 in
-    let sized : length (c .before .before .before .before .before .before .before .before .before .before .before .before .before .before .decide .result .places) ≡ 512 = search needs in
-    let P : Places (dayOf sheet) (s .count) (s .head .benches) _ (replicate 64 0) (c .before .before .before .before .before .before .before .before .before .before .before .before .before .before .decide .result .places) (placesIn (run (dayOf sheet))) = record {
+    let L = day-lent bytes sheet s read same (after-narrow .narrow .ensures) (after-narrow2 .narrow2 .ensures) in
+    let D = after-decide .decide .ensures (dayOf sheet) L in
+    let enough = long-enough bytes sheet s read same (length places) (length loads)
+    (omega (arith, after-if1 .if1 .left)) (omega (arith, after-if2 .if2 .left)) in
+    let F = L .fields in
+    let ps = placesIn (run (dayOf sheet)) in
+    let P : Places (dayOf sheet) (s .count) (s .head .benches) _ (replicate 64 0) place ps = record {
       allowed = _;
       fields = F;
-      benches-are = lent bytes sheet s read same _ _ (replicate 64 0) F none .benches-are;
-      booked-are = none;
+      benches-are = L .benches-are;
+      booked-are = L .booked-are;
       one-to-a-job = D .one-to-a-job _ told;
       places-are = D .places;
     } in
-    enough _ places loads _ _ (decided-plan (dayOf sheet) _ (sym told ∙ D .decision)
-    (c .before .before .before .before .write-plan .ensures (dayOf sheet) (placesIn (run (dayOf sheet))) P (omega (arith, sized, F .jobs-are, F .bounded .few-jobs))
-    (omega (arith, c .before .before .before .before .before .before .before .before .before .before .before .before .before .before .before .before .before .before .before .before .before .before .before .before .before .before .before .before .before .before .if1 .left, F .jobs-are)) (omega (arith, c .before .before .before .before .before .before .before .before .before .before .before .before .before .before .before .before .before .before .before .before .before .before .before .before .before .before .before .before .before .if2 .left, P .benches-are))))
+    let written = after-write-plan .write-plan .ensures (dayOf sheet) ps P
+    (omega (arith, sized, F .jobs-are, F .bounded .few-jobs))
+    (omega (arith, after-if1 .if1 .left, F .jobs-are)) (omega (arith, after-if2 .if2 .left, L .benches-are)) in
+    enough _ places loads _ _ (decided-plan (dayOf sheet) _ (sym told ∙ D .decision) written)
 
 pub plan-sheet-spec : {M : Type 1} → statement M
 plan-sheet-spec =

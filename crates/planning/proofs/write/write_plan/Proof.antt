@@ -55,20 +55,30 @@ same-length-2 c = search needs
 
 returns : tie.Need-returns
 returns c =
-    let jobs = c .before .before .before .before .before .before .before .before .before .before .before .before .before .before .before .before .before .before .before .before .before .before .before .before .args .jobs in
-    let place = c .before .before .before .before .before .before .before .before .before .before .before .before .before .before .before .before .before .before .before .before .before .before .before .before .args .place .now in
-    let sized : length (c .before .before .before .before .before .before .before .before .before .before .before .before .before .before .before .before .before .before .before .before .before .before .before .before .args .booked) ≡ 64 = search needs in
+    let after-widen2 = c .before .before .before .before in
+    let after-widen = after-widen2 .before .before .before .before .before in
+    let after-load = after-widen .before .before .before in
+    let after-own-loads = after-load .before in
+    let after-from-bytes = after-own-loads .before .before .before .before .before in
+    let at-args = after-from-bytes .before .before .before .before .before .before .args in
+    let at-from-bytes = after-from-bytes .from-bytes in
+    let at-own-loads = after-own-loads .own-loads in
+    let place = at-args .place .now in
+    let bench = at-from-bytes .last .1 .1 .0 in
     let wide = length-replicate {A = ℕ} 512 0 in
     λ d ps P enough rp rl.
     let F = P .fields in
     let few = F .bounded .few-jobs in
-    let filled-in = c .before .before .before .before .before .before .before .before .before .before .before .before .before .before .before .before .before .before .from-bytes .ensures enough (omega (arith, wide, F .jobs-are, few)) in
-    let copied : (j : ℕ) → j < d .jobs → getD (c .before .before .before .before .before .before .before .before .before .before .before .before .before .before .before .before .before .before .from-bytes .last .1 .1 .0) j 0 ≡ getD place j 0 =
+    let filled-in = at-from-bytes .ensures enough (omega (arith, wide, F .jobs-are, few)) in
+    let copied : (j : ℕ) → j < d .jobs → getD bench j 0 ≡ getD place j 0 =
     λ j h. ap (λ (xs : List ℕ). getD xs j 0) filled-in
-    ∙ getD-filled (λ i. getD place i 0) jobs (replicate 512 0) j 0 (omega (arith, h, F .jobs-are)) (omega (arith, h, wide, few)) in
-    plan-written d jobs (c .before .before .before .before .before .before .before .before .before .before .before .before .before .before .before .before .before .before .before .before .before .before .before .before .args .benches) (c .before .before .before .before .before .before .before .before .before .before .before .before .before .before .before .before .before .before .before .before .before .before .before .before .args .minutes .now) (c .before .before .before .before .before .before .before .before .before .before .before .before .before .before .before .before .before .before .before .before .before .before .before .before .args .booked) place ps P (c .before .before .before .before .before .before .before .before .before .before .before .before .before .before .before .before .before .before .from-bytes .last .1 .1 .0) copied (replicate 512 false)
-    (λ j h. getD-replicate {A = Bool} 512 j false false (omega (arith, few))) (c .before .before .before .before .before .before .before .before .before .before .before .before .before .before .before .before .before .before .before .before .before .before .before .before .args .moves) (c .before .before .before .before .before .before .before .before .before .before .before .before .before .own-loads .last .1 .1 .1 .1 .0) (c .before .before .before .before .before .before .before .before .before .before .before .before .before .before .before .before .before .before .before .before .before .before .before .before .args .places .now) (c .before .before .before .before .before .before .before .before .before .before .before .before .before .before .before .before .before .before .before .before .before .before .before .before .args .loads .now) sized rp rl
-    (c .before .before .before .before .before .before .before .before .before .before .before .before .before .own-loads .ensures) (c .before .before .before .before .before .before .before .before .before .widen .ensures) (c .before .before .before .before .widen2 .ensures) (c .greatest .ensures)
+    ∙ getD-filled (λ i. getD place i 0) (at-args .jobs) (replicate 512 0) j 0
+    (omega (arith, h, F .jobs-are)) (omega (arith, h, wide, few)) in
+    plan-written d (at-args .jobs) (at-args .benches) (at-args .minutes .now) (at-args .booked) place ps P bench copied
+    (replicate 512 false) (λ j h. getD-replicate {A = Bool} 512 j false false (omega (arith, few)))
+    (at-args .moves) (at-own-loads .last .1 .1 .1 .1 .0) (at-args .places .now) (at-args .loads .now)
+    (λ v l. at-own-loads .ensures v (omega (arith, l, after-load .load2 .given, at-own-loads .kept .1 .1 .1 .1 .0)))
+    rp rl (after-widen .widen .ensures) (after-widen2 .widen2 .ensures) (c .greatest .ensures)
 
 pub write-plan-spec : {M : Type 1} → statement M
 write-plan-spec =

@@ -12,10 +12,14 @@ at-requires : tie.Need-at-requires
 at-requires c κs = search needs
 
 returns : tie.Need-returns
-returns c = more-on (c .before .before .before .before .before .args .set) (c .before .before .byte .ensures) (c .before .if1 .taken) (c .at .ensures)
+returns c =
+    let at-args = c .before .before .before .before .before .args in
+    more-on (at-args .set) (c .before .before .byte .ensures) (c .before .if1 .taken) (c .at .ensures)
 
 returns-2 : tie.Need-returns-2
-returns-2 c = let at-args = c .before .before .before .before .args in more-off (at-args .set) (getD (at-args .choice .now) (at-args .j) 0) (c .before .byte .ensures) (c .if1 .left)
+returns-2 c =
+    let at-args = c .before .before .before .before .args in
+    more-off (at-args .set) (getD (at-args .choice .now) (at-args .j) 0) (c .before .byte .ensures) (c .if1 .left)
 
 pub reach-more-spec : {M : Type 1} → statement M
 reach-more-spec = tie.close (tie.spec byte-requires at-requires returns returns-2)

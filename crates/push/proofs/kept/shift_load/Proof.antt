@@ -30,7 +30,21 @@ same-length : tie.Need-same-length
 same-length c = search needs
 
 returns : tie.Need-returns
-returns c = let at-minus = c .before .before .before .before .before .before .before .before .before .before .before .minus in let at-args = c .before .before .before .before .before .before .before .before .before .before .before .before .before .before .before .args in let less : at-minus .result ≡ getD (at-args .own .now) (at-args .u) 0 - at-args .w = at-minus .ensures ∙ ap (λ (k : ℕ). k - at-args .w) (c .before .before .before .before .before .before .before .before .before .before .before .before .at .ensures) in let first = c .before .before .before .before .before .before .before .before .before .put .ensures ∙ ap (set (at-args .own .now) (at-args .u)) less in c .before .before .put2 .ensures ∙ ap₂ (λ (xs : List ℕ) (k : ℕ). set xs (at-args .v) k) first (c .before .before .before .before .plus .ensures ∙ ap (λ (k : ℕ). plusOf k (at-args .w)) (c .before .before .before .before .before .at2 .ensures ∙ ap (λ (xs : List ℕ). getD xs (at-args .v) 0) first))
+returns c =
+    let after-plus = c .before .before .before .before in
+    let at-plus = after-plus .plus in
+    let at-at2 = c .before .before .before .before .before .at2 in
+    let after-put = after-plus .before .before .before .before .before in
+    let at-put = after-put .put in
+    let at-minus = c .before .before .before .before .before .before .before .before .before .before .before .minus in
+    let at-at = c .before .before .before .before .before .before .before .before .before .before .before .before .at in
+    let at-args = after-put .before .before .before .before .before .before .args in
+    let less : at-minus .result ≡ getD (at-args .own .now) (at-args .u) 0 - at-args .w = at-minus .ensures ∙ ap
+    (λ (k : ℕ). k - at-args .w) (at-at .ensures) in
+    let first = at-put .ensures ∙ ap (set (at-args .own .now) (at-args .u)) less in
+    c .before .before .put2 .ensures ∙ ap₂ (λ (xs : List ℕ) (k : ℕ). set xs (at-args .v) k) first
+    (at-plus .ensures ∙ ap (λ (k : ℕ). plusOf k (at-args .w)) (at-at2 .ensures ∙ ap
+    (λ (xs : List ℕ). getD xs (at-args .v) 0) first))
 
 pub shift-load-spec : {M : Type 1} → statement M
 shift-load-spec =

@@ -28,7 +28,19 @@ same-length : tie.Need-same-length
 same-length c = search needs
 
 returns : tie.Need-returns
-returns c = let at-args = c .before .before .before .before .before .before .before .before .before .before .before .before .before .before .before .before .before .args in let at-reach-from = c .before .before .before .before .before .before .before .before .before .before .before .reach-from in reach-shifted (at-args .jobs) (at-args .choice .now) (at-args .place .now) (at-args .reach .now) (at-args .u) (at-args .v) (at-args .j) (c .before .before .before .before .before .before .before .before .before .before .before .before .at .result) _ (at-reach-from .result) (c .before .before .before .before .before .before .put .last .0) (c .before .before .before .before .before .before .before .before .before .before .before .before .at .ensures) (at-reach-from .ensures) (ap₂ bitOr (c .before .before .before .before .before .before .before .before .before .at2 .ensures) (c .before .before .before .before .before .before .before .before .at3 .ensures)) (c .before .before .before .before .before .before .put .ensures) (c .before .before .put2 .ensures)
+returns c =
+    let after-put = c .before .before .before .before .before .before in
+    let at-put = after-put .put in
+    let at-at3 = c .before .before .before .before .before .before .before .before .at3 in
+    let at-at2 = c .before .before .before .before .before .before .before .before .before .at2 in
+    let after-reach-from = after-put .before .before .before .before .before in
+    let at-reach-from = after-reach-from .reach-from in
+    let at-at = c .before .before .before .before .before .before .before .before .before .before .before .before .at in
+    let at-args = after-reach-from .before .before .before .before .before .before .args in
+    reach-shifted (at-args .jobs) (at-args .choice .now) (at-args .place .now) (at-args .reach .now) (at-args .u)
+    (at-args .v) (at-args .j) (at-at .result) _ (at-reach-from .result) (at-put .last .0) (at-at .ensures)
+    (at-reach-from .ensures) (ap₂ bitOr (at-at2 .ensures) (at-at3 .ensures)) (at-put .ensures)
+    (c .before .before .put2 .ensures)
 
 pub shift-reach-spec : {M : Type 1} → statement M
 shift-reach-spec =

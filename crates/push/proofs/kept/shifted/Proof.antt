@@ -22,7 +22,18 @@ shift-reach-requires : tie.Need-shift-reach-requires
 shift-reach-requires c κs = search needs
 
 returns : tie.Need-returns
-returns c = let at-args = c .before .before .before .before .before .before .before .before .before .before .args in let own-sized : length (at-args .own) ≡ 64 = search needs in let from-sized : length (at-args .reach) ≡ 64 = search needs in (own-sized, from-sized, c .before .before .before .before .shift-load .ensures ∙ ap (shiftedOf (at-args .own) (at-args .u) (at-args .v)) (c .before .before .before .before .before .at .ensures), c .before .shift-reach .ensures)
+returns c =
+    let at-shift-load = c .before .before .before .before .shift-load in
+    let at-at = c .before .before .before .before .before .at in
+    let at-args = c .before .before .before .before .before .before .before .before .before .before .args in
+    let own-sized : length (at-args .own) ≡ 64 = search needs in
+    let from-sized : length (at-args .reach) ≡ 64 = search needs in (
+      own-sized,
+      from-sized,
+      at-shift-load .ensures ∙ ap (shiftedOf (at-args .own) (at-args .u) (at-args .v))
+          (at-at .ensures),
+      c .before .shift-reach .ensures,
+    )
 
 pub shifted-spec : {M : Type 1} → statement M
 shifted-spec =

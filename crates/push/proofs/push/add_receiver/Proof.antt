@@ -24,10 +24,26 @@ same-length : tie.Need-same-length
 same-length c = search needs
 
 returns : tie.Need-returns
-returns c = let at-args = c .before .before .before .before .before .before .before .before .before .before .before .before .before .args in receiver-added (at-args .level .now) (receivesAt (at-args .n .benches) (at-args .n .limit) (at-args .load .now) (at-args .level .now) (at-args .m .children) (at-args .m .heavy)) (at-args .wanted .now) (at-args .v) (c .before .before .before .before .with .result) (c .before .before .before .before .before .before .before .before .before .receives .ensures) (c .before .before .before .before .before .before .before .before .if1 .taken) (c .before .before .before .before .before .before .before .at .ensures) (c .before .before .before .before .before .at2 .ensures) (c .before .before .before .before .with .ensures) (c .before .before .put .ensures)
+returns c =
+    let after-with = c .before .before .before .before in
+    let at-with = after-with .with in
+    let at-at2 = c .before .before .before .before .before .at2 in
+    let at-at = c .before .before .before .before .before .before .before .at in
+    let after-if1 = after-with .before .before .before .before in
+    let at-if1 = after-if1 .if1 in
+    let at-receives = c .before .before .before .before .before .before .before .before .before .receives in
+    let at-args = after-if1 .before .before .before .before .before .args in
+    receiver-added (at-args .level .now) (receivesAt (at-args .n .benches) (at-args .n .limit) (at-args .load .now)
+    (at-args .level .now) (at-args .m .children) (at-args .m .heavy)) (at-args .receivers .now) (at-args .v)
+    (at-with .result) (at-receives .ensures) (at-if1 .taken) (at-at .ensures) (at-at2 .ensures) (at-with .ensures)
+    (c .before .before .put .ensures)
 
 returns-2 : tie.Need-returns-2
-returns-2 c = let at-args = c .before .before .before .before .before .args in receiver-none (at-args .level .now) (receivesAt (at-args .n .benches) (at-args .n .limit) (at-args .load .now) (at-args .level .now) (at-args .m .children) (at-args .m .heavy)) (at-args .wanted .now) (at-args .v) (c .before .receives .ensures) (c .if1 .left)
+returns-2 c =
+    let at-args = c .before .before .before .before .before .args in
+    receiver-none (at-args .level .now) (receivesAt (at-args .n .benches) (at-args .n .limit) (at-args .load .now)
+    (at-args .level .now) (at-args .m .children) (at-args .m .heavy)) (at-args .receivers .now) (at-args .v)
+    (c .before .receives .ensures) (c .if1 .left)
 
 pub add-receiver-spec : {M : Type 1} → statement M
 add-receiver-spec =

@@ -6,7 +6,7 @@ use lib.ListN.{getD}
 use lib.Dec.{leb}
 use borrow.Author.Tests.{le-leb, lt-leb}
 use Rattle.bools.proofs.BoolLaws.{not-true, not-false}
-use Rattle.sets.specs.Sets.{hasAt}
+use Rattle.bits.specs.Bits.{isSet}
 use Rattle.arrays.proofs.ArrayLaws.{and-not, and-rest}
 use Rattle.push.proofs.PushRun.{or-first, or-second}
 use borrow.Author.Needs.{needs}
@@ -17,25 +17,57 @@ within-requires : tie.Need-within-requires
 within-requires c κs = search needs
 
 returns : tie.Need-returns
-returns c = let at-args = c .before .before .before .before .args in and-not (leb (getD (at-args .load .now) (at-args .v) 0) (at-args .n .limit) && (not (hasAt (at-args .m .children) (at-args .v)) || not (hasAt (at-args .m .heavy) (at-args .v)))) (c .before .within .ensures) (not-true (c .before .within .result) (c .if1 .taken))
+returns c =
+    let at-within = c .before .within in
+    let at-args = c .before .before .before .before .args in
+    and-not (leb (getD (at-args .load .now) (at-args .v) 0) (at-args .n .limit) &&
+    (not (isSet 64 (at-args .m .children) (at-args .v)) || not (isSet 64 (at-args .m .heavy) (at-args .v))))
+    (at-within .ensures) (not-true (at-within .result) (c .if1 .taken))
 
 at-requires : tie.Need-at-requires
 at-requires c κs = search needs
 
 returns-2 : tie.Need-returns-2
-returns-2 c = let at-args = c .before .before .before .before .before .before .before .args in and-rest (c .before .before .before .before .within .ensures) (not-false (c .before .before .before .before .within .result) (c .before .before .before .if1 .left)) (and-not (not (hasAt (at-args .m .children) (at-args .v)) || not (hasAt (at-args .m .heavy) (at-args .v))) (ap (λ (k : ℕ). leb k (at-args .n .limit)) (c .before .before .at .ensures)) (lt-leb (c .before .before .at .result) (at-args .n .limit) (c .if2 .taken)))
+returns-2 c =
+    let at-at = c .before .before .at in
+    let at-if1 = c .before .before .before .if1 in
+    let at-within = c .before .before .before .before .within in
+    let at-args = c .before .before .before .before .before .before .before .args in
+    and-rest (at-within .ensures) (not-false (at-within .result) (at-if1 .left))
+    (and-not (not (isSet 64 (at-args .m .children) (at-args .v)) || not (isSet 64 (at-args .m .heavy) (at-args .v)))
+    (ap (λ (k : ℕ). leb k (at-args .n .limit)) (at-at .ensures)) (lt-leb (at-at .result) (at-args .n .limit)
+    (c .if2 .taken)))
 
 has-requires : tie.Need-has-requires
 has-requires c κs = search needs
 
 returns-3 : tie.Need-returns-3
-returns-3 c = let at-args = c .before .before .before .before .before .before .before .before .before .args in and-rest (c .before .before .before .before .before .before .within .ensures) (not-false (c .before .before .before .before .before .before .within .result) (c .before .before .before .before .before .if1 .left)) (and-rest (ap (λ (k : ℕ). leb k (at-args .n .limit)) (c .before .before .before .before .at .ensures)) (le-leb (c .before .before .before .before .at .result) (at-args .n .limit) (c .before .before .if2 .left)) (or-first (not (hasAt (at-args .m .heavy) (at-args .v))) (sym (ap not (c .before .has .ensures)) ∙ c .if3 .taken)))
+returns-3 c =
+    let at-at = c .before .before .before .before .at in
+    let at-if1 = c .before .before .before .before .before .if1 in
+    let at-within = c .before .before .before .before .before .before .within in
+    let at-args = c .before .before .before .before .before .before .before .before .before .args in
+    and-rest (at-within .ensures) (not-false (at-within .result) (at-if1 .left))
+    (and-rest (ap (λ (k : ℕ). leb k (at-args .n .limit)) (at-at .ensures))
+    (le-leb (at-at .result) (at-args .n .limit) (c .before .before .if2 .left))
+    (or-first (not (isSet 64 (at-args .m .heavy) (at-args .v))) (sym (ap not (c .before .has .ensures)) ∙
+    c .if3 .taken)))
 
 has-requires-2 : tie.Need-has-requires-2
 has-requires-2 c κs = search needs
 
 returns-4 : tie.Need-returns-4
-returns-4 c = let at-args = c .before .before .before .before .before .before .before .before .before .before .args in and-rest (c .before .before .before .before .before .before .before .within .ensures) (not-false (c .before .before .before .before .before .before .before .within .result) (c .before .before .before .before .before .before .if1 .left)) (and-rest (ap (λ (k : ℕ). leb k (at-args .n .limit)) (c .before .before .before .before .before .at .ensures)) (le-leb (c .before .before .before .before .before .at .result) (at-args .n .limit) (c .before .before .before .if2 .left)) (or-second (c .before .before .has .ensures) (not-false (c .before .before .has .result) (c .before .if3 .left)) (c .has2 .ensures)))
+returns-4 c =
+    let at-has = c .before .before .has in
+    let at-if2 = c .before .before .before .if2 in
+    let at-at = c .before .before .before .before .before .at in
+    let at-if1 = c .before .before .before .before .before .before .if1 in
+    let at-within = c .before .before .before .before .before .before .before .within in
+    let at-args = c .before .before .before .before .before .before .before .before .before .before .args in
+    and-rest (at-within .ensures) (not-false (at-within .result) (at-if1 .left))
+    (and-rest (ap (λ (k : ℕ). leb k (at-args .n .limit)) (at-at .ensures))
+    (le-leb (at-at .result) (at-args .n .limit) (at-if2 .left)) (or-second (at-has .ensures)
+    (not-false (at-has .result) (c .before .if3 .left)) (c .has2 .ensures)))
 
 pub receives-spec : {M : Type 1} → statement M
 receives-spec =

@@ -18,7 +18,9 @@ abbrev μ-loop : tie.MeasureT-loop
 μ-loop n low high balance₀ neutral v₀ balance v = n .benches - v
 
 loop-holds : tie.Need-loop-holds Inv-loop μ-loop
-loop-holds c = (refl, omega arith, λ d R room all. balances-start d (c .before .before .before .args .balance .now) room all)
+loop-holds c =
+    let at-args = c .before .before .before .args in
+    (refl, omega arith, λ d R room all. balances-start d (at-args .balance .now) room all)
 
 slice-aggregate-balance-from : tie.Need-slice-aggregate-balance-from Inv-loop μ-loop
 slice-aggregate-balance-from c = search needs
@@ -33,13 +35,22 @@ loop-less : tie.Need-loop-less Inv-loop μ-loop
 loop-less c = omega arith
 
 loop-again : tie.Need-loop-again Inv-loop μ-loop
-loop-again c = let at-loop = c .before .before .before .before .before .before .before .loop in (search needs, omega arith, λ d R room all. c .before .before .balance-from .ensures d R (zeros 512) (omega (arith, R .benches)) (at-loop .inv .2 d R room all))
+loop-again c =
+    let at-loop = c .before .before .before .before .before .before .before .loop in (
+      search needs,
+      omega arith,
+      λ d R room all. c .before .before .balance-from .ensures d R (zeros 512)
+          (omega (arith, R .benches)) (at-loop .inv .2 d R room all),
+    )
 
 same-length : tie.Need-same-length Inv-loop μ-loop
 same-length c = c .before .before .loop .inv .0
 
 returns : tie.Need-returns Inv-loop μ-loop
-returns c = λ d R room all. let at-loop = c .before .before .loop in balances-all d (at-loop .v) (at-loop .balance) (at-loop .inv .2 d R room all) (omega (arith, R .benches))
+returns c =
+    λ d R room all.
+    let at-loop = c .before .before .loop in
+    balances-all d (at-loop .v) (at-loop .balance) (at-loop .inv .2 d R room all) (omega (arith, R .benches))
 
 pub balances-spec : {M : Type 1} → statement M
 balances-spec =

@@ -24,7 +24,13 @@ at-requires : tie.Need-at-requires Inv-loop μ-loop
 at-requires c κs = search needs
 
 returns : tie.Need-returns Inv-loop μ-loop
-returns c = first-found (c .before .before .before .before .before .args .benches) (λ i. eqb (getD (c .before .before .before .before .before .args .balance .now) i 0) 2) (c .before .before .before .loop .v) (omega arith) (c .before .before .before .loop .inv .1) (sym (ap (λ (k : ℕ). eqb k 2) (sym (c .before .at .ensures)) ∙ eq-eqb (c .before .at .result) 2 (c .if1 .taken))) refl
+returns c =
+    let at-at = c .before .at in
+    let at-loop = c .before .before .before .loop in
+    let at-args = c .before .before .before .before .before .args in
+    first-found (at-args .benches) (λ i. eqb (getD (at-args .balance .now) i 0) 2) (at-loop .v) (omega arith)
+    (at-loop .inv .1) (sym (ap (λ (k : ℕ). eqb k 2) (sym (at-at .ensures)) ∙ eq-eqb (at-at .result) 2
+    (c .if1 .taken))) refl
 
 add-v : tie.Need-add-v Inv-loop μ-loop
 add-v c = omega arith
@@ -33,10 +39,21 @@ loop-less : tie.Need-loop-less Inv-loop μ-loop
 loop-less c = omega arith
 
 loop-again : tie.Need-loop-again Inv-loop μ-loop
-loop-again c = (omega arith, first-more (λ i. eqb (getD (c .before .before .before .before .before .args .balance .now) i 0) 2) (c .before .before .before .loop .v) (c .before .before .before .loop .inv .1) (sym (ap (λ (k : ℕ). eqb k 2) (sym (c .before .at .ensures)) ∙ ne-eqb (c .before .at .result) 2 (c .if1 .left))) refl)
+loop-again c =
+    let at-at = c .before .at in
+    let at-loop = c .before .before .before .loop in
+    let at-args = c .before .before .before .before .before .args in (
+      omega arith,
+      first-more (λ i. eqb (getD (at-args .balance .now) i 0) 2) (at-loop .v) (at-loop .inv .1)
+          (sym (ap (λ (k : ℕ). eqb k 2) (sym (at-at .ensures)) ∙ ne-eqb (at-at .result) 2 (c .if1 .left))) refl,
+    )
 
 returns-2 : tie.Need-returns-2 Inv-loop μ-loop
-returns-2 c = first-none (c .before .before .before .args .benches) (λ i. eqb (getD (c .before .before .before .args .balance .now) i 0) 2) (c .before .loop .v) (omega arith) (omega arith) (c .before .loop .inv .1)
+returns-2 c =
+    let at-loop = c .before .loop in
+    let at-args = c .before .before .before .args in
+    first-none (at-args .benches) (λ i. eqb (getD (at-args .balance .now) i 0) 2) (at-loop .v) (omega arith)
+    (omega arith) (at-loop .inv .1)
 
 pub crowded-bench-spec : {M : Type 1} → statement M
 crowded-bench-spec =

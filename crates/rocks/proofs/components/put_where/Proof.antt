@@ -1,48 +1,66 @@
--- The entries passed are filled in (BalanceRun).
-use Prim.Native.Nat.{_≤_, _-_}
-use mathlib.Core.Path.{_≡_, refl, ap, _∙_}
-use mathlib.Core.Bool.{cond, false}
+-- The entries of the benches passed are written (SetRun).
+use mathlib.Core.Path.{ap, _∙_}
+use mathlib.Core.Bool.{Bool, cond}
 use native.Mathlib.Omega.{arith}
-use lib.ListN.{length, getD, length-set}
-use Rattle.arrays.specs.Arrays.{filled}
-use Rattle.arrays.proofs.FilledLaws.{filled-none, filled-end}
-use Rattle.rocks.proofs.BalanceRun.{where-more}
+use lib.ListN.{getD}
+use Rattle.sets.proofs.SetLaws.{in-isSet}
+use Rattle.sets.proofs.SetRun.{lowest-below, Put, put-starts, put-goes-on, put-ends}
 use borrow.Author.Needs.{needs}
 use Rattle.rocks.proofs.components.put_where.Statement.{statement}
 use Rattle.rocks.proofs.components.put_where.Tie as tie
 
 abbrev Inv-loop : tie.InvT-loop
-Inv-loop n set x to₀ v₀ to v = (length to ≡ length to₀) × (v ≤ n) × (to ≡ filled v (λ u. cond (getD set u false) x (getD to₀ u 0)) to₀)
+Inv-loop set x to₀ left₀ to left = Put set x to₀ left to
 
 abbrev μ-loop : tie.MeasureT-loop
-μ-loop n set x to₀ v₀ to v = n - v
+μ-loop set x to₀ left₀ to left = left
 
 loop-holds : tie.Need-loop-holds Inv-loop μ-loop
-loop-holds c = let at-args = c .before .before .args in (refl, omega arith, filled-none (λ u. cond (getD (at-args .set .now) u false) (at-args .x) (getD (at-args .to .now) u 0)) (at-args .to .now))
+loop-holds c = let at-args = c .before .args in put-starts (at-args .set) (at-args .x) (at-args .to .now)
 
-at-requires : tie.Need-at-requires Inv-loop μ-loop
-at-requires c κs = search needs
-
-where-marked-requires : tie.Need-where-marked-requires Inv-loop μ-loop
-where-marked-requires c κs = search needs
+lowest-requires : tie.Need-lowest-requires Inv-loop μ-loop
+lowest-requires c κs = search needs
 
 put-requires : tie.Need-put-requires Inv-loop μ-loop
 put-requires c κs = search needs
 
-add-v : tie.Need-add-v Inv-loop μ-loop
-add-v c = omega arith
+after-requires : tie.Need-after-requires Inv-loop μ-loop
+after-requires c κs = search needs
 
 loop-less : tie.Need-loop-less Inv-loop μ-loop
-loop-less c = omega arith
+loop-less c =
+    let at-lowest = c .before .before .before .before .before .lowest in
+    let at-loop-test = c .before .before .before .before .before .before .loop-test in
+    let at-loop = c .before .before .before .before .before .before .before .loop in
+    let at-fits = c .before .before .before .before .before .before .before .before .before .fits in
+    c .after .ensures .1 (at-lowest .ensures) (lowest-below (at-loop .left) (at-lowest .result) (at-lowest .ensures)
+    (at-loop-test .taken) (omega (arith, at-loop .inv .small, at-fits .set .fits)))
 
 loop-again : tie.Need-loop-again Inv-loop μ-loop
-loop-again c = let at-args = c .before .before .before .before .before .before .before .before .before .before .before .args in let at-loop = c .before .before .before .before .before .before .before .before .loop in (ap length (c .before .before .put .ensures) ∙ simp length-set (at-loop .inv .0), omega arith, where-more (at-args .set .now) (at-args .x) (at-args .to .now) (at-loop .v) (at-loop .inv .2) (c .before .before .before .before .at .ensures) (c .before .before .before .where-marked .ensures) (c .before .before .put .ensures))
+loop-again c =
+    let at-after = c .after in
+    let at-put = c .before .before .before .put in
+    let at-lowest = c .before .before .before .before .before .lowest in
+    let at-loop-test = c .before .before .before .before .before .before .loop-test in
+    let at-loop = c .before .before .before .before .before .before .before .loop in
+    let at-args = c .before .before .before .before .before .before .before .before .before .args in
+    let at-fits = c .before .before .before .before .before .before .before .before .before .fits in
+    let below = lowest-below (at-loop .left) (at-lowest .result) (at-lowest .ensures) (at-loop-test .taken)
+    (omega (arith, at-loop .inv .small, at-fits .set .fits)) in
+    put-goes-on (at-args .set) (at-args .x) (at-args .to .now) (at-loop .left) (at-lowest .result) (at-loop .to)
+    (at-loop .inv) (at-lowest .ensures) below (at-after .result) (at-after .ensures .0 (at-lowest .ensures))
+    (at-after .ensures .1 (at-lowest .ensures) below) (at-put .ensures)
 
 same-length : tie.Need-same-length Inv-loop μ-loop
-same-length c = c .before .loop .inv .0
+same-length c = c .before .loop .inv .long
 
 returns : tie.Need-returns Inv-loop μ-loop
-returns c = let at-args = c .before .before .before .before .args in let at-loop = c .before .loop in filled-end (λ u. cond (getD (at-args .set .now) u false) (at-args .x) (getD (at-args .to .now) u 0)) (at-args .n) (at-loop .v) (at-args .to .now) (at-loop .inv .1) (omega arith) (at-loop .inv .2)
+returns c =
+    let at-loop = c .before .loop in
+    let at-args = c .before .before .before .args in
+    λ v l.
+    put-ends (at-args .set) (at-args .x) (at-args .to .now) (at-loop .left) (at-loop .to) (at-loop .inv) (omega arith)
+    v l ∙ ap (λ (t : Bool). cond t (at-args .x) (getD (at-args .to .now) v 0)) (in-isSet (at-args .set) v)
 
 pub put-where-spec : {M : Type 1} → statement M
 put-where-spec =
@@ -51,10 +69,9 @@ put-where-spec =
     Inv-loop
     μ-loop
     loop-holds
-    at-requires
-    where-marked-requires
+    lowest-requires
     put-requires
-    add-v
+    after-requires
     loop-less
     loop-again
     same-length

@@ -1,4 +1,5 @@
 -- By cases on whether the rock crosses.
+use Rattle.bits.specs.Bits.{isSet}
 use Rattle.bools.proofs.BoolLaws.{not-true, not-false}
 use Rattle.rocks.proofs.SpreadRun.{join-not, join-yes}
 use borrow.Author.Needs.{needs}
@@ -8,40 +9,45 @@ use Rattle.rocks.proofs.spreading.join.Tie as tie
 crosses-requires : tie.Need-crosses-requires
 crosses-requires c κs = search needs
 
-same-length : tie.Need-same-length
-same-length c = search needs
-
 returns : tie.Need-returns
-returns c = join-not (c .before .before .before .before .before .before .before .args .low .now) (c .before .before .before .before .before .before .before .args .high .now) (c .before .before .before .before .before .before .before .args .dir .now) (c .before .before .before .before .before .before .before .args .chosen .now) (c .before .before .before .before .before .before .before .args .r) (c .before .before .before .before .before .before .before .args .changed) (c .before .crosses .ensures) (not-true (c .before .crosses .result) (c .if1 .taken))
+returns c =
+    let at-crosses = c .before .crosses in
+    let at-args = c .before .before .before .before .before .args in
+    λ v h.
+    join-not (at-args .low .now) (at-args .high .now) (at-args .dir .now) (isSet 64 (at-args .chosen)) (at-args .r)
+    (at-crosses .ensures) (not-true (at-crosses .result) (c .if1 .taken)) v
 
 at-requires : tie.Need-at-requires
 at-requires c κs = search needs
 
-mark-requires : tie.Need-mark-requires
-mark-requires c κs = search needs
+with-requires : tie.Need-with-requires
+with-requires c κs = search needs
 
 at-requires-2 : tie.Need-at-requires-2
 at-requires-2 c κs = search needs
 
-mark-requires-2 : tie.Need-mark-requires-2
-mark-requires-2 c κs = search needs
-
-same-length-2 : tie.Need-same-length-2
-same-length-2 c = search needs
+with-requires-2 : tie.Need-with-requires-2
+with-requires-2 c κs = search needs
 
 returns-2 : tie.Need-returns-2
-returns-2 c = join-yes (c .before .before .before .before .before .before .before .before .before .before .before .before .before .before .before .before .before .args .low .now) (c .before .before .before .before .before .before .before .before .before .before .before .before .before .before .before .before .before .args .high .now) (c .before .before .before .before .before .before .before .before .before .before .before .before .before .before .before .before .before .args .dir .now) (c .before .before .before .before .before .before .before .before .before .before .before .before .before .before .before .before .before .args .chosen .now) (c .before .before .before .before .before .before .before .before .before .before .before .before .before .before .before .before .before .args .r) (c .before .before .before .before .before .before .before .before .before .before .before .before .before .before .before .before .before .args .changed) (c .before .before .before .before .before .before .before .before .before .before .before .crosses .ensures) (not-false (c .before .before .before .before .before .before .before .before .before .before .before .crosses .result) (c .before .before .before .before .before .before .before .before .before .before .if1 .left)) (c .before .before .before .before .before .before .before .before .at .ensures) (c .before .before .before .before .before .before .before .mark .ensures) (c .before .before .before .at2 .ensures) (c .before .before .mark2 .ensures)
+returns-2 c =
+    let at-at = c .before .before .before .at in
+    let at-if1 = c .before .before .before .before .if1 in
+    let at-crosses = c .before .before .before .before .before .crosses in
+    let at-args = c .before .before .before .before .before .before .before .before .before .args in
+    λ v h.
+    join-yes (at-args .low .now) (at-args .high .now) (at-args .dir .now) (isSet 64 (at-args .chosen)) (at-args .r)
+    (at-crosses .ensures) (not-false (at-crosses .result) (at-if1 .left)) v (at-at .ensures)
+    (c .before .before .with .ensures v h) (c .before .at2 .ensures) (c .with2 .ensures v h)
 
 pub join-spec : {M : Type 1} → statement M
 join-spec =
     tie.close
     (tie.spec
     crosses-requires
-    same-length
     returns
     at-requires
-    mark-requires
+    with-requires
     at-requires-2
-    mark-requires-2
-    same-length-2
+    with-requires-2
     returns-2)

@@ -3,6 +3,7 @@ use Prim.Native.Nat.{_≤_, _-_}
 use mathlib.Core.Path.{_≡_}
 use native.Mathlib.Omega.{arith}
 use Rattle.sums.specs.Sum.{count}
+use Rattle.bits.specs.Bits.{isSet}
 use Rattle.rocks.specs.SpreadArrays.{insideAt}
 use Rattle.arrays.proofs.CountRun.{count-next}
 use borrow.Author.Needs.{needs}
@@ -10,7 +11,7 @@ use Rattle.rocks.proofs.spreading.rocks_in.Statement.{statement}
 use Rattle.rocks.proofs.spreading.rocks_in.Tie as tie
 
 abbrev Inv-loop : tie.InvT-loop
-Inv-loop n low dir chosen k₀ r₀ k r = (r ≤ n .rocks) × (k ≡ count r (insideAt low dir chosen))
+Inv-loop n low dir chosen k₀ r₀ k r = (r ≤ n .rocks) × (k ≡ count r (insideAt low dir (isSet 64 chosen)))
 
 abbrev μ-loop : tie.MeasureT-loop
 μ-loop n low dir chosen k₀ r₀ k r = n .rocks - r
@@ -31,10 +32,20 @@ loop-less : tie.Need-loop-less Inv-loop μ-loop
 loop-less c = omega arith
 
 loop-again : tie.Need-loop-again Inv-loop μ-loop
-loop-again c = (omega arith, count-next (insideAt (c .before .before .before .before .before .before .before .before .args .low .now) (c .before .before .before .before .before .before .before .before .args .dir .now) (c .before .before .before .before .before .before .before .before .args .chosen .now)) (c .before .before .before .before .loop .r) (omega arith) (c .before .before .before .before .loop .inv .1) (c .before .inside .ensures) (c .more .ensures))
+loop-again c =
+    let at-loop = c .before .before .before .before .loop in
+    let at-args = c .before .before .before .before .before .before .before .args in (
+      omega arith,
+      count-next (insideAt (at-args .low .now) (at-args .dir .now) (isSet 64 (at-args .chosen)))
+          (at-loop .r) (omega arith) (at-loop .inv .1) (c .before .inside .ensures) (c .more .ensures),
+    )
 
 returns : tie.Need-returns Inv-loop μ-loop
-returns c = let e : c .before .before .loop .r ≡ c .before .before .before .before .before .before .args .n .rocks = omega arith in rw (← e) (c .before .before .loop .inv .1)
+returns c =
+    let at-loop = c .before .before .loop in
+    let at-args = c .before .before .before .before .before .args in
+    let e : at-loop .r ≡ at-args .n .rocks = omega arith in
+    rw (← e) (at-loop .inv .1)
 
 pub rocks-in-spec : {M : Type 1} → statement M
 rocks-in-spec =

@@ -16,7 +16,13 @@ abbrev μ-loop : tie.MeasureT-loop
 μ-loop rocks job amount weight₀ r₀ weight r = rocks - r
 
 loop-holds : tie.Need-loop-holds Inv-loop μ-loop
-loop-holds c = (refl, omega arith, filled-none (λ r. getD (c .before .before .before .args .amount .now) (getD (c .before .before .before .args .job .now) r 0) 0) (c .before .before .before .args .weight .now))
+loop-holds c =
+    let at-args = c .before .before .before .args in (
+      refl,
+      omega arith,
+      filled-none (λ r. getD (at-args .amount .now) (getD (at-args .job .now) r 0) 0)
+          (at-args .weight .now),
+    )
 
 at-requires : tie.Need-at-requires Inv-loop μ-loop
 at-requires c κs = search needs
@@ -34,13 +40,29 @@ loop-less : tie.Need-loop-less Inv-loop μ-loop
 loop-less c = omega arith
 
 loop-again : tie.Need-loop-again Inv-loop μ-loop
-loop-again c = (ap length (c .before .before .put .ensures) ∙ simp length-set (c .before .before .before .before .before .before .before .loop .inv .0), omega arith, filled-more (λ r. getD (c .before .before .before .before .before .before .before .before .before .before .before .args .amount .now) (getD (c .before .before .before .before .before .before .before .before .before .before .before .args .job .now) r 0) 0) (c .before .before .before .before .before .before .before .loop .r) (c .before .before .before .before .before .before .before .before .before .before .before .args .weight .now) (c .before .before .before .before .before .before .before .loop .inv .2) (c .before .before .before .at2 .ensures ∙ ap (λ (k : ℕ). getD (c .before .before .before .before .before .before .before .before .before .before .before .args .amount .now) k 0) (c .before .before .before .before .at .ensures)) (c .before .before .put .ensures))
+loop-again c =
+    let at-put = c .before .before .put in
+    let at-at2 = c .before .before .before .at2 in
+    let at-at = c .before .before .before .before .at in
+    let at-loop = c .before .before .before .before .before .before .before .loop in
+    let at-args = c .before .before .before .before .before .before .before .before .before .before .before .args in (
+      ap length (at-put .ensures) ∙ simp length-set (at-loop .inv .0),
+      omega arith,
+      filled-more
+          (λ r. getD (at-args .amount .now) (getD (at-args .job .now) r 0) 0) (at-loop .r) (at-args .weight .now)
+          (at-loop .inv .2) (at-at2 .ensures ∙ ap (λ (k : ℕ). getD (at-args .amount .now) k 0) (at-at .ensures))
+          (at-put .ensures),
+    )
 
 same-length : tie.Need-same-length Inv-loop μ-loop
 same-length c = c .before .loop .inv .0
 
 returns : tie.Need-returns Inv-loop μ-loop
-returns c = filled-end (λ r. getD (c .before .before .before .before .before .args .amount .now) (getD (c .before .before .before .before .before .args .job .now) r 0) 0) (c .before .before .before .before .before .args .rocks) (c .before .loop .r) (c .before .before .before .before .before .args .weight .now) (c .before .loop .inv .1) (omega arith) (c .before .loop .inv .2)
+returns c =
+    let at-loop = c .before .loop in
+    let at-args = c .before .before .before .before .before .args in
+    filled-end (λ r. getD (at-args .amount .now) (getD (at-args .job .now) r 0) 0) (at-args .rocks) (at-loop .r)
+    (at-args .weight .now) (at-loop .inv .1) (omega arith) (at-loop .inv .2)
 
 pub pick-spec : {M : Type 1} → statement M
 pick-spec =

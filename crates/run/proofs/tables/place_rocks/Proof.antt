@@ -16,7 +16,9 @@ abbrev μ-loop : tie.MeasureT-loop
 μ-loop rocks job dir place₀ r₀ place r = rocks - r
 
 loop-holds : tie.Need-loop-holds Inv-loop μ-loop
-loop-holds c = (refl, omega arith, placed-none (c .before .before .before .args .job .now) (c .before .before .before .args .dir .now) (c .before .before .before .args .place .now))
+loop-holds c =
+    let at-args = c .before .before .before .args in
+    (refl, omega arith, placed-none (at-args .job .now) (at-args .dir .now) (at-args .place .now))
 
 at-requires : tie.Need-at-requires Inv-loop μ-loop
 at-requires c κs = search needs
@@ -37,13 +39,30 @@ loop-less : tie.Need-loop-less Inv-loop μ-loop
 loop-less c = omega arith
 
 loop-again : tie.Need-loop-again Inv-loop μ-loop
-loop-again c = (ap length (c .before .before .put-byte .ensures) ∙ simp length-set (c .before .before .before .before .before .before .before .before .loop .inv .0), omega arith, placed-more (c .before .before .before .before .before .before .before .before .before .before .before .before .args .job .now) (c .before .before .before .before .before .before .before .before .before .before .before .before .args .dir .now) (c .before .before .before .before .before .before .before .before .before .before .before .before .args .place .now) (c .before .before .before .before .before .before .before .before .loop .r) (c .before .before .before .before .before .before .before .before .loop .inv .2) (c .before .before .before .before .before .before .at .ensures) (c .before .before .before .before .before .minus .ensures) (c .before .before .before .at2 .ensures) (c .before .before .put-byte .ensures))
+loop-again c =
+    let at-put-byte = c .before .before .put-byte in
+    let at-at2 = c .before .before .before .at2 in
+    let after-minus = c .before .before .before .before .before in
+    let at-minus = after-minus .minus in
+    let at-at = c .before .before .before .before .before .before .at in
+    let at-loop = c .before .before .before .before .before .before .before .before .loop in
+    let at-args = after-minus .before .before .before .before .before .before .before .args in (
+      ap length (at-put-byte .ensures) ∙ simp length-set (at-loop .inv .0),
+      omega arith,
+      placed-more
+          (at-args .job .now) (at-args .dir .now) (at-args .place .now) (at-loop .r) (at-loop .inv .2) (at-at .ensures)
+          (at-minus .ensures) (at-at2 .ensures) (at-put-byte .ensures),
+    )
 
 same-length : tie.Need-same-length Inv-loop μ-loop
 same-length c = c .before .loop .inv .0
 
 returns : tie.Need-returns Inv-loop μ-loop
-returns c = let e : c .before .loop .r ≡ c .before .before .before .before .before .args .rocks = omega arith in rw (← e) (c .before .loop .inv .2)
+returns c =
+    let at-loop = c .before .loop in
+    let at-args = c .before .before .before .before .before .args in
+    let e : at-loop .r ≡ at-args .rocks = omega arith in
+    rw (← e) (at-loop .inv .2)
 
 pub place-rocks-spec : {M : Type 1} → statement M
 place-rocks-spec =

@@ -10,7 +10,10 @@ with-requires : tie.Need-with-requires
 with-requires c κs = search needs
 
 returns : tie.Need-returns
-returns c = λ u h. add-yes (isSet 64 (c .before .before .args .set) u) (eqb u (c .before .before .args .v)) (c .before .if1 .taken) (c .with .ensures u h)
+returns c =
+    let at-args = c .before .before .args in
+    λ u h.
+    add-yes (isSet 64 (at-args .set) u) (eqb u (at-args .v)) (c .before .if1 .taken) (c .with .ensures u h)
 
 returns-2 : tie.Need-returns-2
 returns-2 c = λ u h. add-not (isSet 64 (c .before .args .set) u) (eqb u (c .before .args .v)) (c .if1 .left)

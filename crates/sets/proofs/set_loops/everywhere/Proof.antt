@@ -27,10 +27,17 @@ loop-less : tie.Need-loop-less Inv-loop μ-loop
 loop-less c = omega arith
 
 loop-again : tie.Need-loop-again Inv-loop μ-loop
-loop-again c = (omega arith, gathered-more (λ u. true) (c .before .before .loop .v) (c .before .before .loop .all) (c .add .result) true (c .before .before .loop .inv .1) refl (c .add .ensures))
+loop-again c =
+    let at-loop = c .before .before .loop in (
+      omega arith,
+      gathered-more (λ u. true) (at-loop .v) (at-loop .all) (c .add .result) true (at-loop .inv .1) refl
+          (c .add .ensures),
+    )
 
 returns : tie.Need-returns Inv-loop μ-loop
-returns c = gathered-every (c .before .loop .v) (c .before .loop .all) (c .before .loop .inv .1) (omega (arith, c .before .loop .inv .0))
+returns c =
+    let at-loop = c .before .loop in
+    gathered-every (at-loop .v) (at-loop .all) (at-loop .inv .1) (omega (arith, at-loop .inv .0))
 
 pub everywhere-spec : {M : Type 1} → statement M
 everywhere-spec =

@@ -30,13 +30,35 @@ after-requires : tie.Need-after-requires Inv-loop μ-loop
 after-requires c κs = search needs
 
 loop-less : tie.Need-loop-less Inv-loop μ-loop
-loop-less c = let at-loop = c .before .before .before .before .before .before .loop in let at-lowest = c .before .before .lowest in c .after .ensures .1 (at-lowest .ensures) (lowest-below (at-loop .left) (at-lowest .result) (at-lowest .ensures) (c .before .before .before .before .before .loop-test .taken) (omega (arith, at-loop .inv .small, c .before .before .before .before .before .before .before .before .fits .benches .fits)))
+loop-less c =
+    let at-lowest = c .before .before .lowest in
+    let at-loop-test = c .before .before .before .before .before .loop-test in
+    let at-loop = c .before .before .before .before .before .before .loop in
+    let at-fits = c .before .before .before .before .before .before .before .before .fits in
+    c .after .ensures .1 (at-lowest .ensures) (lowest-below (at-loop .left) (at-lowest .result) (at-lowest .ensures)
+    (at-loop-test .taken) (omega (arith, at-loop .inv .small, at-fits .benches .fits)))
 
 loop-again : tie.Need-loop-again Inv-loop μ-loop
-loop-again c = let at-args = c .before .before .before .before .before .before .before .before .args in let at-loop = c .before .before .before .before .before .before .loop in let at-lowest = c .before .before .lowest in let at-after = c .after in let below = lowest-below (at-loop .left) (at-lowest .result) (at-lowest .ensures) (c .before .before .before .before .before .loop-test .taken) (omega (arith, at-loop .inv .small, c .before .before .before .before .before .before .before .before .fits .benches .fits)) in joined-goes-on (at-args .benches) (at-args .table .now) (at-loop .left) (at-lowest .result) (at-loop .reach) (at-loop .inv) (at-lowest .ensures) below (at-after .result) (at-after .ensures .0 (at-lowest .ensures)) (at-after .ensures .1 (at-lowest .ensures) below) (c .before .at .ensures)
+loop-again c =
+    let at-after = c .after in
+    let at-lowest = c .before .before .lowest in
+    let at-loop-test = c .before .before .before .before .before .loop-test in
+    let at-loop = c .before .before .before .before .before .before .loop in
+    let at-args = c .before .before .before .before .before .before .before .before .args in
+    let at-fits = c .before .before .before .before .before .before .before .before .fits in
+    let below = lowest-below (at-loop .left) (at-lowest .result) (at-lowest .ensures) (at-loop-test .taken)
+    (omega (arith, at-loop .inv .small, at-fits .benches .fits)) in
+    joined-goes-on (at-args .benches) (at-args .table .now) (at-loop .left) (at-lowest .result) (at-loop .reach)
+    (at-loop .inv) (at-lowest .ensures) below (at-after .result) (at-after .ensures .0 (at-lowest .ensures))
+    (at-after .ensures .1 (at-lowest .ensures) below) (c .before .at .ensures)
 
 returns-2 : tie.Need-returns-2 Inv-loop μ-loop
-returns-2 c = λ v l h. joined-ends (c .before .before .before .args .benches) (c .before .before .before .args .table .now) (c .before .loop .left) (c .before .loop .reach) (c .before .loop .inv) (omega arith) v
+returns-2 c =
+    let at-loop = c .before .loop in
+    let at-args = c .before .before .before .args in
+    λ v l h.
+    joined-ends (at-args .benches) (at-args .table .now) (at-loop .left) (at-loop .reach) (at-loop .inv) (omega arith)
+    v
 
 pub reach-of-spec : {M : Type 1} → statement M
 reach-of-spec =

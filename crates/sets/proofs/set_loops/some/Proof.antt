@@ -29,10 +29,22 @@ loop-less : tie.Need-loop-less Inv-loop μ-loop
 loop-less c = omega arith
 
 loop-again : tie.Need-loop-again Inv-loop μ-loop
-loop-again c = let at-args = c .before .before .before .before .before .args in let at-loop = c .before .before .before .loop in let at-at = c .before .at in (omega arith, ⊎-elim (λ x. some-entry (at-args .t .now) (at-loop .v) (at-loop .found) (at-at .result) (at-loop .inv .1) (at-at .ensures) (x .1 .result) (x .0 .taken) (x .1 .ensures) (x .2)) (λ x. no-entry (at-args .t .now) (at-loop .v) (at-loop .found) (at-at .result) (at-loop .inv .1) (at-at .ensures) (x .0 .left) (x .1)) (c .if1 .came))
+loop-again c =
+    let at-at = c .before .at in
+    let at-loop = c .before .before .before .loop in
+    let at-args = c .before .before .before .before .before .args in (
+      omega arith,
+      ⊎-elim (λ x. some-entry (at-args .t .now) (at-loop .v) (at-loop .found) (at-at .result)
+          (at-loop .inv .1) (at-at .ensures) (x .1 .result) (x .0 .taken) (x .1 .ensures) (x .2))
+          (λ x. no-entry (at-args .t .now) (at-loop .v) (at-loop .found) (at-at .result) (at-loop .inv .1) (at-at .ensures)
+          (x .0 .left) (x .1)) (c .if1 .came),
+    )
 
 returns : tie.Need-returns Inv-loop μ-loop
-returns c = gathered-wide (hasSome (c .before .before .before .args .t .now)) (c .before .loop .v) (c .before .loop .found) (c .before .loop .inv .1) (omega arith)
+returns c =
+    let at-loop = c .before .loop in
+    let at-args = c .before .before .before .args in
+    gathered-wide (hasSome (at-args .t .now)) (at-loop .v) (at-loop .found) (at-loop .inv .1) (omega arith)
 
 pub some-spec : {M : Type 1} → statement M
 some-spec =

@@ -18,7 +18,11 @@ rem-result : tie.Need-rem-result
 rem-result c = power-some (c .before .args .v)
 
 returns-2 : tie.Need-returns-2
-returns-2 c = λ u h. ap (λ (k : ℕ). isSet 64 (c .before .args .set % k) u) (power-fits (c .before .args .v)) ∙ above-set (c .before .args .set) (c .before .args .v) u (omega arith) h
+returns-2 c =
+    let at-args = c .before .args in
+    λ u h.
+    ap (λ (k : ℕ). isSet 64 (at-args .set % k) u) (power-fits (at-args .v)) ∙ above-set (at-args .set) (at-args .v) u
+    (omega arith) h
 
 pub above-spec : {M : Type 1} → statement M
 above-spec = tie.close (tie.spec returns shl-result rem-result returns-2)

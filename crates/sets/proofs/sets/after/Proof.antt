@@ -9,7 +9,9 @@ use Rattle.sets.proofs.sets.after.Statement.{statement}
 use Rattle.sets.proofs.sets.after.Tie as tie
 
 returns : tie.Need-returns
-returns c = (λ e u h. after-none (c .before .args .set) (c .before .args .v) u (c .if1 .taken) h, λ e h. absurd (omega arith))
+returns c =
+    let at-args = c .before .args in
+    (λ e u h. after-none (at-args .set) (at-args .v) u (c .if1 .taken) h, λ e h. absurd (omega arith))
 
 shl-result : tie.Need-shl-result
 shl-result c = search needs
@@ -18,7 +20,13 @@ rem-result : tie.Need-rem-result
 rem-result c = power-some (c .before .args .v)
 
 returns-2 : tie.Need-returns-2
-returns-2 c = (λ e u h. ap (λ (k : ℕ). isSet 64 (c .before .args .set % k) u) (power-fits (c .before .args .v)) ∙ after-set (c .before .args .set) (c .before .args .v) u e (omega arith) h, λ e h. subst (λ (k : ℕ). c .before .args .set % k < c .before .args .set) (sym (power-fits (c .before .args .v))) (after-less (c .before .args .set) (c .before .args .v) e h))
+returns-2 c =
+    let at-args = c .before .args in (
+      λ e u h. ap (λ (k : ℕ). isSet 64 (at-args .set % k) u) (power-fits (at-args .v)) ∙ after-set (at-args .set)
+          (at-args .v) u e (omega arith) h,
+      λ e h. subst (λ (k : ℕ). at-args .set % k < at-args .set)
+          (sym (power-fits (at-args .v))) (after-less (at-args .set) (at-args .v) e h),
+    )
 
 pub after-spec : {M : Type 1} → statement M
 after-spec = tie.close (tie.spec returns shl-result rem-result returns-2)

@@ -23,7 +23,12 @@ neutral-end-requires : tie.Need-neutral-end-requires Inv-loop μ-loop
 neutral-end-requires c κs = search needs
 
 returns : tie.Need-returns Inv-loop μ-loop
-returns c = first-found (c .before .before .before .before .before .before .before .before .args .n .rocks) (λ i. touchesAt (c .before .before .before .before .before .before .before .before .args .low .now) (c .before .before .before .before .before .before .before .before .args .high .now) i (c .before .before .before .before .before .before .before .before .args .v) && neutralRock (c .before .before .before .before .before .before .before .before .args .dir .now) i) (c .before .before .before .before .loop .r) (omega arith) (c .before .before .before .before .loop .inv .1) (c .before .neutral-end .ensures) (c .if2 .taken)
+returns c =
+    let at-loop = c .before .before .before .before .loop in
+    let at-args = c .before .before .before .before .before .before .before .before .args in
+    first-found (at-args .n .rocks) (λ i. touchesAt (at-args .low .now) (at-args .high .now) i (at-args .v) &&
+    neutralRock (at-args .dir .now) i) (at-loop .r) (omega arith) (at-loop .inv .1) (c .before .neutral-end .ensures)
+    (c .if2 .taken)
 
 add-r : tie.Need-add-r Inv-loop μ-loop
 add-r c = omega arith
@@ -32,10 +37,20 @@ loop-less : tie.Need-loop-less Inv-loop μ-loop
 loop-less c = omega arith
 
 loop-again : tie.Need-loop-again Inv-loop μ-loop
-loop-again c = (omega arith, first-more (λ i. touchesAt (c .before .before .before .before .before .before .before .before .args .low .now) (c .before .before .before .before .before .before .before .before .args .high .now) i (c .before .before .before .before .before .before .before .before .args .v) && neutralRock (c .before .before .before .before .before .before .before .before .args .dir .now) i) (c .before .before .before .before .loop .r) (c .before .before .before .before .loop .inv .1) (c .before .neutral-end .ensures) (c .if2 .left))
+loop-again c =
+    let at-loop = c .before .before .before .before .loop in
+    let at-args = c .before .before .before .before .before .before .before .before .args in (
+      omega arith,
+      first-more (λ i. touchesAt (at-args .low .now) (at-args .high .now) i (at-args .v) && neutralRock
+          (at-args .dir .now) i) (at-loop .r) (at-loop .inv .1) (c .before .neutral-end .ensures) (c .if2 .left),
+    )
 
 returns-2 : tie.Need-returns-2 Inv-loop μ-loop
-returns-2 c = first-none (c .before .before .before .before .before .before .args .n .rocks) (λ i. touchesAt (c .before .before .before .before .before .before .args .low .now) (c .before .before .before .before .before .before .args .high .now) i (c .before .before .before .before .before .before .args .v) && neutralRock (c .before .before .before .before .before .before .args .dir .now) i) (c .before .before .loop .r) (omega arith) (omega arith) (c .before .before .loop .inv .1)
+returns-2 c =
+    let at-loop = c .before .before .loop in
+    let at-args = c .before .before .before .before .before .before .args in
+    first-none (at-args .n .rocks) (λ i. touchesAt (at-args .low .now) (at-args .high .now) i (at-args .v) &&
+    neutralRock (at-args .dir .now) i) (at-loop .r) (omega arith) (omega arith) (at-loop .inv .1)
 
 pub neutral-rock-spec : {M : Type 1} → statement M
 neutral-rock-spec =

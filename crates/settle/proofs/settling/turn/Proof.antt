@@ -19,7 +19,14 @@ same-length : tie.Need-same-length
 same-length c = search needs
 
 returns : tie.Need-returns
-returns c = (c .before .before .before .before .before .other .ensures, c .before .before .put .ensures ∙ ap (λ (k : ℕ). set (c .before .before .before .before .before .before .before .before .before .args .dir .now) (c .before .before .before .before .before .before .before .before .before .args .r) k) (c .before .before .before .plus .ensures))
+returns c =
+    let at-plus = c .before .before .before .plus in
+    let at-other = c .before .before .before .before .before .other in
+    let at-args = c .before .before .before .before .before .before .before .before .before .args in (
+      at-other .ensures,
+      c .before .before .put .ensures ∙ ap (λ (k : ℕ). set (at-args .dir .now) (at-args .r) k)
+          (at-plus .ensures),
+    )
 
 pub turn-spec : {M : Type 1} → statement M
 turn-spec = tie.close (tie.spec other-requires plus-requires put-requires same-length returns)

@@ -32,10 +32,24 @@ loop-less : tie.Need-loop-less Inv-loop μ-loop
 loop-less c = omega arith
 
 loop-again : tie.Need-loop-again Inv-loop μ-loop
-loop-again c = (omega arith, ⊎-elim (λ x. count-yes (leftRock (c .before .before .before .before .before .before .before .before .before .args .job .now) (c .before .before .before .before .before .before .before .before .before .args .low .now) (c .before .before .before .before .before .before .before .before .before .args .high .now) (c .before .before .before .before .before .before .before .before .before .args .left .now) (c .before .before .before .before .before .before .before .before .before .args .v)) (c .before .before .before .before .loop .r) (omega arith) (c .before .before .before .before .loop .inv .1) (c .before .left-at .ensures) (x .0 .taken) (x .2 ∙ x .1 .ensures)) (λ x. count-no (leftRock (c .before .before .before .before .before .before .before .before .before .args .job .now) (c .before .before .before .before .before .before .before .before .before .args .low .now) (c .before .before .before .before .before .before .before .before .before .args .high .now) (c .before .before .before .before .before .before .before .before .before .args .left .now) (c .before .before .before .before .before .before .before .before .before .args .v)) (c .before .before .before .before .loop .r) (c .before .before .before .before .loop .inv .1) (c .before .left-at .ensures) (x .0 .left) (x .1)) (c .if2 .came))
+loop-again c =
+    let at-left-at = c .before .left-at in
+    let at-loop = c .before .before .before .before .loop in
+    let at-args = c .before .before .before .before .before .before .before .before .before .args in (
+      omega arith,
+      ⊎-elim (λ x. count-yes (leftRock (at-args .job .now) (at-args .low .now) (at-args .high .now)
+          (at-args .left .now) (at-args .v)) (at-loop .r) (omega arith) (at-loop .inv .1) (at-left-at .ensures)
+          (x .0 .taken) (x .2 ∙ x .1 .ensures)) (λ x. count-no (leftRock (at-args .job .now) (at-args .low .now)
+          (at-args .high .now) (at-args .left .now) (at-args .v)) (at-loop .r) (at-loop .inv .1) (at-left-at .ensures)
+          (x .0 .left) (x .1)) (c .if2 .came),
+    )
 
 returns : tie.Need-returns Inv-loop μ-loop
-returns c = c .before .before .loop .inv .1 ∙ ap (λ (i : ℕ). count i (leftRock (c .before .before .before .before .before .before .before .args .job .now) (c .before .before .before .before .before .before .before .args .low .now) (c .before .before .before .before .before .before .before .args .high .now) (c .before .before .before .before .before .before .before .args .left .now) (c .before .before .before .before .before .before .before .args .v))) (let e : c .before .before .loop .r ≡ c .before .before .before .before .before .before .before .args .n .rocks = omega arith in e)
+returns c =
+    let at-loop = c .before .before .loop in
+    let at-args = c .before .before .before .before .before .before .before .args in
+    at-loop .inv .1 ∙ ap (λ (i : ℕ). count i (leftRock (at-args .job .now) (at-args .low .now) (at-args .high .now)
+    (at-args .left .now) (at-args .v))) (let e : at-loop .r ≡ at-args .n .rocks = omega arith in e)
 
 pub count-left-spec : {M : Type 1} → statement M
 count-left-spec =

@@ -22,7 +22,12 @@ hanging-at-requires : tie.Need-hanging-at-requires Inv-loop μ-loop
 hanging-at-requires c κs = search needs
 
 returns : tie.Need-returns Inv-loop μ-loop
-returns c = first-found (c .before .before .before .before .before .before .before .before .before .before .args .n .benches) (hangingOf (c .before .before .before .before .before .before .before .before .before .before .args .n .rocks) (c .before .before .before .before .before .before .before .before .before .before .args .job .now) (c .before .before .before .before .before .before .before .before .before .before .args .low .now) (c .before .before .before .before .before .before .before .before .before .before .args .high .now) (c .before .before .before .before .before .before .before .before .before .before .args .balance .now) (c .before .before .before .before .before .before .before .before .before .before .args .left .now)) (c .before .before .before .before .loop .v) (omega arith) (c .before .before .before .before .loop .inv .1) (c .before .hanging-at .ensures) (c .if2 .taken)
+returns c =
+    let at-loop = c .before .before .before .before .loop in
+    let at-args = c .before .before .before .before .before .before .before .before .before .before .args in
+    first-found (at-args .n .benches) (hangingOf (at-args .n .rocks) (at-args .job .now) (at-args .low .now)
+    (at-args .high .now) (at-args .balance .now) (at-args .left .now)) (at-loop .v) (omega arith) (at-loop .inv .1)
+    (c .before .hanging-at .ensures) (c .if2 .taken)
 
 add-v : tie.Need-add-v Inv-loop μ-loop
 add-v c = omega arith
@@ -31,10 +36,22 @@ loop-less : tie.Need-loop-less Inv-loop μ-loop
 loop-less c = omega arith
 
 loop-again : tie.Need-loop-again Inv-loop μ-loop
-loop-again c = (omega arith, first-more (hangingOf (c .before .before .before .before .before .before .before .before .before .before .args .n .rocks) (c .before .before .before .before .before .before .before .before .before .before .args .job .now) (c .before .before .before .before .before .before .before .before .before .before .args .low .now) (c .before .before .before .before .before .before .before .before .before .before .args .high .now) (c .before .before .before .before .before .before .before .before .before .before .args .balance .now) (c .before .before .before .before .before .before .before .before .before .before .args .left .now)) (c .before .before .before .before .loop .v) (c .before .before .before .before .loop .inv .1) (c .before .hanging-at .ensures) (c .if2 .left))
+loop-again c =
+    let at-loop = c .before .before .before .before .loop in
+    let at-args = c .before .before .before .before .before .before .before .before .before .before .args in (
+      omega arith,
+      first-more (hangingOf (at-args .n .rocks) (at-args .job .now) (at-args .low .now)
+          (at-args .high .now) (at-args .balance .now) (at-args .left .now)) (at-loop .v) (at-loop .inv .1)
+          (c .before .hanging-at .ensures) (c .if2 .left),
+    )
 
 returns-2 : tie.Need-returns-2 Inv-loop μ-loop
-returns-2 c = first-none (c .before .before .before .before .before .before .before .before .args .n .benches) (hangingOf (c .before .before .before .before .before .before .before .before .args .n .rocks) (c .before .before .before .before .before .before .before .before .args .job .now) (c .before .before .before .before .before .before .before .before .args .low .now) (c .before .before .before .before .before .before .before .before .args .high .now) (c .before .before .before .before .before .before .before .before .args .balance .now) (c .before .before .before .before .before .before .before .before .args .left .now)) (c .before .before .loop .v) (omega arith) (omega arith) (c .before .before .loop .inv .1)
+returns-2 c =
+    let at-loop = c .before .before .loop in
+    let at-args = c .before .before .before .before .before .before .before .before .args in
+    first-none (at-args .n .benches) (hangingOf (at-args .n .rocks) (at-args .job .now) (at-args .low .now)
+    (at-args .high .now) (at-args .balance .now) (at-args .left .now)) (at-loop .v) (omega arith) (omega arith)
+    (at-loop .inv .1)
 
 pub first-hanging-spec : {M : Type 1} → statement M
 first-hanging-spec =

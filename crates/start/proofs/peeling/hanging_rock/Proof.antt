@@ -22,7 +22,12 @@ left-at-requires : tie.Need-left-at-requires Inv-loop μ-loop
 left-at-requires c κs = search needs
 
 returns : tie.Need-returns Inv-loop μ-loop
-returns c = first-found (c .before .before .before .before .before .before .before .before .before .args .n .rocks) (leftRock (c .before .before .before .before .before .before .before .before .before .args .job .now) (c .before .before .before .before .before .before .before .before .before .args .low .now) (c .before .before .before .before .before .before .before .before .before .args .high .now) (c .before .before .before .before .before .before .before .before .before .args .left .now) (c .before .before .before .before .before .before .before .before .before .args .v)) (c .before .before .before .before .loop .r) (omega arith) (c .before .before .before .before .loop .inv .1) (c .before .left-at .ensures) (c .if2 .taken)
+returns c =
+    let at-loop = c .before .before .before .before .loop in
+    let at-args = c .before .before .before .before .before .before .before .before .before .args in
+    first-found (at-args .n .rocks) (leftRock (at-args .job .now) (at-args .low .now) (at-args .high .now)
+    (at-args .left .now) (at-args .v)) (at-loop .r) (omega arith) (at-loop .inv .1) (c .before .left-at .ensures)
+    (c .if2 .taken)
 
 add-r : tie.Need-add-r Inv-loop μ-loop
 add-r c = omega arith
@@ -31,10 +36,20 @@ loop-less : tie.Need-loop-less Inv-loop μ-loop
 loop-less c = omega arith
 
 loop-again : tie.Need-loop-again Inv-loop μ-loop
-loop-again c = (omega arith, first-more (leftRock (c .before .before .before .before .before .before .before .before .before .args .job .now) (c .before .before .before .before .before .before .before .before .before .args .low .now) (c .before .before .before .before .before .before .before .before .before .args .high .now) (c .before .before .before .before .before .before .before .before .before .args .left .now) (c .before .before .before .before .before .before .before .before .before .args .v)) (c .before .before .before .before .loop .r) (c .before .before .before .before .loop .inv .1) (c .before .left-at .ensures) (c .if2 .left))
+loop-again c =
+    let at-loop = c .before .before .before .before .loop in
+    let at-args = c .before .before .before .before .before .before .before .before .before .args in (
+      omega arith,
+      first-more (leftRock (at-args .job .now) (at-args .low .now) (at-args .high .now)
+          (at-args .left .now) (at-args .v)) (at-loop .r) (at-loop .inv .1) (c .before .left-at .ensures) (c .if2 .left),
+    )
 
 returns-2 : tie.Need-returns-2 Inv-loop μ-loop
-returns-2 c = first-none (c .before .before .before .before .before .before .before .args .n .rocks) (leftRock (c .before .before .before .before .before .before .before .args .job .now) (c .before .before .before .before .before .before .before .args .low .now) (c .before .before .before .before .before .before .before .args .high .now) (c .before .before .before .before .before .before .before .args .left .now) (c .before .before .before .before .before .before .before .args .v)) (c .before .before .loop .r) (omega arith) (omega arith) (c .before .before .loop .inv .1)
+returns-2 c =
+    let at-loop = c .before .before .loop in
+    let at-args = c .before .before .before .before .before .before .before .args in
+    first-none (at-args .n .rocks) (leftRock (at-args .job .now) (at-args .low .now) (at-args .high .now)
+    (at-args .left .now) (at-args .v)) (at-loop .r) (omega arith) (omega arith) (at-loop .inv .1)
 
 pub hanging-rock-spec : {M : Type 1} → statement M
 hanging-rock-spec =

@@ -13,7 +13,11 @@ touches-requires : tie.Need-touches-requires
 touches-requires c κs = search needs
 
 returns : tie.Need-returns
-returns c = and-not (getD (c .before .before .before .before .before .before .args .left .now) (getD (c .before .before .before .before .before .before .args .job .now) (c .before .before .before .before .before .before .args .r) 0) false) (c .before .touches .ensures) (not-true (c .before .touches .result) (c .if1 .taken))
+returns c =
+    let at-touches = c .before .touches in
+    let at-args = c .before .before .before .before .before .before .args in
+    and-not (getD (at-args .left .now) (getD (at-args .job .now) (at-args .r) 0) false) (at-touches .ensures)
+    (not-true (at-touches .result) (c .if1 .taken))
 
 at-requires : tie.Need-at-requires
 at-requires c κs = search needs
@@ -22,7 +26,11 @@ holds-requires : tie.Need-holds-requires
 holds-requires c κs = search needs
 
 returns-2 : tie.Need-returns-2
-returns-2 c = and-rest (c .before .before .before .touches .ensures) (not-false (c .before .before .before .touches .result) (c .before .before .if1 .left)) (c .holds .ensures ∙ ap (λ (i : ℕ). getD (c .before .before .before .before .before .before .before .before .args .left .now) i false) (c .before .at .ensures))
+returns-2 c =
+    let at-touches = c .before .before .before .touches in
+    let at-args = c .before .before .before .before .before .before .before .before .args in
+    and-rest (at-touches .ensures) (not-false (at-touches .result) (c .before .before .if1 .left))
+    (c .holds .ensures ∙ ap (λ (i : ℕ). getD (at-args .left .now) i false) (c .before .at .ensures))
 
 pub left-at-spec : {M : Type 1} → statement M
 left-at-spec = tie.close (tie.spec touches-requires returns at-requires holds-requires returns-2)

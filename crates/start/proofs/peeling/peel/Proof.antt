@@ -18,7 +18,9 @@ abbrev μ-loop : tie.MeasureT-loop
 μ-loop n job low high balance left₀ place₀ turns₀ left place turns = turns
 
 loop-holds : tie.Need-loop-holds Inv-loop μ-loop
-loop-holds c = (refl, refl, λ d s R J C S. peeling-starts d s (c .before .before .before .before .before .before .args .n .jobs) S (R .jobs))
+loop-holds c =
+    let at-args = c .before .before .before .before .before .before .args in
+    (refl, refl, λ d s R J C S. peeling-starts d s (at-args .n .jobs) S (R .jobs))
 
 first-hanging-requires : tie.Need-first-hanging-requires Inv-loop μ-loop
 first-hanging-requires c κs = search needs
@@ -30,7 +32,15 @@ same-length-2 : tie.Need-same-length-2 Inv-loop μ-loop
 same-length-2 c = c .before .before .before .before .before .loop .inv .1
 
 returns : tie.Need-returns Inv-loop μ-loop
-returns c = λ d s R J C S. peeling-ends d (c .before .before .before .before .before .before .before .before .before .before .before .before .args .n) (c .before .before .before .before .before .before .before .before .before .before .before .before .args .low .now) (c .before .before .before .before .before .before .before .before .before .before .before .before .args .high .now) R (c .before .before .before .before .before .before .before .before .before .before .before .before .args .job .now) J (c .before .before .before .before .before .before .before .before .before .before .before .before .args .balance .now) C (c .before .before .before .before .before .loop .inv .2 d s R J C S) (c .before .before .first-hanging .result) (c .before .before .first-hanging .ensures) (c .if1 .taken)
+returns c =
+    let at-first-hanging = c .before .before .first-hanging in
+    let after-loop = c .before .before .before .before .before in
+    let at-loop = after-loop .loop in
+    let at-args = after-loop .before .before .before .before .before .before .before .args in
+    λ d s R J C S.
+    peeling-ends d (at-args .n) (at-args .low .now) (at-args .high .now) R (at-args .job .now) J
+    (at-args .balance .now) C (at-loop .inv .2 d s R J C S) (at-first-hanging .result) (at-first-hanging .ensures)
+    (c .if1 .taken)
 
 hanging-rock-requires : tie.Need-hanging-rock-requires Inv-loop μ-loop
 hanging-rock-requires c κs = search needs
@@ -51,7 +61,26 @@ loop-less : tie.Need-loop-less Inv-loop μ-loop
 loop-less c = omega arith
 
 loop-again : tie.Need-loop-again Inv-loop μ-loop
-loop-again c = (ap length (c .before .before .before .before .before .before .mark .ensures) ∙ simp length-set (c .before .before .before .before .before .before .before .before .before .before .before .before .before .before .before .before .loop .inv .0), ap length (c .before .before .put .ensures) ∙ simp length-set (c .before .before .before .before .before .before .before .before .before .before .before .before .before .before .before .before .loop .inv .1), λ d s R J C S. peeling-goes-on d (c .before .before .before .before .before .before .before .before .before .before .before .before .before .before .before .before .before .before .before .before .before .before .before .args .n) (c .before .before .before .before .before .before .before .before .before .before .before .before .before .before .before .before .before .before .before .before .before .before .before .args .low .now) (c .before .before .before .before .before .before .before .before .before .before .before .before .before .before .before .before .before .before .before .before .before .before .before .args .high .now) R (c .before .before .before .before .before .before .before .before .before .before .before .before .before .before .before .before .before .before .before .before .before .before .before .args .job .now) J (c .before .before .before .before .before .before .before .before .before .before .before .before .before .before .before .before .before .before .before .before .before .before .before .args .balance .now) C (c .before .before .before .before .before .before .before .before .before .before .before .before .before .before .before .before .loop .inv .2 d s R J C S) (c .before .before .before .before .before .before .before .before .before .before .before .before .before .first-hanging .result) (c .before .before .before .before .before .before .before .before .before .before .before .before .before .first-hanging .ensures) (c .before .before .before .before .before .before .before .before .before .hanging-rock .result) (c .before .before .before .before .before .before .before .before .at .result) (c .before .before .before .before .before .before .before .before .before .before .before .if1 .left) (omega arith) (c .before .before .before .before .before .before .before .before .before .hanging-rock .ensures) (c .before .before .before .before .before .before .before .before .at .ensures) (c .before .before .before .before .before .before .mark .ensures) (c .before .before .put .ensures))
+loop-again c =
+    let at-put = c .before .before .put in
+    let after-mark = c .before .before .before .before .before .before in
+    let at-mark = after-mark .mark in
+    let at-at = c .before .before .before .before .before .before .before .before .at in
+    let at-hanging-rock = c .before .before .before .before .before .before .before .before .before .hanging-rock in
+    let after-if1 = after-mark .before .before .before .before .before in
+    let at-if1 = after-if1 .if1 in
+    let at-first-hanging = after-if1 .before .before .first-hanging in
+    let after-loop = after-if1 .before .before .before .before .before in
+    let at-loop = after-loop .loop in
+    let at-args = after-loop .before .before .before .before .before .before .before .args in (
+      ap length (at-mark .ensures) ∙ simp length-set (at-loop .inv .0),
+      ap length (at-put .ensures) ∙ simp length-set
+          (at-loop .inv .1),
+      λ d s R J C S. peeling-goes-on d (at-args .n) (at-args .low .now) (at-args .high .now) R
+          (at-args .job .now) J (at-args .balance .now) C (at-loop .inv .2 d s R J C S) (at-first-hanging .result)
+          (at-first-hanging .ensures) (at-hanging-rock .result) (at-at .result) (at-if1 .left) (omega arith)
+          (at-hanging-rock .ensures) (at-at .ensures) (at-mark .ensures) (at-put .ensures),
+    )
 
 same-length-3 : tie.Need-same-length-3 Inv-loop μ-loop
 same-length-3 c = c .before .loop .inv .0

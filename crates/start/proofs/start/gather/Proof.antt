@@ -13,7 +13,12 @@ abbrev μ-loop : tie.MeasureT-loop
 μ-loop jobs marked allowed job₀ low₀ high₀ k₀ j₀ job low high k j = jobs - j
 
 loop-holds : tie.Need-loop-holds Inv-loop μ-loop
-loop-holds c = (omega arith, gathered-starts (c .before .before .before .before .before .args .jobs) (c .before .before .before .before .before .args .marked .now) (c .before .before .before .before .before .args .allowed .now) (c .before .before .before .before .before .args .job .now) (c .before .before .before .before .before .args .low .now) (c .before .before .before .before .before .args .high .now))
+loop-holds c =
+    let at-args = c .before .before .before .before .before .args in (
+      omega arith,
+      gathered-starts (at-args .jobs) (at-args .marked .now) (at-args .allowed .now) (at-args .job .now)
+          (at-args .low .now) (at-args .high .now),
+    )
 
 gather-job-requires : tie.Need-gather-job-requires Inv-loop μ-loop
 gather-job-requires c κs = search needs
@@ -25,19 +30,46 @@ loop-less : tie.Need-loop-less Inv-loop μ-loop
 loop-less c = omega arith
 
 loop-again : tie.Need-loop-again Inv-loop μ-loop
-loop-again c = (omega arith, gathered-more (c .before .before .before .before .before .before .before .before .before .before .before .before .before .before .before .before .before .args .jobs) (c .before .before .before .before .before .before .before .before .before .before .before .before .before .before .before .before .before .args .marked .now) (c .before .before .before .before .before .before .before .before .before .before .before .before .before .before .before .before .before .args .allowed .now) (c .before .before .before .before .before .before .before .before .before .before .before .before .before .before .before .before .before .args .job .now) (c .before .before .before .before .before .before .before .before .before .before .before .before .before .before .before .before .before .args .low .now) (c .before .before .before .before .before .before .before .before .before .before .before .before .before .before .before .before .before .args .high .now) (c .before .before .before .before .before .before .before .before .before .before .before .loop .inv .1) (omega arith) (omega arith) (c .before .before .before .before .before .before .gather-job .ensures .0) (c .before .before .before .before .before .before .gather-job .ensures .1) (c .before .before .before .before .before .before .gather-job .ensures .2) (c .before .before .before .before .before .before .gather-job .ensures .3))
+loop-again c =
+    let after-gather-job = c .before .before .before .before .before .before in
+    let at-gather-job = after-gather-job .gather-job in
+    let after-loop = after-gather-job .before .before .before .before .before in
+    let at-loop = after-loop .loop in
+    let at-args = after-loop .before .before .before .before .before .before .args in (
+      omega arith,
+      gathered-more (at-args .jobs) (at-args .marked .now) (at-args .allowed .now) (at-args .job .now)
+          (at-args .low .now) (at-args .high .now) (at-loop .inv .1) (omega arith) (omega arith) (at-gather-job .ensures .0)
+          (at-gather-job .ensures .1) (at-gather-job .ensures .2) (at-gather-job .ensures .3),
+    )
 
 same-length : tie.Need-same-length Inv-loop μ-loop
-same-length c = gathered-job (c .before .before .before .before .before .before .before .args .jobs) (c .before .before .before .before .before .before .before .args .marked .now) (c .before .before .before .before .before .before .before .args .allowed .now) (c .before .before .before .before .before .before .before .args .job .now) (c .before .before .before .before .before .before .before .args .low .now) (c .before .before .before .before .before .before .before .args .high .now) (c .before .loop .inv .1)
+same-length c =
+    let at-args = c .before .before .before .before .before .before .before .args in
+    gathered-job (at-args .jobs) (at-args .marked .now) (at-args .allowed .now) (at-args .job .now)
+    (at-args .low .now) (at-args .high .now) (c .before .loop .inv .1)
 
 same-length-2 : tie.Need-same-length-2 Inv-loop μ-loop
-same-length-2 c = gathered-low (c .before .before .before .before .before .before .before .args .jobs) (c .before .before .before .before .before .before .before .args .marked .now) (c .before .before .before .before .before .before .before .args .allowed .now) (c .before .before .before .before .before .before .before .args .job .now) (c .before .before .before .before .before .before .before .args .low .now) (c .before .before .before .before .before .before .before .args .high .now) (c .before .loop .inv .1)
+same-length-2 c =
+    let at-args = c .before .before .before .before .before .before .before .args in
+    gathered-low (at-args .jobs) (at-args .marked .now) (at-args .allowed .now) (at-args .job .now)
+    (at-args .low .now) (at-args .high .now) (c .before .loop .inv .1)
 
 same-length-3 : tie.Need-same-length-3 Inv-loop μ-loop
-same-length-3 c = gathered-high (c .before .before .before .before .before .before .before .args .jobs) (c .before .before .before .before .before .before .before .args .marked .now) (c .before .before .before .before .before .before .before .args .allowed .now) (c .before .before .before .before .before .before .before .args .job .now) (c .before .before .before .before .before .before .before .args .low .now) (c .before .before .before .before .before .before .before .args .high .now) (c .before .loop .inv .1)
+same-length-3 c =
+    let at-args = c .before .before .before .before .before .before .before .args in
+    gathered-high (at-args .jobs) (at-args .marked .now) (at-args .allowed .now) (at-args .job .now)
+    (at-args .low .now) (at-args .high .now) (c .before .loop .inv .1)
 
 returns : tie.Need-returns Inv-loop μ-loop
-returns c = (gathered-all (c .before .before .before .before .before .before .before .args .jobs) (c .before .before .before .before .before .before .before .args .marked .now) (c .before .before .before .before .before .before .before .args .allowed .now) (c .before .before .before .before .before .before .before .args .job .now) (c .before .before .before .before .before .before .before .args .low .now) (c .before .before .before .before .before .before .before .args .high .now) (c .before .loop .inv .1) (c .before .loop .inv .0) (omega arith), c .before .loop .inv .1 .jobs-in, c .before .loop .inv .1 .lows-in, c .before .loop .inv .1 .highs-in)
+returns c =
+    let at-loop = c .before .loop in
+    let at-args = c .before .before .before .before .before .before .before .args in (
+      gathered-all (at-args .jobs) (at-args .marked .now) (at-args .allowed .now) (at-args .job .now)
+          (at-args .low .now) (at-args .high .now) (at-loop .inv .1) (at-loop .inv .0) (omega arith),
+      at-loop .inv .1 .jobs-in,
+      at-loop .inv .1 .lows-in,
+      at-loop .inv .1 .highs-in,
+    )
 
 pub gather-spec : {M : Type 1} → statement M
 gather-spec =

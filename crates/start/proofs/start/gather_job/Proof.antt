@@ -13,7 +13,16 @@ holds-requires : tie.Need-holds-requires
 holds-requires c κs = search needs
 
 returns : tie.Need-returns
-returns c = (cond-no _ _ (sym (c .before .holds .ensures) ∙ not-true (c .before .holds .result) (c .if1 .taken)), cond-no _ _ (sym (c .before .holds .ensures) ∙ not-true (c .before .holds .result) (c .if1 .taken)), cond-no _ _ (sym (c .before .holds .ensures) ∙ not-true (c .before .holds .result) (c .if1 .taken)), cond-no _ _ (sym (c .before .holds .ensures) ∙ not-true (c .before .holds .result) (c .if1 .taken)))
+returns c =
+    let at-holds = c .before .holds in (
+      cond-no _ _ (sym (at-holds .ensures) ∙ not-true (at-holds .result) (c .if1 .taken)),
+      cond-no _ _
+          (sym (at-holds .ensures) ∙ not-true (at-holds .result) (c .if1 .taken)),
+      cond-no _ _
+          (sym (at-holds .ensures) ∙ not-true (at-holds .result) (c .if1 .taken)),
+      cond-no _ _
+          (sym (at-holds .ensures) ∙ not-true (at-holds .result) (c .if1 .taken)),
+    )
 
 at-requires : tie.Need-at-requires
 at-requires c κs = search needs
@@ -46,7 +55,32 @@ same-length-3 : tie.Need-same-length-3
 same-length-3 c = search needs
 
 returns-2 : tie.Need-returns-2
-returns-2 c = (cond-yes _ _ (sym (c .before .before .before .before .before .before .before .before .before .before .before .before .before .before .before .before .before .holds .ensures) ∙ not-false (c .before .before .before .before .before .before .before .before .before .before .before .before .before .before .before .before .before .holds .result) (c .before .before .before .before .before .before .before .before .before .before .before .before .before .before .before .before .if1 .left)) (c .plus .ensures), cond-yes _ _ (sym (c .before .before .before .before .before .before .before .before .before .before .before .before .before .before .before .before .before .holds .ensures) ∙ not-false (c .before .before .before .before .before .before .before .before .before .before .before .before .before .before .before .before .before .holds .result) (c .before .before .before .before .before .before .before .before .before .before .before .before .before .before .before .before .if1 .left)) (c .before .before .before .before .before .before .before .before .before .before .before .before .before .put .ensures), cond-yes _ _ (sym (c .before .before .before .before .before .before .before .before .before .before .before .before .before .before .before .before .before .holds .ensures) ∙ not-false (c .before .before .before .before .before .before .before .before .before .before .before .before .before .before .before .before .before .holds .result) (c .before .before .before .before .before .before .before .before .before .before .before .before .before .before .before .before .if1 .left)) (c .before .before .before .before .before .before .before .before .put2 .ensures ∙ ap (λ (k : ℕ). set (c .before .before .before .before .before .before .before .before .before .before .before .before .before .before .before .before .before .before .before .before .before .before .before .args .low .now) (c .before .before .before .before .before .before .before .before .before .before .before .before .before .before .before .before .before .before .before .before .before .before .before .args .k) k) (c .before .before .before .before .before .before .before .before .before .lowest .ensures ∙ ap lowestOf (c .before .before .before .before .before .before .before .before .before .before .before .before .before .before .before .at .ensures))), cond-yes _ _ (sym (c .before .before .before .before .before .before .before .before .before .before .before .before .before .before .before .before .before .holds .ensures) ∙ not-false (c .before .before .before .before .before .before .before .before .before .before .before .before .before .before .before .before .before .holds .result) (c .before .before .before .before .before .before .before .before .before .before .before .before .before .before .before .before .if1 .left)) (c .before .before .before .put3 .ensures ∙ ap (λ (k : ℕ). set (c .before .before .before .before .before .before .before .before .before .before .before .before .before .before .before .before .before .before .before .before .before .before .before .args .high .now) (c .before .before .before .before .before .before .before .before .before .before .before .before .before .before .before .before .before .before .before .before .before .before .before .args .k) k) (c .before .before .before .before .highest .ensures ∙ ap highestOf (c .before .before .before .before .before .before .before .before .before .before .before .before .before .before .before .at .ensures))))
+returns-2 c =
+    let at-put3 = c .before .before .before .put3 in
+    let after-highest = c .before .before .before .before in
+    let at-highest = after-highest .highest in
+    let after-put2 = after-highest .before .before .before .before in
+    let at-put2 = after-put2 .put2 in
+    let at-lowest = c .before .before .before .before .before .before .before .before .before .lowest in
+    let after-put = after-put2 .before .before .before .before .before in
+    let at-put = after-put .put in
+    let at-at = after-put .before .before .at in
+    let at-if1 = after-put .before .before .before .if1 in
+    let after-holds = after-put .before .before .before .before in
+    let at-holds = after-holds .holds in
+    let at-args = after-holds .before .before .before .before .before .before .args in (
+      cond-yes _ _ (sym (at-holds .ensures) ∙ not-false (at-holds .result) (at-if1 .left)) (c .plus .ensures),
+      cond-yes
+          _ _ (sym (at-holds .ensures) ∙ not-false (at-holds .result) (at-if1 .left)) (at-put .ensures),
+      cond-yes _ _
+          (sym (at-holds .ensures) ∙ not-false (at-holds .result) (at-if1 .left))
+          (at-put2 .ensures ∙ ap (λ (k : ℕ). set (at-args .low .now) (at-args .k) k)
+          (at-lowest .ensures ∙ ap lowestOf (at-at .ensures))),
+      cond-yes _ _
+          (sym (at-holds .ensures) ∙ not-false (at-holds .result) (at-if1 .left))
+          (at-put3 .ensures ∙ ap (λ (k : ℕ). set (at-args .high .now) (at-args .k) k)
+          (at-highest .ensures ∙ ap highestOf (at-at .ensures))),
+    )
 
 pub gather-job-spec : {M : Type 1} → statement M
 gather-job-spec =

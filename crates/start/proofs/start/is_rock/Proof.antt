@@ -13,13 +13,19 @@ heavy-requires : tie.Need-heavy-requires
 heavy-requires c κs = search needs
 
 returns : tie.Need-returns
-returns c = and-not (eqb (choicesOf (c .before .before .args .allowed)) 2) (c .before .heavy .ensures) (not-true (c .before .heavy .result) (c .if1 .taken))
+returns c =
+    let at-heavy = c .before .heavy in
+    and-not (eqb (choicesOf (c .before .before .args .allowed)) 2) (at-heavy .ensures)
+    (not-true (at-heavy .result) (c .if1 .taken))
 
 choices-requires : tie.Need-choices-requires
 choices-requires c κs = search needs
 
 returns-2 : tie.Need-returns-2
-returns-2 c = and-rest (c .before .before .heavy .ensures) (not-false (c .before .before .heavy .result) (c .before .if1 .left)) (ap (λ (k : ℕ). eqb k 2) (c .choices .ensures))
+returns-2 c =
+    let at-heavy = c .before .before .heavy in
+    and-rest (at-heavy .ensures) (not-false (at-heavy .result) (c .before .if1 .left))
+    (ap (λ (k : ℕ). eqb k 2) (c .choices .ensures))
 
 pub is-rock-spec : {M : Type 1} → statement M
 is-rock-spec = tie.close (tie.spec heavy-requires returns choices-requires returns-2)

@@ -32,7 +32,17 @@ times-requires-6 : tie.Need-times-requires-6
 times-requires-6 c κs = search needs
 
 returns : tie.Need-returns
-returns c = limits-are (c .before .before .before .before .before .before .before .before .before .args .benches) (c .before .before .before .before .before .before .before .before .before .args .jobs) (c .before .before .before .before .before .before .before .before .before .args .p) (c .before .before .before .before .before .before .before .before .before .args .q) (c .before .before .before .before .before .before .before .before .before .args .target) (c .before .before .before .before .before .before .before .before .times .ensures) (c .before .before .before .before .before .before .before .plus .ensures) (c .before .before .before .before .before .before .times2 .ensures) (c .before .before .before .before .before .times3 .ensures) (c .before .before .before .before .plus2 .ensures) (c .before .before .before .times4 .ensures) (c .before .before .times5 .ensures) (c .before .minus .ensures) (c .times6 .ensures)
+returns c =
+    let at-times4 = c .before .before .before .times4 in
+    let at-plus2 = c .before .before .before .before .plus2 in
+    let at-times3 = c .before .before .before .before .before .times3 in
+    let at-times2 = c .before .before .before .before .before .before .times2 in
+    let at-plus = c .before .before .before .before .before .before .before .plus in
+    let at-times = c .before .before .before .before .before .before .before .before .times in
+    let at-args = c .before .before .before .before .before .before .before .before .before .args in
+    limits-are (at-args .benches) (at-args .jobs) (at-args .p) (at-args .q) (at-args .target) (at-times .ensures)
+    (at-plus .ensures) (at-times2 .ensures) (at-times3 .ensures) (at-plus2 .ensures) (at-times4 .ensures)
+    (c .before .before .times5 .ensures) (c .before .minus .ensures) (c .times6 .ensures)
 
 pub limits-spec : {M : Type 1} → statement M
 limits-spec =

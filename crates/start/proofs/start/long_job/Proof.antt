@@ -24,7 +24,13 @@ at-requires : tie.Need-at-requires Inv-loop μ-loop
 at-requires c κs = search needs
 
 returns : tie.Need-returns Inv-loop μ-loop
-returns c = first-found (c .before .before .before .before .before .args .jobs) (λ i. ltb (c .before .before .before .before .before .args .target) (getD (c .before .before .before .before .before .args .minutes .now) i 0)) (c .before .before .before .loop .j) (omega arith) (c .before .before .before .loop .inv .1) (sym (ap (ltb (c .before .before .before .before .before .args .target)) (sym (c .before .at .ensures)) ∙ lt-ltb (c .before .before .before .before .before .args .target) (c .before .at .result) (c .if1 .taken))) refl
+returns c =
+    let at-at = c .before .at in
+    let at-loop = c .before .before .before .loop in
+    let at-args = c .before .before .before .before .before .args in
+    first-found (at-args .jobs) (λ i. ltb (at-args .target) (getD (at-args .minutes .now) i 0)) (at-loop .j)
+    (omega arith) (at-loop .inv .1) (sym (ap (ltb (at-args .target)) (sym (at-at .ensures)) ∙ lt-ltb (at-args .target)
+    (at-at .result) (c .if1 .taken))) refl
 
 add-j : tie.Need-add-j Inv-loop μ-loop
 add-j c = omega arith
@@ -33,10 +39,22 @@ loop-less : tie.Need-loop-less Inv-loop μ-loop
 loop-less c = omega arith
 
 loop-again : tie.Need-loop-again Inv-loop μ-loop
-loop-again c = (omega arith, first-more (λ i. ltb (c .before .before .before .before .before .args .target) (getD (c .before .before .before .before .before .args .minutes .now) i 0)) (c .before .before .before .loop .j) (c .before .before .before .loop .inv .1) (sym (ap (ltb (c .before .before .before .before .before .args .target)) (sym (c .before .at .ensures)) ∙ le-ltb (c .before .before .before .before .before .args .target) (c .before .at .result) (c .if1 .left))) refl)
+loop-again c =
+    let at-at = c .before .at in
+    let at-loop = c .before .before .before .loop in
+    let at-args = c .before .before .before .before .before .args in (
+      omega arith,
+      first-more (λ i. ltb (at-args .target) (getD (at-args .minutes .now) i 0)) (at-loop .j)
+          (at-loop .inv .1) (sym (ap (ltb (at-args .target)) (sym (at-at .ensures)) ∙ le-ltb (at-args .target)
+          (at-at .result) (c .if1 .left))) refl,
+    )
 
 returns-2 : tie.Need-returns-2 Inv-loop μ-loop
-returns-2 c = first-none (c .before .before .before .args .jobs) (λ i. ltb (c .before .before .before .args .target) (getD (c .before .before .before .args .minutes .now) i 0)) (c .before .loop .j) (omega arith) (omega arith) (c .before .loop .inv .1)
+returns-2 c =
+    let at-loop = c .before .loop in
+    let at-args = c .before .before .before .args in
+    first-none (at-args .jobs) (λ i. ltb (at-args .target) (getD (at-args .minutes .now) i 0)) (at-loop .j)
+    (omega arith) (omega arith) (at-loop .inv .1)
 
 pub long-job-spec : {M : Type 1} → statement M
 long-job-spec =

@@ -110,8 +110,9 @@ returns-2 c =
     let c5 = c4 .before .before in
     let c6 = c5 .before .before in
     let c7 = c6 .before .before in
-    little8-sum (now (c7 .before .before .before .before .args .s)) (c7 .wide .ensures .0) (c6 .wide2 .ensures .0) (c5 .wide3 .ensures .0) (c4 .wide4 .ensures .0)
-    (c3 .wide5 .ensures .0) (c2 .wide6 .ensures .0) (c1 .wide7 .ensures .0) (c .wide8 .ensures .0)
+    little8-sum (now (c7 .before .before .before .before .args .s)) (c7 .wide .ensures .0) (c6 .wide2 .ensures .0)
+    (c5 .wide3 .ensures .0) (c4 .wide4 .ensures .0) (c3 .wide5 .ensures .0) (c2 .wide6 .ensures .0)
+    (c1 .wide7 .ensures .0) (c .wide8 .ensures .0)
 
 pub little8-spec : {M : Type 1} → statement M
 little8-spec =

@@ -80,8 +80,9 @@ returns c =
     let c5 = c4 .before in
     let c6 = c5 .before in
     let c7 = c6 .before in
-    little8-sum (now (c7 .before .before .args .s)) (c7 .byte .ensures .0) (c6 .byte2 .ensures .0) (c5 .byte3 .ensures .0) (c4 .byte4 .ensures .0)
-    (c3 .byte5 .ensures .0) (c2 .byte6 .ensures .0) (c1 .byte7 .ensures .0) (c .byte8 .ensures .0)
+    little8-sum (now (c7 .before .before .args .s)) (c7 .byte .ensures .0) (c6 .byte2 .ensures .0)
+    (c5 .byte3 .ensures .0) (c4 .byte4 .ensures .0) (c3 .byte5 .ensures .0) (c2 .byte6 .ensures .0)
+    (c1 .byte7 .ensures .0) (c .byte8 .ensures .0)
 
 pub part8-spec : {M : Type 1} → statement M
 part8-spec =

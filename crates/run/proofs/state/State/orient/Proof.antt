@@ -30,16 +30,15 @@ explore-requires c κs = search needs
 
 returns : tie.Need-returns
 returns c =
-    let n = c .before .before .before .before .before .before .before .before .before .before .before .before .before .before .before .before .before .before .before .before .args .n in
-    let low = c .before .before .before .before .before .before .before .before .before .before .before .before .before .before .before .before .before .before .before .before .args .low .now in
-    let high = c .before .before .before .before .before .before .before .before .before .before .before .before .before .before .before .before .before .before .before .before .args .high .now in
-    let weight = c .before .before .before .before .before .before .before .before .before .before .before .before .before .before .before .before .before .before .before .before .args .weight .now in
+    let at-args = c .before .before .before .before .before .before .before .before .before .before .before .before .before .before .before .before .args in
+    let at-explore = c .before .before .before .before .explore in
     let never = ap (replicate 64) (c .before .before .before .before .before .before .before .before .before .before .before .before .before .plus .ensures) in
-    let sized : length (c .before .before .before .before .before .before .before .before .before .before .before .before .before .before .before .before .before .before .before .before .args .t1 .own) ≡ 64 = search needs in
+    let sized : length (at-args .t1 .own) ≡ 64 = search needs in
     λ d m s amount pebble allowed R M H.
-    orients d n low high weight amount pebble allowed R m s _ _ H refl refl refl refl refl
-    (λ rocks owned reaches few. c .before .before .before .before .explore .ensures (boardOf d s) rocks M owned reaches few
-    (record { own-room = sized; undirected = refl; unloaded = refl; never-joined = never; never-active = never })) (c .before .before .before .before .explore .ok)
+    orients d (at-args .n) (at-args .graph .now) amount pebble allowed R M m s _ _ H refl refl refl refl refl
+    (λ G owned reaches. at-explore .ensures (boardOf d s) G owned reaches
+    (record { own-room = sized; undirected = refl; unloaded = refl; never-joined = never; never-active = never }))
+    (at-explore .ok)
 
 pub orient-spec : {M : Type 1} → statement M
 orient-spec =

@@ -2,25 +2,17 @@
 use mathlib.Core.Path.{refl}
 use native.Mathlib.Omega.{arith}
 use Rattle.algorithm.specs.Run.{boardOf, explored}
+use Rattle.rock_graph.specs.Graph.{lows, highs, weights}
 use Rattle.run.proofs.StateRun.{push-found-at, push-moves, push-stays}
 use borrow.Author.Needs.{needs}
 use Rattle.run.proofs.state.State.push.Statement.{statement}
 use Rattle.run.proofs.state.State.push.Tie as tie
 
-slice-aggregate-mark-levels : tie.Need-slice-aggregate-mark-levels
-slice-aggregate-mark-levels c = search needs
+slice-aggregate-fill-receivers : tie.Need-slice-aggregate-fill-receivers
+slice-aggregate-fill-receivers c = search needs
 
-mark-levels-requires : tie.Need-mark-levels-requires
-mark-levels-requires c κs = search needs
-
-slice-aggregate-fill-goals : tie.Need-slice-aggregate-fill-goals
-slice-aggregate-fill-goals c = search needs
-
-slice-aggregate-fill-goals-2 : tie.Need-slice-aggregate-fill-goals-2
-slice-aggregate-fill-goals-2 c = search needs
-
-fill-goals-requires : tie.Need-fill-goals-requires
-fill-goals-requires c κs = search needs
+fill-receivers-requires : tie.Need-fill-receivers-requires
+fill-receivers-requires c κs = search needs
 
 slice-aggregate-first-push : tie.Need-slice-aggregate-first-push
 slice-aggregate-first-push c = search needs
@@ -45,44 +37,49 @@ plus-requires c κs = search needs
 
 returns : tie.Need-returns
 returns c =
-    let n = c .before .before .before .before .before .before .before .before .before .before .before .before .before .before .before .before .before .before .before .before .before .before .before .before .before .before .before .before .before .before .before .before .before .before .before .before .before .before .before .before .before .before .before .before .before .before .before .args .n in
-    let low = c .before .before .before .before .before .before .before .before .before .before .before .before .before .before .before .before .before .before .before .before .before .before .before .before .before .before .before .before .before .before .before .before .before .before .before .before .before .before .before .before .before .before .before .before .before .before .before .args .low .now in
-    let high = c .before .before .before .before .before .before .before .before .before .before .before .before .before .before .before .before .before .before .before .before .before .before .before .before .before .before .before .before .before .before .before .before .before .before .before .before .before .before .before .before .before .before .before .before .before .before .before .args .high .now in
-    let weight = c .before .before .before .before .before .before .before .before .before .before .before .before .before .before .before .before .before .before .before .before .before .before .before .before .before .before .before .before .before .before .before .before .before .before .before .before .before .before .before .before .before .before .before .before .before .before .before .args .weight .now in
-    let amount = c .before .before .before .before .before .before .before .before .before .before .before .before .before .before .before .before .before .before .before .before .before .before .before .before .before .before .before .before .before .before .before .before .before .before .before .before .before .before .before .before .before .before .before .before .before .before .before .args .amount .now in
-    let choice = c .before .before .before .before .before .before .before .before .before .before .before .before .before .before .before .before .before .before .before .before .before .before .before .before .before .before .before .before .before .before .before .before .before .before .before .before .before .before .before .before .before .before .before .before .before .before .before .args .choice .now in
-    λ d m s pebble allowed R C H X.
-    let found = push-found-at d n low high weight amount pebble allowed R m s _ H X choice C _ _ (c .before .before .before .before .before .before .before .before .before .before .before .before .before .before .before .before .before .before .before .before .before .before .before .before .before .before .before .before .before .mark-levels .ensures (boardOf d s) (explored d s))
-    (c .before .before .before .before .before .before .before .before .before .before .before .before .before .before .before .before .before .before .before .before .before .before .fill-goals .ensures (boardOf d s) (explored d s)) (c .before .before .before .before .before .before .before .before .before .before .before .before .before .before .before .before .first-push .ensures (boardOf d s) (explored d s)) in
-    push-moves d n low high weight amount pebble allowed R choice C m s _ _ H (c .before .before .before .shifted .ensures .0) (c .before .before .before .shifted .ensures .1) _ _ (found .0) (found .1)
-    (c .before .before .before .before .before .before .before .before .before .before .before .before .before .before .if1 .taken) refl refl (c .plus .ensures) (c .before .before .before .before .before .before .before .before .before .byte .ensures) (c .before .before .before .shifted .ensures .2) (c .before .before .before .shifted .ensures .3)
+    let at-args = c .before .before .before .before .before .before .before .before .before .before .before .before .before .before .before .before .before .before .before .before .before .before .before .before .before .before .before .before .before .before .before .before .before .before .before .before .before .before .before .before .args in
+    let at-receivers = c .before .before .before .before .before .before .before .before .before .before .before .before .before .before .before .before .before .before .before .before .before .before .before .before .fill-receivers in
+    let at-push = c .before .before .before .before .before .before .before .before .before .before .before .before .before .before .before .before .first-push in
+    let n = at-args .n in
+    let graph = at-args .graph .now in
+    let amount = at-args .amount .now in
+    let choice = at-args .choice .now in
+    let at-shifted = c .before .before .before .shifted in
+    let at-byte = c .before .before .before .before .before .before .before .before .before .byte in
+    let at-if = c .before .before .before .before .before .before .before .before .before .before .before .before .before .before .if1 in
+    λ d m s pebble allowed R M C H X.
+    let found = push-found-at d n graph amount pebble allowed R M m s _ H X choice C _ (at-receivers .ensures (boardOf d s) (explored d s))
+    (at-push .ensures (boardOf d s) (explored d s)) in
+    push-moves d n (lows graph) (highs graph) (weights graph) amount pebble allowed R choice C m s _ _ H (at-shifted .ensures .0)
+    (at-shifted .ensures .1) _ _ (found .0) (found .1) (at-if .taken) refl refl (c .plus .ensures) (at-byte .ensures)
+    (at-shifted .ensures .2) (at-shifted .ensures .3)
     (record { same-dir = refl; same-load = refl; same-joined = refl; same-level = refl; same-active = refl })
 
 returns-2 : tie.Need-returns-2
-returns-2 c = λ d m s pebble allowed R C H X. absurd (omega (arith, R .few-jobs, R .jobs))
+returns-2 c = λ d m s pebble allowed R M C H X. absurd (omega (arith, R .few-jobs, R .jobs))
 
 returns-3 : tie.Need-returns-3
 returns-3 c =
-    let n = c .before .before .before .before .before .before .before .before .before .before .before .before .before .before .before .before .before .before .before .before .before .before .before .before .before .before .before .before .before .before .before .before .before .args .n in
-    let low = c .before .before .before .before .before .before .before .before .before .before .before .before .before .before .before .before .before .before .before .before .before .before .before .before .before .before .before .before .before .before .before .before .before .args .low .now in
-    let high = c .before .before .before .before .before .before .before .before .before .before .before .before .before .before .before .before .before .before .before .before .before .before .before .before .before .before .before .before .before .before .before .before .before .args .high .now in
-    let weight = c .before .before .before .before .before .before .before .before .before .before .before .before .before .before .before .before .before .before .before .before .before .before .before .before .before .before .before .before .before .before .before .before .before .args .weight .now in
-    let amount = c .before .before .before .before .before .before .before .before .before .before .before .before .before .before .before .before .before .before .before .before .before .before .before .before .before .before .before .before .before .before .before .before .before .args .amount .now in
-    let choice = c .before .before .before .before .before .before .before .before .before .before .before .before .before .before .before .before .before .before .before .before .before .before .before .before .before .before .before .before .before .before .before .before .before .args .choice .now in
-    λ d m s pebble allowed R C H X.
-    let found = push-found-at d n low high weight amount pebble allowed R m s _ H X choice C _ _ (c .before .before .before .before .before .before .before .before .before .before .before .before .before .before .before .mark-levels .ensures (boardOf d s) (explored d s))
-    (c .before .before .before .before .before .before .before .before .fill-goals .ensures (boardOf d s) (explored d s)) (c .before .before .first-push .ensures (boardOf d s) (explored d s)) in
-    push-stays d n low high weight amount pebble allowed R m s _ _ _ (found .0) (c .if1 .left) refl
+    let at-push = c .before .before .first-push in
+    let after-receivers = c .before .before .before .before .before .before .before .before .before .before in
+    let at-receivers = after-receivers .fill-receivers in
+    let at-args = after-receivers .before .before .before .before .before .before .before .before .before .before .before .before .before .before .before .before .args in
+    let n = at-args .n in
+    let graph = at-args .graph .now in
+    let amount = at-args .amount .now in
+    let choice = at-args .choice .now in
+    λ d m s pebble allowed R M C H X.
+    let found = push-found-at d n graph amount pebble allowed R M m s _ H X choice C _
+    (at-receivers .ensures (boardOf d s) (explored d s)) (at-push .ensures (boardOf d s) (explored d s)) in
+    push-stays d n (lows graph) (highs graph) (weights graph) amount pebble allowed R m s _ _ _ (found .0)
+    (c .if1 .left) refl
 
 pub push-spec : {M : Type 1} → statement M
 push-spec =
     tie.close
     (tie.spec
-    slice-aggregate-mark-levels
-    mark-levels-requires
-    slice-aggregate-fill-goals
-    slice-aggregate-fill-goals-2
-    fill-goals-requires
+    slice-aggregate-fill-receivers
+    fill-receivers-requires
     slice-aggregate-first-push
     first-push-requires
     byte-requires

@@ -75,10 +75,10 @@ returns c =
       },
       λ d minutes B.
           let F = B .fields in
-          let sound = B .day-rocks .sound in
+          let sound = B .sparse-day .day-rocks .sound in
           let few = F .bounded .few-jobs in
           let P = start-placed d (n .jobs) minutes allowed (replicate 512 0) (c .before .before .before .before .before .before .before .before .before .before .before .before .before .before .before .before .before .before .before .before .before .before .before .before .before .before .before .before .before .args .rock) F sound (omega (arith, sized, few)) (omega (arith, room, few))
-          (B .rocky) (c .before .before .before .before .before .before .before .before .before .before .before .before .before .before .before .before .before .before .before .before .place-lowest .ensures) (λ s Q. c .before .before .before .before .before .before .before .before .before .before .before .before .before .before .before .before .peel .ensures d s (B .day-rocks) (B .rock-jobs) (B .cycles) Q) in
+          (B .sparse-day .rocky) (c .before .before .before .before .before .before .before .before .before .before .before .before .before .before .before .before .before .before .before .before .place-lowest .ensures) (λ s Q. c .before .before .before .before .before .before .before .before .before .before .before .before .before .before .before .before .peel .ensures d s (B .sparse-day .day-rocks) (B .sparse-day .rock-jobs) (B .sparse-day .cycles) Q) in
           let bytes = c .before .before .to-bytes .ensures (omega (arith, P .place-room, F .jobs-are)) (omega (arith, room, F .jobs-are, few))
           (λ i h. omega (arith, P .places i (omega (arith, F .jobs-are)), start-below d sound i (omega (arith, F .jobs-are)), F .bounded .few-benches)) in
           let shown = placed-copied (n .jobs) _ (replicate 512 0) (omega (arith, room, F .jobs-are, few)) bytes d _ _ (F .jobs-are) P in (

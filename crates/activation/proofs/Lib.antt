@@ -1,0 +1,4 @@
+pub mod WaitLaws
+pub mod RockSearch
+pub mod ActivateRun
+pub mod ActiveSets

@@ -1,0 +1,3 @@
+pub mod ConflictRun
+pub mod ConflictSets
+pub mod ConflictLoops

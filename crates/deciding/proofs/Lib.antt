@@ -1,0 +1,2 @@
+pub mod FinishRun
+pub mod DayRun

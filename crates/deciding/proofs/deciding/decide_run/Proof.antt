@@ -1,0 +1,128 @@
+-- The start, the rocks that are left, the turns, and the decision at the last state (FinishRun).
+use Prim.Native.Nat.{ℕ, _≤_}
+use mathlib.Core.Path.{_∙_}
+use native.Mathlib.Omega.{arith}
+use lib.ListN.{length, replicate, length-replicate}
+use Rattle.rocks.specs.declared.rocks.Limits.{Limits}
+use Rattle.deciding.proofs.DayRun.{budget-is}
+use Rattle.deciding.proofs.FinishRun.{ready}
+use borrow.Author.Needs.{needs}
+use Rattle.deciding.proofs.deciding.decide_run.Statement.{statement}
+use Rattle.deciding.proofs.deciding.decide_run.Tie as tie
+
+start-requires : tie.Need-start-requires
+start-requires c κs = search needs
+
+slice-aggregate-gather : tie.Need-slice-aggregate-gather
+slice-aggregate-gather c = search needs
+
+slice-aggregate-gather-2 : tie.Need-slice-aggregate-gather-2
+slice-aggregate-gather-2 c = search needs
+
+slice-aggregate-gather-3 : tie.Need-slice-aggregate-gather-3
+slice-aggregate-gather-3 c = search needs
+
+gather-requires : tie.Need-gather-requires
+gather-requires c κs = search needs
+
+slice-aggregate-pick : tie.Need-slice-aggregate-pick
+slice-aggregate-pick c = search needs
+
+slice-aggregate-pick-2 : tie.Need-slice-aggregate-pick-2
+slice-aggregate-pick-2 c = search needs
+
+pick-requires : tie.Need-pick-requires
+pick-requires c κs = search needs
+
+count-requires : tie.Need-count-requires
+count-requires c κs = search needs
+
+times-requires : tie.Need-times-requires
+times-requires c κs = search needs
+
+slice-aggregate-turns : tie.Need-slice-aggregate-turns
+slice-aggregate-turns c = search needs
+
+slice-aggregate-turns-2 : tie.Need-slice-aggregate-turns-2
+slice-aggregate-turns-2 c = search needs
+
+slice-aggregate-turns-3 : tie.Need-slice-aggregate-turns-3
+slice-aggregate-turns-3 c = search needs
+
+turns-requires : tie.Need-turns-requires
+turns-requires c κs = search needs
+
+slice-aggregate-finish : tie.Need-slice-aggregate-finish
+slice-aggregate-finish c = search needs
+
+slice-aggregate-finish-2 : tie.Need-slice-aggregate-finish-2
+slice-aggregate-finish-2 c = search needs
+
+slice-aggregate-finish-3 : tie.Need-slice-aggregate-finish-3
+slice-aggregate-finish-3 c = search needs
+
+finish-requires : tie.Need-finish-requires
+finish-requires c κs = search needs
+
+returns : tie.Need-returns
+returns c =
+    let after-turns = c .before .before .before .before in
+    let after-times = after-turns .before .before .before .before in
+    let after-count = after-times .before in
+    let after-pick = after-count .before .before in
+    let after-gather = after-pick .before .before .before .before .before .before in
+    let after-start = after-gather .before .before .before .before .before .before .before in
+    let at-args = after-start .before .before .before .before .before .before .before .before .args in
+    let at-gather = after-gather .gather in
+    let first = after-start .start .result in
+    let n = at-args .n in
+    let allowed = at-args .allowed .now in
+    let amount = at-args .amount .now in
+    let pebble = at-args .pebble .now in
+    let room : 64 ≤ length (replicate {A = ℕ} 64 0) = omega (arith, length-replicate {A = ℕ} 64 0) in
+    λ d minutes B.
+    let F = B .fields in
+    let D = B .sparse-day .day-rocks in
+    let begun = after-start .start .ensures .1 d minutes B in
+    let m : Limits = record {
+      benches = n .benches;
+      jobs = n .jobs;
+      rocks = at-gather .result;
+      bound = n .bound;
+      small
+          = n .small;
+      limit = n .limit;
+    } in
+    let (R, mine) = ready d n m minutes allowed F (D .sound) (B .sparse-day .sparse) (first .left) (first .place)
+    (begun .1) _ _ _ amount _ (replicate 64 0) (replicate 64 0) (replicate 64 0) (replicate 64 0) pebble (D .benches)
+    (D .jobs) (B .sparse-day .bounds) (B .sparse-day .smalls) (B .sparse-day .limits) (at-gather .ensures .0) room
+    room room room (at-gather .ensures .1) (at-gather .ensures .2) (at-gather .ensures .3) (after-pick .pick .ensures)
+    (B .amounts) (B .pebbly) in
+    let fuel = budget-is d (n .jobs) (n .benches) minutes allowed F (D .benches) pebble (B .pebbly)
+    (after-count .count .ensures) (after-times .times .ensures) in
+    let L = after-turns .turns .ensures d R (begun .0) fuel in
+    c .finish .ensures d _ amount pebble allowed R mine L (B .sparse-day .short) (B .sparse-day .sparse)
+
+pub decide-run-spec : {M : Type 1} → statement M
+decide-run-spec =
+    tie.close
+    (tie.spec
+    start-requires
+    slice-aggregate-gather
+    slice-aggregate-gather-2
+    slice-aggregate-gather-3
+    gather-requires
+    slice-aggregate-pick
+    slice-aggregate-pick-2
+    pick-requires
+    count-requires
+    times-requires
+    slice-aggregate-turns
+    slice-aggregate-turns-2
+    slice-aggregate-turns-3
+    turns-requires
+    slice-aggregate-finish
+    slice-aggregate-finish-2
+    slice-aggregate-finish-3
+    finish-requires
+    returns)

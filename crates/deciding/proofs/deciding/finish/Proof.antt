@@ -1,0 +1,67 @@
+-- By whether a bench is activated at the last state (FinishRun).
+use mathlib.Core.Path.{_∙_, refl}
+use native.Mathlib.Omega.{arith}
+use Rattle.algorithm.specs.Run.{boardOf, explored}
+use Rattle.deciding.specs.Decision.{Decides}
+use Rattle.deciding.proofs.FinishRun.{last-rocks, settled-places, finish-none, finish-plan}
+use borrow.Author.Needs.{needs}
+use Rattle.deciding.proofs.deciding.finish.Statement.{statement}
+use Rattle.deciding.proofs.deciding.finish.Tie as tie
+
+without-places-requires : tie.Need-without-places-requires
+without-places-requires c κs = search needs
+
+returns : tie.Need-returns
+returns c =
+    let after-if1 = c .before in
+    let at-args = after-if1 .before .before .before .before .args in
+    λ d weights amount pebbles allowed R jobs-are L short sparse.
+    rw (c .without-places .ensures)
+    (finish-none d (at-args .n) (at-args .low .now) (at-args .high .now) weights amount pebbles allowed R
+    (at-args .last) L short sparse (after-if1 .if1 .taken))
+
+slice-aggregate-settle : tie.Need-slice-aggregate-settle
+slice-aggregate-settle c = search needs
+
+settle-requires : tie.Need-settle-requires
+settle-requires c κs = search needs
+
+slice-aggregate-place-rocks : tie.Need-slice-aggregate-place-rocks
+slice-aggregate-place-rocks c = search needs
+
+slice-aggregate-place-rocks-2 : tie.Need-slice-aggregate-place-rocks-2
+slice-aggregate-place-rocks-2 c = search needs
+
+place-rocks-requires : tie.Need-place-rocks-requires
+place-rocks-requires c κs = search needs
+
+returns-2 : tie.Need-returns-2
+returns-2 c =
+    let after-place-rocks = c .before in
+    let after-settle = after-place-rocks .before .before .before .before .before in
+    let after-if1 = after-settle .before .before .before in
+    let at-args = after-if1 .before .before .before .before .args in
+    let n = at-args .n in
+    let low = at-args .low .now in
+    let high = at-args .high .now in
+    let last = at-args .last in
+    λ d weights amount pebbles allowed R jobs-are L short sparse.
+    let rocks = last-rocks d n low high weights amount pebbles allowed R last L in
+    let settled = after-settle .settle .ensures (boardOf d (L .state)) weights (explored d (L .state) .dir) rocks
+    (L .explores .shown .seen .directed) in
+    finish-plan d n low high weights amount pebbles allowed R last L short sparse _ (after-if1 .if1 .left)
+    (settled-places d n low high weights amount pebbles allowed R last L (at-args .job .now) _ _ _ jobs-are
+    settled (L .holds .held) (after-place-rocks .place-rocks .ensures))
+
+pub finish-spec : {M : Type 1} → statement M
+finish-spec =
+    tie.close
+    (tie.spec
+    without-places-requires
+    returns
+    slice-aggregate-settle
+    settle-requires
+    slice-aggregate-place-rocks
+    slice-aggregate-place-rocks-2
+    place-rocks-requires
+    returns-2)
