@@ -8,7 +8,7 @@ ghost use Rattle.algorithm.specs.Explore.{conflictSet, construct as constructed
 ghost use Rattle.rocks.specs.BoardArrays.{Directed, Rounds};
 ghost use Rattle.conflict.specs.ConflictArrays.{joinsAt, fakeAt, Opened, Built, Finished, Grew};
 ghost use Rattle.rock_graph.specs.Neighbours.{Incident};
-ghost use Rattle.rock_graph.specs.Graph.{incidents, lows, highs, weights, RockGraph};
+ghost use Rattle.rock_graph.specs.Graph.{incidents, lows, highs, RockGraph};
 ghost use Rattle.forced.specs.SetArrays.{Covers, Nowhere};
 ghost use Rattle.forced.specs.CandidateArrays.{Neutral, rockOf, benchOf};
 

@@ -5,7 +5,7 @@
 --     marks-are, pebble-marks, weighed, burdened     kinds and weights of the jobs, and weights of the booked minutes
 --     limit-benches, limit-jobs, limit-bound, limit-small, limit-limit     the limits
 --     jobs-gathered, rocks-gathered     the rocks of a day, from their marks
-use Prim.Native.Nat.{ℕ, _+_, _-_, _*_, _^_, _≤_, _<_}
+use Prim.Native.Nat.{ℕ, _-_, _*_, _^_, _≤_, _<_}
 use mathlib.Core.Path.{_≡_, refl, sym, ap, ap₂, _∙_}
 use mathlib.Core.Bool.{Bool, true, false}
 use mathlib.Core.List.{List}
@@ -25,7 +25,7 @@ use Rattle.answers.proofs.SetLaws.{set-of-members}
 use Rattle.algorithm.specs.Rocks.{rock, weight, small, limit}
 use Rattle.algorithm.specs.SoundDay.{SoundDay}
 use Rattle.algorithm.specs.Start.{component, crowdedBench}
-use Rattle.algorithm.specs.Run.{Outcome, budget}
+use Rattle.algorithm.specs.Run.{budget}
 use Rattle.algorithm.proofs.Budget.{run-long, run-crowded}
 use Rattle.arrays.specs.Arrays.{plusOf, timesOf, filled}
 use Rattle.arrays.proofs.FilledLaws.{getD-filled}

@@ -3,8 +3,8 @@
 --     settled-places       the places with the rocks settled are those of the plan
 --     finish-none, finish-plan     the decision at the last state
 --     ready                the tables of the rocks that are left, from those of a day
-use Prim.Native.Nat.{ℕ, zero, suc, _+_, _-_, _%_, _≤_, _<_, _^_}
-use mathlib.Core.Path.{_≡_, refl, sym, ap, ap₂, subst, _∙_}
+use Prim.Native.Nat.{ℕ, zero, suc, _-_, _%_, _≤_, _<_}
+use mathlib.Core.Path.{_≡_, refl, sym, ap, ap₂, _∙_}
 use mathlib.Core.Bool.{Bool, true, false, cond, _&&_}
 use mathlib.Core.Logic.{_≢_, inl, inr, ⊎-elim}
 use mathlib.Core.List.{List}
@@ -22,7 +22,6 @@ use Rattle.sums.proofs.TableLaws.{length-table, getD-table}
 use Rattle.sums.proofs.MembersLaws.{member-below, member-holds, member-index}
 use Rattle.bits.specs.Bits.{isSet}
 use Rattle.day.specs.Day.{Day, pebble, bound, longJob}
-use Rattle.answers.specs.Answers.{setOf}
 use Rattle.answers.proofs.SetLaws.{set-of-members}
 use Rattle.algorithm.specs.Rocks.{weight, small, limit}
 use Rattle.algorithm.specs.Board.{Board}

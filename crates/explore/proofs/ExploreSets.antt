@@ -3,19 +3,16 @@
 --     covers-touched        a rock that is forced has its ends among the benches with a rock
 --     exploration-starts, exploration-goes-on, exploration-ends, exploration-spent     how it starts, goes on and ends
 use Prim.Native.Nat.{ℕ, _+_, _^_, _≤_, _<_}
-use mathlib.Core.Path.{_≡_, ap, _∙_}
+use mathlib.Core.Path.{_≡_}
 use mathlib.Core.Bool.{Bool, true, cond, not, _&&_, _||_}
 use mathlib.Core.Logic.{inl, inr, _≢_}
 use mathlib.Core.List.{List}
 use native.Mathlib.Omega.{arith}
-use lib.Dec.{eqb, ltb}
+use lib.Dec.{ltb}
 use lib.ListN.{length, getD, replicate}
-use borrow.Author.Tests.{lt-ltb, ne-eqb}
-use Rattle.bools.proofs.BoolLaws.{clash, and-intro, not-intro-true}
 use Rattle.bools.proofs.OrderLaws.{lt-or-le}
 use Rattle.sums.specs.Search.{any}
 use Rattle.bits.specs.Bits.{isSet}
-use Rattle.bits.proofs.SetBits.{isSet-zero}
 use Rattle.rocks.specs.declared.rocks.Limits.{Limits}
 use Rattle.algorithm.specs.Board.{Board, Directions}
 use Rattle.algorithm.specs.Forced.{forcedOrientations}

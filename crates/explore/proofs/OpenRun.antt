@@ -10,16 +10,13 @@ use lib.Dec.{eqb, leb}
 use lib.ListN.{length, getD, set, length-set}
 use lib.Seq.{getD-set-same, getD-set-other}
 use borrow.Author.Tests.{eq-eqb, ne-eqb}
-use Rattle.bools.proofs.BoolLaws.{split, clash, and-intro, and-left, and-right, and-false-left, and-false-right, not-intro-true}
+use Rattle.bools.proofs.BoolLaws.{split, clash, and-intro, and-left, and-right, not-intro-true}
 use Rattle.bools.proofs.OrderLaws.{eq-or-ne}
-use Rattle.sums.proofs.SearchLaws.{any-intro, any-false}
 use Rattle.bits.specs.Bits.{isSet}
 use Rattle.bits.proofs.SetBits.{isSet-zero}
 use Rattle.sets.specs.Sets.{lowestOf}
 use Rattle.rocks.specs.RockArrays.{withinAt}
-use Rattle.forced.specs.CandidateArrays.{someRock}
 use Rattle.sets.proofs.SetLaws.{lowest-holds}
-use Rattle.sets.proofs.SetRun.{Searched}
 
 -- What stays out of a set without u, and is not u, was out before.
 still : (left left′ u v : ℕ) → isSet 64 left′ v ≡ (isSet 64 left v && not (eqb v u)) → isSet 64 left′ v ≡ false → v ≢ u → isSet 64 left v ≡ false

@@ -4,25 +4,20 @@
 --     Blank                     the tables before an exploration
 --     Begun                     how a round begins
 --     Reaches b reach            entry u of the array is the set of the benches that the pebbles on u allow
-use Prim.Native.Nat.{ℕ, _+_, _≤_, _<_}
+use Prim.Native.Nat.{ℕ, _<_}
 use mathlib.Core.Path.{_≡_}
-use mathlib.Core.Bool.{Bool, true, false, cond, not, _&&_, _||_}
+use mathlib.Core.Bool.{Bool, false, cond, not, _&&_}
 use mathlib.Core.List.{List}
 use lib.ListN.{length, getD, set, replicate}
 use lib.Dec.{eqb, ltb}
 use lib.Bits.{bitOr}
 use Rattle.sums.specs.Search.{any}
-use Rattle.sums.specs.Table.{table}
 use Rattle.bits.specs.Bits.{isSet}
 use Rattle.rocks.specs.declared.rocks.Limits.{Limits}
-use Rattle.algorithm.specs.Board.{Board, Directions}
-use Rattle.algorithm.specs.Explore.{Explored, Constructed, roundOf, inConflict, typeA, openedLevels, openedJoined}
+use Rattle.algorithm.specs.Board.{Board}
+use Rattle.algorithm.specs.Explore.{Explored, typeA, openedLevels, openedJoined}
 use Rattle.arrays.specs.Arrays.{plusOf}
-use Rattle.rocks.specs.RockArrays.{otherAt, withinAt, fatherAt, childAt}
-use Rattle.rocks.specs.BoardArrays.{Seen, Rounds}
-use Rattle.rock_graph.specs.Graph.{lows, highs, weights}
-use Rattle.forced.specs.SetArrays.{Covers, Nowhere, forcesAt}
-use Rattle.forced.specs.CandidateArrays.{Neutral}
+use Rattle.rocks.specs.BoardArrays.{Rounds}
 
 -- ── sets of benches ──
 

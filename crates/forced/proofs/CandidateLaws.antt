@@ -13,7 +13,7 @@ use mathlib.Core.Logic.{inl, inr}
 use mathlib.Core.List.{List}
 use native.Mathlib.Omega.{arith}
 use lib.ListN.{getD}
-use lib.Dec.{eqb, ltb}
+use lib.Dec.{ltb}
 use borrow.Author.Tests.{lt-ltb, ltb-true}
 use Rattle.bools.proofs.BoolLaws.{split, clash, and-intro, and-left, and-right}
 use Rattle.sums.specs.Search.{any, least}

@@ -2,7 +2,7 @@
 --     filled-front         a table whose front is filled
 --     plan-written         both tables and the answer, from the places and the loads
 use Prim.Native.Nat.{ℕ, _+_, _-_, _*_, _≤_, _<_, _^_}
-use mathlib.Core.Path.{_≡_, refl, sym, ap, ap₂, _∙_}
+use mathlib.Core.Path.{_≡_, sym, ap, ap₂, _∙_}
 use mathlib.Core.Bool.{Bool, true, false}
 use mathlib.Core.Logic.{inl, inr}
 use mathlib.Core.List.{List, _++_}
@@ -19,9 +19,7 @@ use Rattle.sums.proofs.LargestLaws.{largest-cong}
 use Rattle.sums.proofs.TableLaws.{length-table, getD-table, table-cong, table-getD}
 use Rattle.day.specs.Day.{Day, placeIn, loadOf, loadsOf, largestOf}
 use Rattle.answers.specs.declared.answer.Answer.the-variants.{Plan}
-use Rattle.answers.specs.declared.answer.PlanAnswer.{PlanAnswer}
-use Rattle.answers.specs.declared.answer.Filled.{Filled}
-use Rattle.answers.specs.Answers.{planReply, front, Answered}
+use Rattle.answers.specs.Answers.{planReply, Answered}
 use Rattle.arrays.specs.Arrays.{filled}
 use Rattle.arrays.specs.Loads.{amountOn}
 use Rattle.arrays.proofs.FilledLaws.{length-filled, getD-filled, filled-rest}

@@ -4,17 +4,16 @@
 --     levels-end               after the loop the sets of the levels are those of the board
 --     push-none, push-found    no pair meets PUSH, and the first that does
 use Prim.Native.Nat.{ℕ, zero, suc, _+_, _≤_, _<_}
-use mathlib.Core.Path.{_≡_, refl, sym, ap, ap₂, subst, _∙_}
+use mathlib.Core.Path.{_≡_, refl, sym, ap, ap₂, _∙_}
 use mathlib.Core.Bool.{Bool, true, false, cond, not, _&&_, _||_}
 use mathlib.Core.Logic.{inl, inr}
 use mathlib.Core.List.{List}
 use native.Mathlib.Omega.{arith}
-use lib.ListN.{length, getD, set, replicate, length-replicate, getD-replicate, List·getD-eq-default}
+use lib.ListN.{length, getD, replicate, length-replicate, getD-replicate, List·getD-eq-default}
 use lib.Dec.{eqb, leb, ltb}
 use lib.Bits.{bitAnd}
-use lib.Seq.{getD-set-same, getD-set-other}
 use borrow.Author.Tests.{eqb-true, eq-eqb, ne-eqb, lt-ltb, le-ltb, leb-true, ltb-true}
-use Rattle.bools.proofs.BoolLaws.{split, clash, tests, and-false-left, and-false-right, or-left, bool-ext, not-intro-true, eqb-sym}
+use Rattle.bools.proofs.BoolLaws.{split, tests, and-false-left, and-false-right, or-left, bool-ext, not-intro-true}
 use Rattle.bools.proofs.OrderLaws.{last-or-below, lt-or-le}
 use Rattle.sums.specs.Search.{any, all, least}
 use Rattle.sums.proofs.SearchLaws.{any-cong, any-false, any-intro, least-found, least-none}

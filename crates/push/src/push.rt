@@ -1,7 +1,7 @@
 // PUSH (Definition 4.4.3).
 use rocks::Limits;
 ghost use mathlib.Core.Path.{_≡_};
-ghost use Prim.Native.Nat.{ℕ, _+_, _≤_, _<_};
+ghost use Prim.Native.Nat.{ℕ, _+_, _<_};
 ghost use mathlib.Core.Bool.{_&&_, _||_, cond};
 ghost use mathlib.Core.List.{List};
 ghost use lib.ListN.{getD, length, replicate};

@@ -5,7 +5,7 @@ use rocks::Limits;
 ghost use mathlib.Core.Path.{_≡_};
 ghost use Prim.Native.Nat.{ℕ, _<_, _≤_};
 ghost use mathlib.Core.Bool.{true, _&&_};
-ghost use lib.ListN.{getD, set, length, replicate};
+ghost use lib.ListN.{getD, set, length};
 ghost use Rattle.sums.specs.Search.{any};
 ghost use Rattle.bits.specs.Bits.{isSet};
 ghost use Rattle.arrays.specs.Arrays.{plusOf, filled};

@@ -1,8 +1,6 @@
 // The rocks that are left, as arrays: entry r is the rock with the r-th lowest job.
 ghost use mathlib.Core.Path.{_≡_};
-ghost use lib.ListN.{getD, set};
-ghost use Rattle.arrays.specs.Arrays.{plusOf};
-ghost use Rattle.rocks.specs.RockArrays.{touchesAt, otherAt, withinAt, fatherAt, childAt};
+ghost use Rattle.rocks.specs.RockArrays.{touchesAt, otherAt, withinAt};
 
 pub struct Limits {
     pub benches: usize,

@@ -1,5 +1,5 @@
 -- The arrays and the sets show a state from which the rest of the loop gives what it gives from the start (ConflictLoops).
-use Prim.Native.Nat.{ℕ, _≤_}
+use Prim.Native.Nat.{ℕ}
 use mathlib.Core.Path.{_≡_, refl, ap, _∙_}
 use mathlib.Core.List.{List}
 use native.Mathlib.Omega.{arith}

@@ -1,6 +1,5 @@
 -- The start, the rocks that are left, the turns, and the decision at the last state (FinishRun).
 use Prim.Native.Nat.{ℕ, _≤_}
-use mathlib.Core.Path.{_∙_}
 use native.Mathlib.Omega.{arith}
 use lib.ListN.{length, replicate, length-replicate}
 use Rattle.rocks.specs.declared.rocks.Limits.{Limits}

@@ -1,8 +1,5 @@
 -- By whether a bench is activated at the last state (FinishRun).
-use mathlib.Core.Path.{_∙_, refl}
-use native.Mathlib.Omega.{arith}
 use Rattle.algorithm.specs.Run.{boardOf, explored}
-use Rattle.deciding.specs.Decision.{Decides}
 use Rattle.deciding.proofs.FinishRun.{last-rocks, settled-places, finish-none, finish-plan}
 use borrow.Author.Needs.{needs}
 use Rattle.deciding.proofs.deciding.finish.Statement.{statement}

@@ -1,5 +1,5 @@
 -- The arrays show a state from which the rounds that are left give what the exploration gives (ExploreSets).
-use Prim.Native.Nat.{_+_, _≤_, _<_, _^_, _-_}
+use Prim.Native.Nat.{_+_, _<_, _^_, _-_}
 use native.Mathlib.Omega.{arith}
 use mathlib.Core.Path.{_≡_, refl, _∙_}
 use lib.ListN.{length, replicate}

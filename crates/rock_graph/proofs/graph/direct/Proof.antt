@@ -4,7 +4,6 @@ use Prim.Native.Nat.{ℕ}
 use lib.ListN.{set}
 use mathlib.Core.Path.{ap, ap₂}
 use mathlib.Core.Path.{_∙_}
-use Rattle.rock_graph.specs.Graph.{lows, highs, weights}
 use borrow.Author.Needs.{needs}
 use Rattle.rock_graph.proofs.graph.direct.Statement.{statement}
 use Rattle.rock_graph.proofs.graph.direct.Tie as tie
