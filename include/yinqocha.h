@@ -2,10 +2,11 @@
  * yinqocha.h - sheets and plans of the bay planner
  *
  * A sheet holds one day of a depot's test bay: how many benches there are, the share p/q, the
- * target T in minutes, and the jobs, each with its minutes and the benches that may take it. A
- * program that has these as plain numbers, such as the depot's screen program, writes a sheet with
- * yinqocha_write(), has it planned with yinqocha_plan(), and tells whether two plans of it come to
- * the same with yinqocha_compare(). Link it with libyinqocha.a (x86-64).
+ * target T in minutes, the minutes for which benches are booked before the day begins, and the
+ * jobs, each with its minutes and the benches that may take it. A program that has these as plain
+ * numbers, such as the depot's screen program, writes a sheet with yinqocha_write(), has it planned
+ * with yinqocha_plan(), and tells whether two plans of it come to the same with yinqocha_compare().
+ * Link it with libyinqocha.a (x86-64).
  *
  * This header is the manual. It says first what holds of every call, then what the numbers mean,
  * then describes each function, with a program that uses it and what the program prints. Jobs and
@@ -64,9 +65,9 @@ extern "C" {
  * FAULT NUMBERS, in the order in which they are tried
  *
  * The place is given in parentheses. "Frame" means the first byte of the faulty frame, counted
- * from the start of the sheet. Where a sheet is read, 2 to 11 are tried in this order at each
- * frame, and 12 after the whole sheet. Where fields are written, 7 and 8 have place 0, and 9 to 12
- * have the job number.
+ * from the start of the sheet. Where a sheet is read, 2 to 11, 14 and 15 are tried in the order
+ * below at each frame, and 12 after the whole sheet. Where fields are written, 7 and 8 have place
+ * 0, 14 has the bench, and 9 to 12 have the job number.
  */
 #define YINQOCHA_OK 0u
 
@@ -77,10 +78,10 @@ extern "C" {
 /* The sheet ends inside a frame of any version (frame), or its frames are over and none was an end
  * frame (the sheet's length). */
 #define YINQOCHA_SHEET_CUT 2u
-/* A version 1 frame has a kind other than 1, 2, 3 (frame). */
+/* A version 1 frame has a kind other than 1, 2, 3, 4 (frame). */
 #define YINQOCHA_UNKNOWN_KIND 3u
-/* A version 1 frame is out of its place: a job or end before the head, a second head, or any after
- * the end (frame). */
+/* A version 1 frame is out of its place: a booking, job or end before the head, a second head, a
+ * booking after a job, or any after the end (frame). */
 #define YINQOCHA_OUT_OF_PLACE 4u
 /* The body length is not that of its kind (frame). */
 #define YINQOCHA_BODY_LENGTH 5u
@@ -95,6 +96,11 @@ extern "C" {
 /* The share is bad: q is 0, or 7p < 4q, or p >= q (read: frame; written: 0). Writing: or p or q
  * does not fit its field of 7 bits. */
 #define YINQOCHA_BAD_SHARE 8u
+/* A bench is booked that the head lacks (read: frame, also if it is booked for 0 minutes; written:
+ * the bench). Writing: or its booked minutes do not fit their field of 20 bits. */
+#define YINQOCHA_BAD_BOOKING 14u
+/* The bench already had a booking, also one of 0 minutes (read: frame; writing never meets it). */
+#define YINQOCHA_BOOKED_TWICE 15u
 /* It is the 513th job (read: frame; written: 512). */
 #define YINQOCHA_TOO_MANY_JOBS 9u
 /* A job has 0 minutes (read: frame; written: the job). Writing: or its minutes do not fit their
@@ -123,7 +129,7 @@ extern "C" {
 #define YINQOCHA_MAX_JOBS 512u
 #define YINQOCHA_MAX_SHARE 127u         /* of p and of q */
 #define YINQOCHA_MAX_TARGET 1073741823u /* 2^30 - 1 */
-#define YINQOCHA_MAX_MINUTES 1048575u   /* 2^20 - 1 */
+#define YINQOCHA_MAX_MINUTES 1048575u   /* of a job and of a booking, 2^20 - 1 */
 
 /* The most bytes of a sheet. A caller that takes a sheet from a file makes room for one more, so
  * that a longer file is fault 1 and not a sheet that was cut. */
@@ -134,9 +140,13 @@ extern "C" {
 #define YINQOCHA_BENCH(b) (UINT64_C(1) << (63 - (b)))
 #define YINQOCHA_HAS_BENCH(set, b) (((uint64_t)(set) & YINQOCHA_BENCH(b)) != 0)
 
-/* The length in bytes of a sheet with n jobs: the head has 10, each job 14, the end 3. It is a
- * size_t. */
-#define YINQOCHA_SHEET_BYTES(n) ((size_t)10 + (size_t)14 * (n) + (size_t)3)
+/* The length in bytes of a sheet with so many bookings above 0 and so many jobs: the head has 10,
+ * each booking 7, each job 14, the end 3. It is a size_t. */
+#define YINQOCHA_SHEET_BYTES(bookings, jobs) \
+    ((size_t)10 + (size_t)7 * (bookings) + (size_t)14 * (jobs) + (size_t)3)
+
+/* The most bytes that the writer gives. */
+#define YINQOCHA_MAX_WRITTEN_BYTES YINQOCHA_SHEET_BYTES(YINQOCHA_MAX_BENCHES, YINQOCHA_MAX_JOBS)
 
 /*
  * WRITING A SHEET
@@ -145,6 +155,9 @@ extern "C" {
  *   benches   how many benches there are, 1 to 64
  *   p, q      the share p/q: at least 4/7 and less than 1, each number at most 127
  *   target    the target T in minutes, 0 to 2^30 - 1
+ *   booked    a table: entry b is the minutes for which bench b is booked, 0 to 2^20 - 1, and 0 for
+ *             a bench that is not there. An entry that the table lacks is 0, so that NULL with
+ *             length 0 books nothing.
  *   minutes   a table: entry j is the minutes of job j, 1 to 2^20 - 1
  *   allowed   a table: entry j is the benches of job j, the sum of YINQOCHA_BENCH(b) over the
  *             benches b that may take it, at least one, each below `benches`
@@ -154,18 +167,24 @@ extern "C" {
  * share admits longer jobs with so much choice and loosens that bound, from 13/7 * T at the share
  * 4/7 towards 2 * T.
  *
- * The number of jobs is that of the longer table, a begun entry counting as one. So a job for which
- * one table has no entry has 0 minutes, or allows no bench, and is refused.
+ * The number of jobs is that of the longer of `minutes` and `allowed`, a begun entry counting as
+ * one. So a job for which one table has no entry has 0 minutes, or allows no bench, and is refused.
+ *
+ * Booked minutes are taken before the day begins, such as for a recall. They are part of the
+ * bench's load whatever the plan. They may be more than the target, and the share and fault 12
+ * speak of jobs alone.
  *
  * Out:
- *   out       the sheet: the head, the jobs in order, and the end. Later bytes keep their contents.
- *   result    the length of the sheet, YINQOCHA_SHEET_BYTES(number of jobs)
+ *   out       the sheet: the head, the bookings above 0 by rising bench, the jobs in order, and
+ *             the end. Later bytes keep their contents.
+ *   result    the length of the sheet, YINQOCHA_SHEET_BYTES(bookings above 0, jobs)
  *
- * Faults: 7, then 8, then for each job in order 9, 10 and 11, then 12, then 13. After a fault `out`
- * keeps its contents. An output of YINQOCHA_SHEET_BYTES(YINQOCHA_MAX_JOBS) bytes, which is 7,181,
- * always has room.
+ * Faults: 7, then 8, then for each bench in order 14, then for each job in order 9, 10 and 11, then
+ * 12, then 13. An entry of `booked` past the 64th is 0 or fault 14 with its number (the low 32 bits
+ * of it) as place. After a fault `out` keeps its contents. An output of YINQOCHA_MAX_WRITTEN_BYTES
+ * bytes, which is 7,629, always has room.
  *
- * Example: three jobs of 5 minutes, each on bench 0 or 1, with target 9, into a file.
+ * Example: three jobs of 5 minutes on bench 0 or 1, bench 1 booked for 4, target 9, into a file.
  *
  *     #include "yinqocha.h"
  *
@@ -175,12 +194,14 @@ extern "C" {
  *     int main(void)
  *     {
  *         const uint64_t both = YINQOCHA_BENCH(0) | YINQOCHA_BENCH(1);
+ *         const uint64_t booked[] = { 0, 4 };
  *         const uint64_t minutes[] = { 5, 5, 5 };
  *         const uint64_t allowed[] = { both, both, both };
- *         uint8_t sheet[YINQOCHA_SHEET_BYTES(3)];
+ *         uint8_t sheet[YINQOCHA_SHEET_BYTES(1, 3)];
  *
- *         uint64_t word = yinqocha_write(2, 4, 7, 9, minutes, sizeof minutes,
- *                                        allowed, sizeof allowed, sheet, sizeof sheet);
+ *         uint64_t word = yinqocha_write(2, 4, 7, 9, booked, sizeof booked,
+ *                                        minutes, sizeof minutes, allowed, sizeof allowed,
+ *                                        sheet, sizeof sheet);
  *         uint32_t value = YINQOCHA_VALUE(word);
  *         if (YINQOCHA_FAULT(word) != YINQOCHA_OK) {
  *             printf("fault %" PRIu32 ", place %" PRIu32 "\n", YINQOCHA_FAULT(word), value);
@@ -197,9 +218,10 @@ extern "C" {
  *
  * It prints:
  *
- *     day.sheet has 55 bytes
+ *     day.sheet has 62 bytes
  */
 uint64_t yinqocha_write(uint64_t benches, uint64_t p, uint64_t q, uint64_t target,
+                        const void *booked, size_t booked_len,
                         const void *minutes, size_t minutes_len,
                         const void *allowed, size_t allowed_len,
                         uint8_t *out, size_t out_len);
@@ -212,17 +234,21 @@ uint64_t yinqocha_write(uint64_t benches, uint64_t p, uint64_t q, uint64_t targe
  *   plan   each job has one of its benches, and no bench is loaded above the bound:
  *          3q * load <= (5q + p) * T
  *   long   a job has more than T minutes, so no assignment keeps every bench within T
- *   none   a set of k benches is blocking: what must lie on them weighs more than k * T, however
- *          the jobs are placed; so no assignment keeps every bench within T
+ *   none   a set of k benches is blocking: what must lie on them, booked minutes included, weighs
+ *          more than k * T, however the jobs are placed; so no assignment keeps every bench within
+ *          T
  *
- * If some assignment keeps every bench within T, the answer is a plan.
+ * A bench's load is its booked minutes and those of its jobs. If some assignment keeps every bench
+ * within T, the answer is a plan. There may be one also where a booking is above T, which is no
+ * reason for long.
  *
  * In:
  *   sheet     the bytes of a sheet
  *
  * Out:
  *   places    a table: entry j is the bench of job j. Written for a plan only.
- *   loads     a table: entry b is the load of bench b in minutes. Written for a plan only.
+ *   loads     a table: entry b is the load of bench b in minutes, its booking included. Written for
+ *             a plan only.
  *   answer    a table of two entries:
  *
  *                       first entry         second entry
@@ -232,19 +258,20 @@ uint64_t yinqocha_write(uint64_t benches, uint64_t p, uint64_t q, uint64_t targe
  *
  *   result    YINQOCHA_PLAN, YINQOCHA_LONG or YINQOCHA_NONE
  *
- * A job of more than p/q of T minutes is heavy, and the others are light. Where no job is longer
- * than T, a heavy job allows at most two benches. The moves are how many times the planner put a
- * light job on another bench on its way to the answer, at most benches * light jobs that allow two
- * or more; they say nothing of how good a plan is.
+ * A job of more than p/q of T minutes is heavy, and the others are light; a booking is neither.
+ * Where no job is longer than T, a heavy job allows at most two benches. The moves are how many
+ * times the planner put a light job on another bench on its way to the answer, at most benches *
+ * light jobs that allow two or more; they say nothing of how good a plan is.
  *
  * Every table must have its room whatever the answer will be: places one entry for each job, loads
  * one for each bench, answer two. Later bytes of a table keep their contents, and after long and
  * none all of places and loads does.
  *
- * Faults: 1, then 2 to 11 frame by frame, then 12, then 13. After a fault all three tables keep
- * their contents. YINQOCHA_MAX_JOBS places and YINQOCHA_MAX_BENCHES loads always have room.
+ * Faults: 1, then 2 to 11, 14 and 15 frame by frame, then 12, then 13. After a fault all three
+ * tables keep their contents. YINQOCHA_MAX_JOBS places and YINQOCHA_MAX_BENCHES loads always have
+ * room.
  *
- * Example: four jobs of 2 minutes, each on bench 0 or 1, with three targets.
+ * Example: four jobs of 2 minutes on bench 0 or 1, bench 0 booked for 2 minutes, three targets.
  *
  *     #include "yinqocha.h"
  *
@@ -254,13 +281,15 @@ uint64_t yinqocha_write(uint64_t benches, uint64_t p, uint64_t q, uint64_t targe
  *     static int plan(uint64_t target)
  *     {
  *         const uint64_t both = YINQOCHA_BENCH(0) | YINQOCHA_BENCH(1);
+ *         const uint64_t booked[] = { 2 };
  *         const uint64_t minutes[] = { 2, 2, 2, 2 };
  *         const uint64_t allowed[] = { both, both, both, both };
- *         uint8_t sheet[YINQOCHA_SHEET_BYTES(4)];
+ *         uint8_t sheet[YINQOCHA_SHEET_BYTES(1, 4)];
  *         uint64_t places[4], loads[2], answer[YINQOCHA_ANSWER_ENTRIES];
  *
- *         uint64_t word = yinqocha_write(2, 4, 7, target, minutes, sizeof minutes,
- *                                        allowed, sizeof allowed, sheet, sizeof sheet);
+ *         uint64_t word = yinqocha_write(2, 4, 7, target, booked, sizeof booked,
+ *                                        minutes, sizeof minutes, allowed, sizeof allowed,
+ *                                        sheet, sizeof sheet);
  *         if (YINQOCHA_FAULT(word) == YINQOCHA_OK)
  *             word = yinqocha_plan(sheet, sizeof sheet, places, sizeof places,
  *                                  loads, sizeof loads, answer, sizeof answer);
@@ -301,13 +330,13 @@ uint64_t yinqocha_write(uint64_t benches, uint64_t p, uint64_t q, uint64_t targe
  *
  *     target 1: job 0 is too long
  *     target 3: blocking benches 0 1, 0 moves
- *     target 4: largest load 6, 1 moves
+ *     target 4: largest load 6, 2 moves
  *     job 0 on bench 1
- *     job 1 on bench 0
+ *     job 1 on bench 1
  *     job 2 on bench 0
  *     job 3 on bench 0
  *     bench 0 has 6 minutes
- *     bench 1 has 2 minutes
+ *     bench 1 has 4 minutes
  */
 #define YINQOCHA_PLAN 1u
 #define YINQOCHA_LONG 2u
@@ -324,7 +353,8 @@ uint64_t yinqocha_plan(const uint8_t *sheet, size_t sheet_len,
 /*
  * COMPARING TWO PLANS
  *
- * Two plans of one sheet count as the same when every bench has the same load.
+ * Two plans of one sheet count as the same when every bench has the same load. The bookings are the
+ * same in both.
  *
  * In:
  *   sheet     the bytes of a sheet
@@ -337,9 +367,9 @@ uint64_t yinqocha_plan(const uint8_t *sheet, size_t sheet_len,
  * Out:
  *   result    YINQOCHA_SAME or YINQOCHA_DIFFERENT
  *
- * Faults: those of the sheet, 1 to 12 as above; then 13, here YINQOCHA_NO_ASSIGNMENT, with place 0
- * if the first list does not give each job one bench that it allows, and then 13 with place 1 if
- * the second does not.
+ * Faults: those of the sheet, 1 to 12, 14 and 15 as above; then 13, here YINQOCHA_NO_ASSIGNMENT,
+ * with place 0 if the first list does not give each job one bench that it allows, and then 13 with
+ * place 1 if the second does not.
  *
  * Example: three jobs of 5 minutes, each on bench 0 or 1, and four lists of places.
  *
@@ -354,9 +384,9 @@ uint64_t yinqocha_plan(const uint8_t *sheet, size_t sheet_len,
  *         const uint64_t minutes[] = { 5, 5, 5 };
  *         const uint64_t allowed[] = { both, both, both };
  *         const uint64_t lists[4][3] = { { 0, 0, 1 }, { 1, 0, 0 }, { 0, 1, 1 }, { 0, 0, 2 } };
- *         uint8_t sheet[YINQOCHA_SHEET_BYTES(3)];
+ *         uint8_t sheet[YINQOCHA_SHEET_BYTES(0, 3)];
  *
- *         uint64_t word = yinqocha_write(2, 4, 7, 9, minutes, sizeof minutes,
+ *         uint64_t word = yinqocha_write(2, 4, 7, 9, NULL, 0, minutes, sizeof minutes,
  *                                        allowed, sizeof allowed, sheet, sizeof sheet);
  *         if (YINQOCHA_FAULT(word) != YINQOCHA_OK) {
  *             printf("fault %" PRIu32 ", place %" PRIu32 "\n",

@@ -2,86 +2,20 @@
  * The C door, from C. Writing: example 12's bytes, each fault of the writer, empty buffers, and
  * outputs that fit exactly or lack one byte. Planning: sheets that were written, with each of the
  * three answers, and tables that fit exactly or lack one byte. Comparing: plans, and lists that are
- * none. From the repository root, after `rt staticlib yinqocha`:
+ * none. bookings.h has the checks of booked benches, door.h what all checks use. From the
+ * repository root, after `rt staticlib yinqocha`:
  *
  *     gcc -std=c11 -Wall -Wextra -Werror -Iinclude tests/c/door.c \
  *         target/staticlib/libyinqocha.a -o target/door
  */
 
+#include "bookings.h"
+#include "door.h"
 #include "yinqocha.h"
 
 #include <stdio.h>
 #include <stdlib.h>
 #include <string.h>
-
-#define GUARD 16
-#define FILL 0xA5
-#define MOST_JOBS (YINQOCHA_MAX_JOBS + 1)
-
-/* Example 5's sheet, in the bytes of example 12. */
-static const uint8_t example_12[] = {
-    0x11, 0x00, 0x07, 0x04, 0x10, 0x38, 0x00, 0x00, 0x01, 0x20,
-    0x12, 0x00, 0x0B, 0x00, 0x00, 0x5C, 0, 0, 0, 0, 0, 0, 0, 0,
-    0x12, 0x00, 0x0B, 0x00, 0x00, 0x5C, 0, 0, 0, 0, 0, 0, 0, 0,
-    0x12, 0x00, 0x0B, 0x00, 0x00, 0x5C, 0, 0, 0, 0, 0, 0, 0, 0,
-    0x13, 0x00, 0x00,
-};
-
-/* What the writer is given. */
-struct fields {
-    uint64_t benches, p, q, target;
-    uint64_t minutes[MOST_JOBS];
-    uint64_t allowed[MOST_JOBS];
-    size_t jobs;
-};
-
-/* The output between its guards. */
-static uint8_t buffer[GUARD + YINQOCHA_SHEET_BYTES(MOST_JOBS) + GUARD];
-static uint8_t *const out = buffer + GUARD;
-
-static void require(int holds, const char *what)
-{
-    if (!holds) {
-        printf("door: FAILED, %s\n", what);
-        exit(EXIT_FAILURE);
-    }
-}
-
-/* Nothing was written but the first `length` bytes of the output. */
-static void require_untouched_after(size_t length, const char *what)
-{
-    for (size_t i = 0; i < sizeof buffer; i++)
-        if (i < GUARD || i >= GUARD + length)
-            require(buffer[i] == FILL, what);
-}
-
-/* Example 5's head with `jobs` jobs of 5 minutes on both benches. */
-static struct fields example_5(size_t jobs)
-{
-    struct fields fields = { .benches = 2, .p = 4, .q = 7, .target = 9, .jobs = jobs };
-    for (size_t j = 0; j < jobs; j++) {
-        fields.minutes[j] = 5;
-        fields.allowed[j] = YINQOCHA_BENCH(0) | YINQOCHA_BENCH(1);
-    }
-    return fields;
-}
-
-static uint64_t write_fields(const struct fields *fields, size_t room)
-{
-    memset(buffer, FILL, sizeof buffer);
-    return yinqocha_write(fields->benches, fields->p, fields->q, fields->target,
-                          fields->minutes, 8 * fields->jobs, fields->allowed, 8 * fields->jobs,
-                          out, room);
-}
-
-static void require_fault(const struct fields *fields, size_t room, uint32_t number,
-                          uint32_t place, const char *what)
-{
-    uint64_t word = write_fields(fields, room);
-    require(YINQOCHA_FAULT(word) == number, what);
-    require(YINQOCHA_VALUE(word) == place, what);
-    require_untouched_after(0, what);
-}
 
 static void example_sheet(void)
 {
@@ -89,7 +23,7 @@ static void example_sheet(void)
     uint64_t word = write_fields(&fields, sizeof example_12 + 5);
     require(YINQOCHA_FAULT(word) == YINQOCHA_OK, "example 12: no fault");
     require(YINQOCHA_VALUE(word) == sizeof example_12, "example 12: length");
-    require(YINQOCHA_VALUE(word) == YINQOCHA_SHEET_BYTES(3), "example 12: length in the header");
+    require(YINQOCHA_VALUE(word) == YINQOCHA_SHEET_BYTES(0, 3), "example 12: length in the header");
     require(memcmp(out, example_12, sizeof example_12) == 0, "example 12: bytes");
     require_untouched_after(sizeof example_12, "example 12: later bytes");
     printf("door: example 12's sheet has its bytes, later bytes are untouched\n");
@@ -97,7 +31,7 @@ static void example_sheet(void)
 
 static void faults(void)
 {
-    size_t room = YINQOCHA_SHEET_BYTES(MOST_JOBS);
+    size_t room = YINQOCHA_MAX_WRITTEN_BYTES;
     struct fields fields = example_5(3);
     fields.benches = 0;
     require_fault(&fields, room, YINQOCHA_BAD_BENCHES, 0, "0 benches");
@@ -129,19 +63,29 @@ static void faults(void)
     fields.allowed[1] |= YINQOCHA_BENCH(2);
     require_fault(&fields, room, YINQOCHA_LONG_JOB_WITH_CHOICE, 1, "7 * 5 > 4 * 7");
     fields.minutes[1] = 4;
-    require(write_fields(&fields, room) == YINQOCHA_SHEET_BYTES(2), "7 * 4 = 4 * 7");
+    require(write_fields(&fields, room) == YINQOCHA_SHEET_BYTES(0, 2), "7 * 4 = 4 * 7");
     printf("door: faults 7 to 12 have their numbers and places, the output is untouched\n");
+}
+
+static void require_exact_room(const struct fields *fields, size_t length)
+{
+    require(write_fields(fields, length) == length, "an output that fits exactly");
+    require_untouched_after(length, "behind an output that fits exactly");
+    require_fault(fields, length - 1, YINQOCHA_NO_ROOM, 0, "an output one byte too short");
 }
 
 static void room(void)
 {
     for (size_t jobs = 0; jobs <= YINQOCHA_MAX_JOBS; jobs++) {
         struct fields fields = example_5(jobs);
-        size_t length = YINQOCHA_SHEET_BYTES(jobs);
-        require(write_fields(&fields, length) == length, "an output that fits exactly");
-        require_untouched_after(length, "behind an output that fits exactly");
-        require_fault(&fields, length - 1, YINQOCHA_NO_ROOM, 0, "an output one byte too short");
+        require_exact_room(&fields, YINQOCHA_SHEET_BYTES(0, jobs));
+        fields.benches = YINQOCHA_MAX_BENCHES;
+        for (size_t b = 0; b < YINQOCHA_MAX_BENCHES; b++)
+            fields.booked[b] = 1;
+        fields.booked_len = 8 * YINQOCHA_MAX_BENCHES;
+        require_exact_room(&fields, YINQOCHA_SHEET_BYTES(YINQOCHA_MAX_BENCHES, jobs));
     }
+    require(YINQOCHA_MAX_WRITTEN_BYTES == 7629, "the most bytes that are written");
     printf("door: an output fits exactly, and one byte less is fault 13\n");
 }
 
@@ -150,61 +94,21 @@ static void empty_buffers(void)
     static const uint8_t no_jobs[] = { 0x11, 0x00, 0x07, 0x04, 0x10, 0x38, 0x00,
                                        0x00, 0x01, 0x20, 0x13, 0x00, 0x00 };
     memset(buffer, FILL, sizeof buffer);
-    uint64_t word = yinqocha_write(2, 4, 7, 9, NULL, 0, NULL, 0, out, sizeof no_jobs);
+    uint64_t word = yinqocha_write(2, 4, 7, 9, NULL, 0, NULL, 0, NULL, 0, out, sizeof no_jobs);
     require(word == sizeof no_jobs, "no tables: length");
     require(memcmp(out, no_jobs, sizeof no_jobs) == 0, "no tables: bytes");
     require_untouched_after(sizeof no_jobs, "no tables: later bytes");
-    word = yinqocha_write(2, 4, 7, 9, NULL, 0, NULL, 0, NULL, 0);
+    word = yinqocha_write(2, 4, 7, 9, NULL, 0, NULL, 0, NULL, 0, NULL, 0);
     require(YINQOCHA_FAULT(word) == YINQOCHA_NO_ROOM, "no output");
     require(YINQOCHA_VALUE(word) == 0, "no output: place");
     const uint8_t minutes[] = { 5 };
-    word = yinqocha_write(2, 4, 7, 9, minutes, sizeof minutes, NULL, 0, NULL, 0);
+    word = yinqocha_write(2, 4, 7, 9, NULL, 0, minutes, sizeof minutes, NULL, 0, NULL, 0);
     require(YINQOCHA_FAULT(word) == YINQOCHA_BAD_ALLOWED, "minutes without benches");
     require(YINQOCHA_VALUE(word) == 0, "minutes without benches: place");
+    const uint8_t booked[] = { 3 };
+    word = yinqocha_write(2, 4, 7, 9, booked, sizeof booked, NULL, 0, NULL, 0, out, 20);
+    require(word == YINQOCHA_SHEET_BYTES(1, 0), "bookings without jobs");
     printf("door: NULL with length 0 is an empty buffer\n");
-}
-
-/* A table between its guards. */
-struct table {
-    uint8_t bytes[GUARD + 8 * YINQOCHA_MAX_JOBS + GUARD];
-};
-
-static struct table places, loads, answer;
-
-static uint8_t *table_start(struct table *table)
-{
-    return table->bytes + GUARD;
-}
-
-static uint64_t table_entry(struct table *table, size_t n)
-{
-    uint64_t number = 0;
-    for (size_t i = 8; i-- > 0;)
-        number = number << 8 | table_start(table)[8 * n + i];
-    return number;
-}
-
-/* Nothing of the table was written but its first `entries` entries. */
-static void require_entries(const struct table *table, size_t entries, const char *what)
-{
-    for (size_t i = 0; i < sizeof table->bytes; i++)
-        if (i < GUARD || i >= GUARD + 8 * entries)
-            require(table->bytes[i] == FILL, what);
-}
-
-/* The sheet of the fields is written, and planned with tables of these lengths in bytes. */
-static uint64_t plan_fields(const struct fields *fields, size_t places_len, size_t loads_len,
-                            size_t answer_len)
-{
-    uint64_t length = write_fields(fields, sizeof buffer - 2 * GUARD);
-    require(YINQOCHA_FAULT(length) == YINQOCHA_OK, "a sheet to plan");
-    memset(&places, FILL, sizeof places);
-    memset(&loads, FILL, sizeof loads);
-    memset(&answer, FILL, sizeof answer);
-    uint64_t word = yinqocha_plan(out, length, table_start(&places), places_len,
-                                  table_start(&loads), loads_len, table_start(&answer), answer_len);
-    require_untouched_after(length, "the sheet's guards");
-    return word;
 }
 
 static void plans(void)
@@ -334,6 +238,7 @@ int main(void)
     long_and_none();
     plan_faults();
     comparisons();
+    bookings();
     printf("door: all checks hold\n");
     return EXIT_SUCCESS;
 }

@@ -1,7 +1,7 @@
 -- The planner's reply (document 01, "The three answers"): to a day, to the contents of a sheet, to its bytes.
 --     shown d o               an outcome of the run as a reply, the benches of a set rising
 --     answerTo d              the reply to a day
---     planContents c          the reply to the contents c, with the faults 7 to 12
+--     planContents c          the reply to the contents c, with the faults 7 to 12 and 14
 --     shortTables c np nl     fault 13: a table of np places or of nl loads is too short for the contents c
 --     answerFor s np nl       the reply to the bytes s, with tables of np and nl entries
 use Prim.Native.Nat.{ℕ}
@@ -28,7 +28,7 @@ shown d (blocked set moves) = noneReply (members (d .benches) set) moves
 abbrev pub answerTo : Day → Reply
 answerTo d = shown d (run d)
 
--- The faults 7 to 12 first.
+-- The faults 7 to 12 and 14 first.
 abbrev pub planContents : Contents → Reply
 planContents c = elim (writerVerdict c) [ Accepted ↦ answerTo (dayOf c) | Refused f ↦ faultReply f ]
 

@@ -3,14 +3,15 @@
 --     plan             a plan as a reply
 --     examples         the table, in the document's order; 9 and 10 have several rows
 --     errorExamples    sheets on which an error in the run would change the answer
+--     bookedRow, bookedExamples    sheets with bookings, on most of which they change the answer (request S-1)
 -- Proved in ExampleLaws.
 use Prim.Native.Nat.{ℕ}
 use mathlib.Core.List.{List, [], _∷_}
 use Rattle.fields.specs.declared.sheet.Head.{Head}
 use Rattle.fields.specs.declared.sheet.Job.{Job}
 use Rattle.fields.specs.Contents.{Contents}
-use Rattle.fields.specs.declared.fault.Fault.the-variants.{Share, HeavyHyperEdge}
-use Rattle.day.specs.SmallSheets.{sheet, bay, first, second, both, outside, three}
+use Rattle.fields.specs.declared.fault.Fault.the-variants.{Share, HeavyHyperEdge, BookedBench}
+use Rattle.day.specs.SmallSheets.{sheet, bookedSheet, bay, first, second, both, outside, three}
 use Rattle.answers.specs.Answers.{Reply, planReply, longReply, noneReply, faultReply}
 
 pub record Example : Type 0 where
@@ -67,4 +68,42 @@ errorExamples =
     -- With PUSH up to the bound, job 3 would be pushed to bench 1, whose load is above (5q − 2p) × T (84 > 81): none,
     -- bench 0, 1 move.
     ∷ row (bay 2 4 7 3) (both 2 ∷ first 3 ∷ first 3 ∷ both 1 ∷ both 2 ∷ []) (noneReply (0 ∷ 1 ∷ []) 0)
+    ∷ []
+
+abbrev pub bookedRow : Head → List ℕ → List Job → Reply → Example
+bookedRow h bs js r = record { contents = bookedSheet h bs js; reply = r }
+
+unfoldable pub bookedExamples : List Example
+bookedExamples =
+    -- Booked minutes alone are a load.
+    bookedRow (bay 2 4 7 9) (0 ∷ 9 ∷ []) [] (plan 9 0 [] (0 ∷ 9 ∷ []))
+    -- A booking above T, at the bound (21 × 13 = 39 × 7), is no reason for long or none. One minute more is above it.
+    ∷ bookedRow (bay 1 4 7 7) (13 ∷ []) [] (plan 13 0 [] (13 ∷ []))
+    ∷ bookedRow (bay 1 4 7 7) (14 ∷ []) [] (noneReply (0 ∷ []) 0)
+    -- Booked minutes and a job up to the bound, and above it.
+    ∷ bookedRow (bay 1 4 7 5) (4 ∷ []) (first 5 ∷ []) (plan 9 0 (0 ∷ []) (9 ∷ []))
+    ∷ bookedRow (bay 1 4 7 5) (5 ∷ []) (first 5 ∷ []) (noneReply (0 ∷ []) 0)
+    -- Long speaks of jobs only.
+    ∷ bookedRow (bay 2 4 7 4) (100 ∷ []) (both 4 ∷ second 5 ∷ []) (longReply 1)
+    -- A booking of heavy size is no heavy job: two more heavy jobs have their benches.
+    ∷ bookedRow (bay 2 4 7 5) (4 ∷ 4 ∷ []) (both 5 ∷ both 5 ∷ []) (plan 9 0 (1 ∷ 0 ∷ []) (9 ∷ 9 ∷ []))
+    -- Fault 12 does not know bookings.
+    ∷ bookedRow (bay 3 4 7 100) (90 ∷ []) (first 7 ∷ three 5 ∷ []) (faultReply (HeavyHyperEdge 1))
+    -- Example 8 with bench 0 booked: a second move.
+    ∷ bookedRow (bay 2 4 7 4) (2 ∷ []) (both 2 ∷ both 2 ∷ both 2 ∷ both 2 ∷ [])
+    (plan 6 2 (1 ∷ 1 ∷ 0 ∷ 0 ∷ []) (6 ∷ 4 ∷ []))
+    -- A booking forces a rock away, which without it would go to bench 1.
+    ∷ bookedRow (bay 2 2 3 1) (0 ∷ 1 ∷ []) (both 1 ∷ []) (plan 1 0 (0 ∷ []) (1 ∷ 1 ∷ []))
+    -- A booking overloads its bench, and stays when the job there has moved.
+    ∷ bookedRow (bay 2 3 4 2) (5 ∷ []) (both 1 ∷ []) (noneReply (0 ∷ []) 1)
+    -- A booking counts in Rule 1.
+    ∷ bookedRow (bay 2 2 3 1) (1 ∷ 1 ∷ []) (both 1 ∷ []) (noneReply (0 ∷ 1 ∷ []) 0)
+    -- A booking counts in PUSH: job 0 may not be pushed to bench 1.
+    ∷ bookedRow (bay 2 42 43 2) (3 ∷ 3 ∷ []) (both 1 ∷ []) (noneReply (0 ∷ 1 ∷ []) 0)
+    -- A booked bench joins a blocking set.
+    ∷ bookedRow (bay 2 2 3 1) (0 ∷ 3 ∷ []) (first 1 ∷ first 1 ∷ []) (noneReply (0 ∷ 1 ∷ []) 0)
+    -- Fault 14, lowest bench first: a bench that the head lacks; minutes too wide. 0 for such a bench is no fault.
+    ∷ bookedRow (bay 2 4 7 5) (1 ∷ 0 ∷ 1 ∷ 1 ∷ []) (both 9 ∷ []) (faultReply (BookedBench 2))
+    ∷ bookedRow (bay 2 4 7 5) (1 ∷ 1048576 ∷ 1 ∷ []) [] (faultReply (BookedBench 1))
+    ∷ bookedRow (bay 1 4 7 5) (0 ∷ 0 ∷ []) [] (plan 0 0 [] (0 ∷ []))
     ∷ []

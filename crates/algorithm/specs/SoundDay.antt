@@ -1,7 +1,7 @@
 -- What the theorems ask of a day.
---     AcceptedDay d         what the faults 7 to 12 leave of a day, whatever its target: the share is between 4/7 and
---                           1,
---                           every job has a bench, and where no job is long a heavy job has at most two benches
+--     AcceptedDay d         what the faults 7 to 12 leave of a day, whatever its target and bookings: the share is
+--                           between 4/7 and 1, every job has a bench, and where no job is long a heavy job has at
+--                           most two benches
 --     SoundDay d            besides, no job is longer than the target
 --     Uncrowded d           no component has more rocks than benches
 --     RockPlacement d pl    pl puts every rock on a bench that it allows, and no two rocks on one bench

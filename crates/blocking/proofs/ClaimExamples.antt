@@ -18,9 +18,9 @@ use Rattle.bits.specs.Bits.{isSet}
 use Rattle.sums.specs.Members.{members}
 use Rattle.closure.specs.Closure.{grow, closure, reach}
 use Rattle.fields.specs.Contents.{Contents}
-use Rattle.fields.specs.Tests.{hyperEdgeVerdict}
-use Rattle.fields.specs.Format.{sheetBytes}
-use Rattle.frame.specs.Writing.{jobsVerdict, writerVerdict}
+use Rattle.fields.specs.Tests.{bookedFaults, hyperEdgeVerdict}
+use Rattle.fields.specs.Format.{bookedFrom, sheetBytes}
+use Rattle.frame.specs.Writing.{jobsVerdict, openingVerdict, writerVerdict}
 use Rattle.frame.specs.Reading.{accepted, readSheet}
 use Rattle.frame.proofs.RoundTrip.{write-read-computed}
 use Rattle.day.specs.Day.{dayOf, longJob}
@@ -61,8 +61,8 @@ abbrev pub loads : List ℕ
 loads = 9 ∷ 9 ∷ 9 ∷ []
 
 pub read-8 : readSheet sheet8 ≡ accepted contents8
-unfolding isSet hyperEdgeVerdict jobsVerdict writerVerdict
-read-8 = write-read-computed contents8 refl refl
+unfolding isSet hyperEdgeVerdict bookedFrom bookedFaults jobsVerdict openingVerdict writerVerdict
+read-8 = write-read-computed contents8 refl refl refl
 
 pub answerable-8 : Answerable sheet8 places loads contents8
 answerable-8 = record { sheet-accepted = read-8; place-to-a-job = omega arith; load-to-a-bench = omega arith }

@@ -28,7 +28,7 @@
 --     short-table-planned     three places for four jobs, planned
 --     short-changes-places, short-changes-loads   that call refused, and a table changed
 use Prim.Native.Nat.{ℕ, zero, suc, _/_, _^_, _≤_, _<_}
-use mathlib.Core.Path.{_≡_, refl, sym, ap}
+use mathlib.Core.Path.{_≡_, refl, ap}
 use mathlib.Core.Logic.{inl, inr}
 use mathlib.Core.Bool.{true}
 use mathlib.Core.List.{List, [], _∷_}
@@ -39,10 +39,10 @@ use Rattle.bits.specs.Bits.{isSet}
 use Rattle.fields.specs.declared.fault.Fault.{Fault}
 use Rattle.fields.specs.declared.fault.Fault.the-variants.{Truncated}
 use Rattle.fields.specs.Contents.{Contents}
-use Rattle.fields.specs.Format.{sheetBytes}
-use Rattle.fields.specs.Tests.{hyperEdgeVerdict}
+use Rattle.fields.specs.Format.{bookedFrom, sheetBytes}
+use Rattle.fields.specs.Tests.{bookedFaults, hyperEdgeVerdict}
 use Rattle.frame.specs.Reading.{accepted, readFrom, readSheet}
-use Rattle.frame.specs.Writing.{jobsVerdict, writerVerdict}
+use Rattle.frame.specs.Writing.{jobsVerdict, openingVerdict, writerVerdict}
 use Rattle.frame.proofs.RoundTrip.{write-read-computed}
 use Rattle.day.specs.Day.{dayOf, heavy, loadOf}
 use Rattle.day.specs.SmallSheets.{sheet, bay, first, second, both}
@@ -54,11 +54,11 @@ use Rattle.answers.specs.declared.answer.LongAnswer.{LongAnswer}
 use Rattle.answers.specs.declared.answer.NoneAnswer.{NoneAnswer}
 use Rattle.blocking.specs.Claim.{Answerable, PlannerClaim}
 use Rattle.blocking.proofs.Claim.{planner-claim, no-fault}
-use Rattle.blocking.proofs.ClaimExamples.{contents8, sheet8, plan8, read-8, planned-8, answer-8, exactPlaces, exactLoads, answerable-exact}
+use Rattle.blocking.proofs.ClaimExamples.{contents8, sheet8, plan8, read-8, answer-8, exactPlaces, exactLoads, answerable-exact}
 use Rattle.blocking.proofs.ClaimExamples.{places, loads, answerable-8}
 
 -- The three answers, by their values.
-abbrev planOf : ℕ → ℕ → PlanAnswer
+abbrev pub planOf : ℕ → ℕ → PlanAnswer
 planOf largest moves = record { largest = largest; moves = moves }
 
 abbrev longOf : ℕ → LongAnswer
@@ -179,8 +179,8 @@ abbrev pub longSheet : List ℕ
 longSheet = sheetBytes longContents
 
 pub long-read : readSheet longSheet ≡ accepted longContents
-unfolding isSet hyperEdgeVerdict jobsVerdict writerVerdict
-long-read = write-read-computed longContents refl refl
+unfolding isSet hyperEdgeVerdict bookedFrom bookedFaults jobsVerdict openingVerdict writerVerdict
+long-read = write-read-computed longContents refl refl refl
 
 abbrev ClaimedLong : Answer → List ℕ → List ℕ → Type 0
 ClaimedLong r places′ loads′ = PlannerClaim longSheet exactLoads (9 ∷ []) r places′ loads′
@@ -215,8 +215,8 @@ abbrev pub fullSheet : List ℕ
 fullSheet = sheetBytes fullContents
 
 pub full-read : readSheet fullSheet ≡ accepted fullContents
-unfolding isSet hyperEdgeVerdict jobsVerdict writerVerdict
-full-read = write-read-computed fullContents refl refl
+unfolding isSet hyperEdgeVerdict bookedFrom bookedFaults jobsVerdict openingVerdict writerVerdict
+full-read = write-read-computed fullContents refl refl refl
 
 abbrev ClaimedNone : ℕ → ℕ → List ℕ → List ℕ → Type 0
 ClaimedNone set moves places′ loads′ = PlannerClaim fullSheet exactPlaces exactLoads (None (noneOf set moves)) places′ loads′
@@ -256,8 +256,8 @@ abbrev pub oneFullSheet : List ℕ
 oneFullSheet = sheetBytes oneFullContents
 
 pub one-full-read : readSheet oneFullSheet ≡ accepted oneFullContents
-unfolding isSet hyperEdgeVerdict jobsVerdict writerVerdict
-one-full-read = write-read-computed oneFullContents refl refl
+unfolding isSet hyperEdgeVerdict bookedFrom bookedFaults jobsVerdict openingVerdict writerVerdict
+one-full-read = write-read-computed oneFullContents refl refl refl
 
 one-full-answerable : Answerable oneFullSheet exactPlaces exactLoads oneFullContents
 one-full-answerable = record { sheet-accepted = one-full-read; place-to-a-job = omega arith; load-to-a-bench = omega arith }

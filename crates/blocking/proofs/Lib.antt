@@ -1,3 +1,4 @@
 pub mod Claim
 pub mod ClaimExamples
 pub mod ClaimRefusals
+pub mod BookedClaim

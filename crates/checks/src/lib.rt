@@ -1,8 +1,9 @@
-// The tests of faults 7 to 12, for the reader and the writer alike.
+// The tests of faults 7 to 12, 14 and 15, for the reader and the writer alike.
 mod hyper_edges;
 mod tests;
 
 pub use hyper_edges::check_hyper_edges;
 pub use hyper_edges::entry;
+pub use tests::check_booking;
 pub use tests::check_head;
 pub use tests::check_job;

@@ -1,11 +1,13 @@
-// The tests of faults 7 to 11, for the reader and the writer alike.
+// The tests of faults 7 to 11, 14 and 15, for the reader and the writer alike.
+use fields::Booking;
 use fields::Fault;
 use fields::Head;
 use fields::Job;
 use fields::Verdict;
 ghost use mathlib.Core.Path.{_≡_};
 ghost use mathlib.Core.Bool.{cond};
-ghost use Rattle.fields.specs.Tests.{firstFault, headFaults, jobFaults, shareFault};
+ghost use Rattle.bits.specs.Bits.{isSet};
+ghost use Rattle.fields.specs.Tests.{firstFault, headFaults, bookingFaults, jobFaults, shareFault};
 
 // Faults 7 and 8.
 pub fn check_head(h: Head, place: usize) -> Verdict
@@ -41,6 +43,22 @@ fn check_share(h: Head, place: usize) -> Verdict
     }
     if h.q <= h.p {
         return Verdict::Refused(Fault::Share(place));
+    }
+    Verdict::Accepted
+}
+
+// Faults 14 and 15 for a booking; the set `had` has the benches of the booking frames before it.
+pub fn check_booking(benches: u64, had: usize, b: Booking, place: usize) -> Verdict
+    ensures { λ r. ⌜ r ≡ firstFault (bookingFaults benches (isSet 64 had) b place) ⌝ }
+{
+    if benches <= b.bench as u64 {
+        return Verdict::Refused(Fault::BookedBench(place));
+    }
+    if 1048576 <= b.minutes {
+        return Verdict::Refused(Fault::BookedBench(place));
+    }
+    if sets::has(had, b.bench) {
+        return Verdict::Refused(Fault::BookedTwice(place));
     }
     Verdict::Accepted
 }

@@ -111,7 +111,8 @@ eqb-plus n a b = bool-ext (eqb a b) (eqb (n + a) (n + b)) (λ p. omega tests) (�
 
 -- ── a sound sheet ──
 
-module _ (c : Contents) (benches jobs : ℕ) (minutes allowed : List ℕ) (T : Tables c benches jobs minutes allowed) where
+module _ (c : Contents) (benches : ℕ) (booked : List ℕ) (jobs : ℕ) (minutes allowed : List ℕ)
+    (T : Tables c benches booked jobs minutes allowed) where
   abbrev d : Day
   d = dayOf c
 
@@ -218,11 +219,11 @@ module _ (s first second : List ℕ) where
   refused-is e a = rw (verdict-refused (readSheet s) e a, comparePlans)
 
   pub accepted-is : (x : Reading) {r : Compared} → x ≡ stored (readSheet s) → x .verdict ≡ Accepted
-      → ((c : Contents)
-      → Tables c (x .sheet .head .benches) (x .sheet .count) (x .sheet .minutes) (x .sheet .allowed)
+      → ((c : Contents) (booked : List ℕ)
+      → Tables c (x .sheet .head .benches) booked (x .sheet .count) (x .sheet .minutes) (x .sheet .allowed)
       → r ≡ comparedOf (dayOf c) first second)
       → r ≡ comparePlans s first second
   unfolding comparePlans
   accepted-is x e a told =
       let (c, read, same) = verdict-accepted (readSheet s) x e a in
-      rw (read, comparePlans) (told c (tables-of s c (x .sheet) read same))
+      rw (read, comparePlans) (told c (x .sheet .booked) (tables-of s c (x .sheet) read same))

@@ -13,9 +13,9 @@ use mathlib.Core.List.{List, [], _∷_}
 use Rattle.bits.specs.Bits.{isSet}
 use Rattle.fields.specs.declared.fault.Fault.the-variants.{Table}
 use Rattle.fields.specs.Contents.{Contents}
-use Rattle.fields.specs.Tests.{hyperEdgeVerdict}
-use Rattle.fields.specs.Format.{sheetBytes}
-use Rattle.frame.specs.Writing.{jobsVerdict, writerVerdict}
+use Rattle.fields.specs.Tests.{bookedFaults, hyperEdgeVerdict}
+use Rattle.fields.specs.Format.{bookedFrom, sheetBytes}
+use Rattle.frame.specs.Writing.{jobsVerdict, openingVerdict, writerVerdict}
 use Rattle.frame.specs.Reading.{accepted, readSheet}
 use Rattle.frame.proofs.RoundTrip.{write-read-computed}
 use Rattle.day.specs.SmallSheets.{sheet, bay, second, both}
@@ -29,8 +29,8 @@ abbrev bytes : List ℕ
 bytes = sheetBytes two-jobs
 
 pub read : readSheet bytes ≡ accepted two-jobs
-unfolding isSet hyperEdgeVerdict jobsVerdict writerVerdict
-read = write-read-computed two-jobs refl refl
+unfolding isSet hyperEdgeVerdict bookedFrom bookedFaults jobsVerdict openingVerdict writerVerdict
+read = write-read-computed two-jobs refl refl refl
 
 pub swapped-same : comparePlans bytes (0 ∷ 1 ∷ []) (1 ∷ 0 ∷ []) ≡ Same
 unfolding comparePlans isSet
@@ -78,8 +78,8 @@ abbrev one-job : Contents
 one-job = sheet (bay 2 4 7 9) (second 5 ∷ [])
 
 pub read-one-job : readSheet (sheetBytes one-job) ≡ accepted one-job
-unfolding isSet hyperEdgeVerdict jobsVerdict writerVerdict
-read-one-job = write-read-computed one-job refl refl
+unfolding isSet hyperEdgeVerdict bookedFrom bookedFaults jobsVerdict openingVerdict writerVerdict
+read-one-job = write-read-computed one-job refl refl refl
 
 pub not-allowed-first : comparePlans (sheetBytes one-job) (0 ∷ []) (1 ∷ []) ≡ ComparedFault (Table 0)
 unfolding comparePlans isSet

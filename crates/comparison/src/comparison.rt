@@ -3,7 +3,8 @@ use crate::compared::Compared;
 use frame::Fault;
 use frame::Verdict;
 ghost use mathlib.Core.Path.{_≡_};
-ghost use Prim.Native.Nat.{_≤_};
+ghost use Prim.Native.Nat.{ℕ, _≤_};
+ghost use mathlib.Core.List.{List};
 ghost use lib.ListN.{getD};
 ghost use lib.Dec.{eqb};
 ghost use Rattle.sums.specs.Search.{all};
@@ -99,7 +100,8 @@ fn compare_lists<'a>(
     first: &'a [u64],
     second: &'a [u64],
 ) -> Compared
-    ensures { λ r. ⌜ ((c : Contents) → Tables c benches jobs (now (minutes .entry)) (now (allowed .entry))
+    ensures { λ r. ⌜ ((c : Contents) → (booked : List ℕ)
+        → Tables c benches booked jobs (now (minutes .entry)) (now (allowed .entry))
         → r ≡ comparedOf (dayOf c) (now (first .entry)) (now (second .entry))) ⌝ }
 {
     if !gives_each(jobs, allowed, first) {

@@ -3,15 +3,17 @@
 --     heavy-at-limit, heavy-above         q × minutes = p × T is light, more is heavy
 --     long-above, not-long-at-target      a job above T
 --     load-of-three, booked-load          a load; booked minutes are part of it
+--     booked-of-sheet                     the booked minutes of a sheet: its entries, and 0 past them
+--     booked-light, booked-not-long, booked-moves     heavy, long and the bound of moves do not know bookings
 --     bound-within, bound-above, load-at-bound    the demand's bound
 --     bound-of-moves                      benches × light jobs that have a choice
-use Prim.Native.Nat.{ℕ, _*_, _-_, _/_}
+use Prim.Native.Nat.{ℕ, _-_, _/_}
 use mathlib.Core.Path.{_≡_, refl}
 use mathlib.Core.Bool.{true, false}
-use mathlib.Core.List.{List, [], _∷_}
+use mathlib.Core.List.{[], _∷_}
 use Rattle.bits.specs.Bits.{isSet}
 use Rattle.day.specs.Day.{Day, heavy, loadOf, withinBound, tooLong, moveBound}
-use Rattle.day.specs.SmallSheets.{dayWith, bay, first, both, three, last, withBooked}
+use Rattle.day.specs.SmallSheets.{dayWith, bookedDay, bay, first, both, three, last}
 
 -- ── jobs ──
 
@@ -71,10 +73,22 @@ bound-above = refl
 pub load-at-bound : withinBound (dayWith (bay 2 4 7 9) []) 15 ≡ true
 load-at-bound = refl
 
--- With 3 minutes booked on bench 0.
-pub booked-load : (loadOf (withBooked three-jobs (λ v. 3 - 3 * v)) split 0 ≡ 8)
-    × (loadOf (withBooked three-jobs (λ v. 3 - 3 * v)) split 1 ≡ 10)
+-- The same with 3 minutes booked on bench 0.
+abbrev three-booked : Day
+three-booked = bookedDay (bay 2 4 7 10) (3 ∷ []) (both 5 ∷ both 5 ∷ both 5 ∷ [])
+
+pub booked-load : (loadOf three-booked split 0 ≡ 8) × (loadOf three-booked split 1 ≡ 10)
 booked-load = (refl, refl)
+
+pub booked-of-sheet : (three-booked .booked 0 ≡ 3) × (three-booked .booked 1 ≡ 0) × (three-booked .booked 64 ≡ 0)
+booked-of-sheet = (refl, refl, refl)
+
+-- Booked minutes "are never a heavy job": 7 × 4 is not above 4 × 7, whatever is booked on the job's bench.
+pub booked-light : heavy (bookedDay (bay 1 4 7 7) (9 ∷ []) (first 4 ∷ [])) 0 ≡ false
+booked-light = refl
+
+pub booked-not-long : tooLong (bookedDay (bay 1 4 7 5) (9 ∷ []) (first 5 ∷ [])) 0 ≡ false
+booked-not-long = refl
 
 -- ── moves ──
 
@@ -82,3 +96,9 @@ booked-load = (refl, refl)
 pub bound-of-moves : moveBound (dayWith (bay 3 4 7 7) (three 4 ∷ both 5 ∷ first 2 ∷ both 2 ∷ [])) ≡ 6
 unfolding isSet
 bound-of-moves = refl
+
+-- Bookings on all three benches change nothing in it.
+pub booked-moves :
+    moveBound (bookedDay (bay 3 4 7 7) (4 ∷ 5 ∷ 2 ∷ []) (three 4 ∷ both 5 ∷ first 2 ∷ both 2 ∷ [])) ≡ 6
+unfolding isSet
+booked-moves = refl

@@ -1,7 +1,7 @@
 -- A day to plan: what the contents of a sheet mean, and the words that the run and the demand share (document 01, "The
 -- three answers" and "The run").
---     Day                 benches, jobs, the share p / q and the target T; minutes and allowed benches of each job;
---                         booked minutes of each bench
+--     Day                 benches, the share p / q and the target T; booked minutes of each bench; jobs, with the
+--                         minutes and allowed benches of each
 --     dayOf c             the day of the contents c of a sheet
 --     choices d j         how many benches job j may go to
 --     heavy, light        the two kinds of jobs
@@ -21,32 +21,32 @@ use lib.Dec.{eqb, leb, ltb}
 use Rattle.sums.specs.Sum.{on, sum, count, largest}
 use Rattle.sums.specs.Search.{least}
 use Rattle.sums.specs.Table.{table}
-use Rattle.fields.specs.Contents.{Contents}
+use Rattle.fields.specs.Contents.{Contents, bookedAt}
 use Rattle.fields.specs.Format.{allows as allowsBench}
 use Rattle.fields.specs.Tests.{jobAt}
 
 pub record Day : Type 0 where
   pub benches : ℕ
-  pub jobs : ℕ
   pub p : ℕ
   pub q : ℕ
   pub target : ℕ
+  pub booked : ℕ → ℕ
+  pub jobs : ℕ
   pub minutes : ℕ → ℕ
   pub allows : ℕ → ℕ → Bool
-  pub booked : ℕ → ℕ
 
--- "benches allowed (64, the first bit is bench 0)", of the benches that the head has. A sheet books no minutes.
+-- "benches allowed (64, the first bit is bench 0)", of the benches that the head has.
 abbrev pub dayOf : Contents → Day
 dayOf c =
     record {
       benches = c .head .benches;
-      jobs = length (c .jobs);
       p = c .head .p;
       q = c .head .q;
       target = c .head .target;
+      booked = bookedAt (c .booked);
+      jobs = length (c .jobs);
       minutes = λ j. jobAt (c .jobs) j .minutes;
       allows = λ j v. ltb v (c .head .benches) && allowsBench (jobAt (c .jobs) j) v;
-      booked = λ v. 0;
     }
 
 -- ── jobs ──
@@ -71,7 +71,8 @@ pebble d j = light d j && leb 2 (choices d j)
 abbrev pub placeIn : List ℕ → ℕ → ℕ
 placeIn places j = getD places j 0
 
--- "A bench's load under it is the sum of the minutes of the jobs put there." Booked minutes count too.
+-- "A bench's load under it is the sum of the minutes of the jobs put there." Request S-1: booked minutes "count in
+-- loads, in the bound".
 abbrev pub loadOf : Day → (ℕ → ℕ) → ℕ → ℕ
 loadOf d a v = d .booked v + sum (d .jobs) (λ j. on (eqb (a j) v) (d .minutes j))
 

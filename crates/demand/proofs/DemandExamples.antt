@@ -3,13 +3,15 @@
 --     assigned, not-assigned              each job on one of its benches
 --     kept-at-target, not-kept-above      every bench within T
 --     over-above, not-over-at-target      some bench above T
+--     booked-not-kept, booked-over        the rival is bound by bookings: a minute booked puts a bench above T
 --     light-outside, rival-of-three       a light job does not weigh inside a set that lacks one of its benches
 --     heavy-elsewhere                     a heavy job does not weigh inside a set that it is placed outside of
 --     weight-at-target, weight-above      k × T does not block, one minute more does
 --     booked-weight                       so does a minute that is booked on a bench of the set
+--     placed-where-booked                 a heavy job is placed on a bench that is booked for as long
 --     unplaceable-blocks                  two heavy jobs of one bench: no placement, so every bench blocks
 --     empty-blocks-not                    but the empty set does not
-use Prim.Native.Nat.{ℕ, zero, suc, _-_, _/_, _≤_, _<_}
+use Prim.Native.Nat.{ℕ, _-_, zero, suc, _/_, _≤_, _<_}
 use mathlib.Core.Path.{_≡_, refl, sym, _∙_}
 use mathlib.Core.Bool.{true, false}
 use mathlib.Core.List.{List, [], _∷_}
@@ -20,9 +22,9 @@ use Rattle.bools.proofs.BoolLaws.{clash, and-left}
 use Rattle.bits.specs.Bits.{isSet}
 use Rattle.fields.specs.declared.sheet.Job.{Job}
 use Rattle.day.specs.Day.{heavy, loadOf}
-use Rattle.day.specs.SmallSheets.{dayWith, bay, first, second, both, withBooked}
+use Rattle.day.specs.SmallSheets.{dayWith, bookedDay, bay, first, second, both}
 use Rattle.demand.specs.Demand.{isAssignment, Assignment, keepsTarget, SomeOver}
-use Rattle.demand.specs.Demand.{Placement, weightInside, Blocking, EachFits}
+use Rattle.demand.specs.Demand.{placeable, Placement, weightInside, Blocking, EachFits}
 
 -- ── jobs ──
 
@@ -71,6 +73,13 @@ not-over-at-target (v, l, over) = omega (arith, at-most v l, over)
     at-most (suc zero) l = omega arith
     at-most (suc (suc v)) l = absurd (omega arith)
 
+-- With a minute booked on bench 1 the loads are 5 and 11.
+pub booked-not-kept : keepsTarget (bookedDay (bay 2 4 7 10) (0 ∷ 1 ∷ []) threeJobs) split ≡ false
+booked-not-kept = refl
+
+pub booked-over : SomeOver (bookedDay (bay 2 4 7 10) (0 ∷ 1 ∷ []) threeJobs) split
+booked-over = (1, omega arith, omega arith)
+
 -- ── placements and blocking sets ──
 
 -- With T = 10 the three jobs are light: 35 is not above 40. Counted as inside {0} or {1}, they would weigh 15 > 10 there.
@@ -93,7 +102,7 @@ heavy-elsewhere blocks = omega (arith, blocks .heavier (λ j. 1 - j) placed)
     placed : Placement (dayWith (bay 2 4 7 5) oneHeavy) (λ j. 1 - j)
     placed = record { on-allowed = on-bench-1; one-to-a-bench = λ e f le lf he hf same. omega arith }
       where
-        on-bench-1 : (j : ℕ) → j < 2 → heavy (dayWith (bay 2 4 7 5) oneHeavy) j ≡ true → dayWith (bay 2 4 7 5) oneHeavy .allows j (1 - j) ≡ true
+        on-bench-1 : (j : ℕ) → j < 2 → heavy (dayWith (bay 2 4 7 5) oneHeavy) j ≡ true → placeable (dayWith (bay 2 4 7 5) oneHeavy) j (1 - j) ≡ true
         on-bench-1 zero l heavy = refl
         on-bench-1 (suc zero) l heavy = refl
         on-bench-1 (suc (suc j)) l heavy = absurd (omega arith)
@@ -110,7 +119,7 @@ weight-at-target blocks = omega (arith, blocks .heavier (λ j. j) placed)
     placed : Placement (dayWith (bay 2 4 7 5) (fullBay 0)) (λ j. j)
     placed = record { on-allowed = own-bench; one-to-a-bench = λ e f le lf he hf same. omega arith }
       where
-        own-bench : (j : ℕ) → j < 4 → heavy (dayWith (bay 2 4 7 5) (fullBay 0)) j ≡ true → dayWith (bay 2 4 7 5) (fullBay 0) .allows j j ≡ true
+        own-bench : (j : ℕ) → j < 4 → heavy (dayWith (bay 2 4 7 5) (fullBay 0)) j ≡ true → placeable (dayWith (bay 2 4 7 5) (fullBay 0)) j j ≡ true
         own-bench zero l heavy = refl
         own-bench (suc zero) l heavy = refl
         own-bench (suc (suc zero)) l heavy = clash heavy refl
@@ -122,9 +131,23 @@ unfolding isSet
 weight-above = record { some-bench = omega arith; heavier = λ place placed. omega arith }
 
 -- With a minute booked on bench 1 in place of the last job's.
-pub booked-weight : Blocking (withBooked (dayWith (bay 2 4 7 5) (fullBay 0)) (λ v. v)) (λ v. true)
+pub booked-weight : Blocking (bookedDay (bay 2 4 7 5) (0 ∷ 1 ∷ []) (fullBay 0)) (λ v. true)
 unfolding isSet
 booked-weight = record { some-bench = omega arith; heavier = λ place placed. omega arith }
+
+-- Booked minutes "are never a heavy job": with 4 minutes booked on each bench the heavy jobs of 4 are placed as before.
+abbrev heavyPair : List Job
+heavyPair = first 4 ∷ second 4 ∷ []
+
+pub placed-where-booked : Placement (bookedDay (bay 2 4 7 5) (4 ∷ 4 ∷ []) heavyPair) (λ j. j)
+unfolding isSet
+placed-where-booked = record { on-allowed = own-bench; one-to-a-bench = λ e f le lf he hf same. same }
+  where
+    own-bench : (j : ℕ) → j < 2 → heavy (bookedDay (bay 2 4 7 5) (4 ∷ 4 ∷ []) heavyPair) j ≡ true
+        → placeable (bookedDay (bay 2 4 7 5) (4 ∷ 4 ∷ []) heavyPair) j j ≡ true
+    own-bench zero l heavy = refl
+    own-bench (suc zero) l heavy = refl
+    own-bench (suc (suc j)) l heavy = absurd (omega arith)
 
 -- Two heavy jobs of 4 on bench 0: "Where no placement exists every non-empty set is blocking", bench 1 too.
 abbrev twoOnOne : List Job

@@ -5,6 +5,7 @@
 --     withinTarget d n        the load n is at most the target
 --     keepsTarget, keepsBound     every bench of an assignment is within the target; within the demand's bound
 --     SomeOver d a            the assignment a leaves some bench above the target
+--     placeable d j v         bench v may take the heavy job j
 --     Placement               each heavy job on an allowed bench, no bench taking two
 --     keptInside d set j v    job j may not go to v, or v is in the set
 --     liesInside d set j      all allowed benches of job j lie in the set
@@ -47,9 +48,13 @@ SomeOver d a = (v : ℕ) × (v < d .benches) × (d .target < loadOf d a v)
 
 -- ── placements and blocking sets ──
 
+-- Any allowed bench, whatever is booked there: booked minutes "are never a heavy job".
+abbrev pub placeable : Day → ℕ → ℕ → Bool
+placeable d j v = d .allows j v
+
 -- "A placement puts each heavy job on an allowed bench, no bench taking two."
 pub record Placement (d : Day) (place : ℕ → ℕ) : Type 0 where
-  pub on-allowed : (j : ℕ) → j < d .jobs → heavy d j ≡ true → d .allows j (place j) ≡ true
+  pub on-allowed : (j : ℕ) → j < d .jobs → heavy d j ≡ true → placeable d j (place j) ≡ true
   pub one-to-a-bench : (e f : ℕ) → e < d .jobs → f < d .jobs
       → heavy d e ≡ true → heavy d f ≡ true → place e ≡ place f → e ≡ f
 
@@ -61,8 +66,8 @@ keptInside d set j v = not (d .allows j v) || set v
 abbrev pub liesInside : Day → (ℕ → Bool) → ℕ → Bool
 liesInside d set j = all (d .benches) (keptInside d set j)
 
--- "the heavy jobs placed inside it, plus all light jobs whose benches all lie inside it"; and what is booked on its
--- benches.
+-- "the heavy jobs placed inside it, plus all light jobs whose benches all lie inside it"; request S-1: booked minutes
+-- count "in a blocking set that holds the bench".
 abbrev pub weightInside : Day → (ℕ → ℕ) → (ℕ → Bool) → ℕ
 weightInside d place set =
     sum (d .benches) (λ v. on (set v) (d .booked v))

@@ -71,14 +71,19 @@ module _ (c : Contents) (sound : SoundSheet c) where
         (and-left (ltb (getD ps j 0) (c .head .benches)) (allowsBench (jobAt (c .jobs) j) (getD ps j 0)) here) in
         omega (arith, sound .head .at-most-64-benches)
 
-    -- Each job has fewer than 2 ^ 20 minutes, and there are at most 512.
+    -- Each job has fewer than 2 ^ 20 minutes, and there are at most 512; a booking has fewer than 2 ^ 20 too.
     load-fits : Fit ls
     load-fits v l =
         let there : ℕ → ℕ = λ j. on (eqb (placeIn ps j) v) (jobAt (c .jobs) j .minutes) in
         let short : (j : ℕ) → j < length (c .jobs) → there j ≤ 1048576 =
         λ j h. omega (arith, on-le (eqb (placeIn ps j) v) (jobAt (c .jobs) j .minutes), sound .jobs j h .minutes-fit) in
         let placed = sum-bound (length (c .jobs)) 1048576 there short in
-        omega (arith, right .its-loads v (omega (arith, right .one-to-a-bench)), sound .at-most-512-jobs)
+        omega (
+          arith,
+          right .its-loads v (omega (arith, right .one-to-a-bench)),
+          sound .at-most-512-jobs,
+          sound .bookings .booked-fit v,
+        )
 
     largest-fits : p .largest < 2 ^ 64
     largest-fits =

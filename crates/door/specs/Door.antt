@@ -1,6 +1,6 @@
 -- What writing takes from C callers and gives back (the header yinqocha.h says the same in words).
 --     headOf            the head fields, handed over as plain numbers
---     contentsIn        what the writer is given: a head, and the jobs of two tables
+--     contentsIn        what the writer is given: a head, a table of bookings, and the jobs of two tables
 --     writtenWord w     what writing returns: the length, or the fault
 use Prim.Native.Nat.{ℕ}
 use mathlib.Core.List.{List}
@@ -15,9 +15,9 @@ use Rattle.tables.specs.Words.{faultWord}
 abbrev pub headOf : ℕ → ℕ → ℕ → ℕ → Head
 headOf benches p q target = record { benches = benches; p = p; q = q; target = target }
 
--- The jobs of two tables: minutes, and benches allowed.
-abbrev pub contentsIn : Head → List ℕ → List ℕ → Contents
-contentsIn h minutes allowed = contentsOf h (numbersOf minutes) (numbersOf allowed)
+-- Booked minutes by bench; the jobs of two tables: minutes, and benches allowed.
+abbrev pub contentsIn : Head → List ℕ → List ℕ → List ℕ → Contents
+contentsIn h booked minutes allowed = contentsOf h (numbersOf booked) (numbersOf minutes) (numbersOf allowed)
 
 abbrev pub writtenWord : Written → ℕ
 writtenWord (Length n) = n

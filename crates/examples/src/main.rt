@@ -70,6 +70,8 @@ fn one_less(n: usize) -> usize
 
 // Writes the sheet of example 5, and prints its frames.
 fn show_written() {
+    // Nothing is booked.
+    let booked = [0u64; 2];
     let minutes = [5u64; 3];
     // Benches 0 and 1: the bits of weight 2 ^ 63 and 2 ^ 62.
     let allowed = [0xC000000000000000u64; 3];
@@ -81,6 +83,7 @@ fn show_written() {
             q: 7,
             target: 9,
         },
+        &booked,
         &minutes,
         &allowed,
         &mut out,

@@ -1,10 +1,19 @@
--- The numbers of the faults are 1 to 13.
+-- The numbers of the faults are 1 to 15.
 --     number-positive, number-small
-use Prim.Native.Nat.{_≤_, _<_}
+--     booking-numbers     the tests of a booking are 14 and 15, in this order, each with the place that they are given
+use Prim.Native.Nat.{ℕ, _≤_, _<_}
+use mathlib.Core.Path.{_≡_, refl}
+use mathlib.Core.Bool.{Bool}
+use mathlib.Core.List.{[], _∷_, map}
 use native.Mathlib.Omega.{arith}
 use Rattle.fields.specs.declared.fault.Fault.{Fault}
-use Rattle.fields.specs.declared.fault.Fault.the-variants.{TooLong, Truncated, UnknownKind, Misplaced, WrongLength, SpareBit, BenchCount, Share, JobCount, Minutes, Allowed, HeavyHyperEdge, Table}
-use Rattle.fields.specs.Numbers.{numberOf}
+use Rattle.fields.specs.declared.fault.Fault.the-variants.{TooLong, Truncated, UnknownKind, Misplaced}
+use Rattle.fields.specs.declared.fault.Fault.the-variants.{WrongLength, SpareBit, BenchCount, Share, JobCount}
+use Rattle.fields.specs.declared.fault.Fault.the-variants.{Minutes, Allowed, HeavyHyperEdge, Table}
+use Rattle.fields.specs.declared.fault.Fault.the-variants.{BookedBench, BookedTwice}
+use Rattle.fields.specs.declared.sheet.Booking.{Booking}
+use Rattle.fields.specs.Numbers.{numberOf, placeOf}
+use Rattle.fields.specs.Tests.{Test, bookingFaults}
 
 pub number-positive : (f : Fault) → 0 < numberOf f
 number-positive TooLong = omega arith
@@ -20,8 +29,10 @@ number-positive (Minutes at) = omega arith
 number-positive (Allowed at) = omega arith
 number-positive (HeavyHyperEdge job) = omega arith
 number-positive (Table at) = omega arith
+number-positive (BookedBench at) = omega arith
+number-positive (BookedTwice at) = omega arith
 
-pub number-small : (f : Fault) → numberOf f ≤ 13
+pub number-small : (f : Fault) → numberOf f ≤ 15
 number-small TooLong = omega arith
 number-small (Truncated at) = omega arith
 number-small (UnknownKind at) = omega arith
@@ -35,3 +46,10 @@ number-small (Minutes at) = omega arith
 number-small (Allowed at) = omega arith
 number-small (HeavyHyperEdge job) = omega arith
 number-small (Table at) = omega arith
+number-small (BookedBench at) = omega arith
+number-small (BookedTwice at) = omega arith
+
+module _ (m : ℕ) (had : ℕ → Bool) (b : Booking) (at : ℕ) where
+  pub booking-numbers : (map (λ (t : Test). numberOf (t .fault)) (bookingFaults m had b at) ≡ 14 ∷ 15 ∷ [])
+      × (map (λ (t : Test). placeOf (t .fault)) (bookingFaults m had b at) ≡ at ∷ at ∷ [])
+  booking-numbers = (refl, refl)

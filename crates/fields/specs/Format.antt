@@ -1,20 +1,22 @@
 -- The format of a sheet (document 01, "The sheet"): frames, and the fields of each kind. Reader and writer use the same
 -- layouts.
 --     ours                        the version that is read; frames of any other are skipped
---     headKind, jobKind, endKind  the kinds of version 1
+--     headKind, jobKind, endKind, bookingKind     the kinds of version 1
 --     headerLayout            widths of the header's packed fields, in bits, in order
---     headLayout, jobLayout, endLayout   the same for the body of each kind; layoutOf kind: one of the three
+--     headLayout, jobLayout, endLayout, bookingLayout     the same for the body of each kind; layoutOf: one of these
 --     headerSize                  bytes of a frame header
 --     versionOf, kindOf, lengthOf     the header's fields, of the bytes from the frame's first on
 --     frameSize                   bytes of the whole frame
 --     bodyOf                      the frame's body
 --     bodyLength kind             the body length that a kind must have
---     headOf, jobOf               what a body holds
+--     headOf, jobOf, bookingOf    what a body holds
 --     spareOf kind body           the spare bits, as a number
 --     allows job b                whether the job may run on bench b
 --     frameBytes kind body        a frame of version 1
---     headFrame, jobFrame, endFrame, sheetBytes c  what the writer gives
-use Prim.Native.Nat.{ℕ, _+_, _/_}
+--     headFrame, bookingFrame, jobFrame, endFrame   the frame of each kind
+--     bookedFrom b bs, bookings bs    the bookings above 0 of a table, by rising bench: those from bench b on; all
+--     bookingFrames, jobFrames, sheetBytes c        what the writer gives
+use Prim.Native.Nat.{ℕ, suc, _+_, _/_}
 use mathlib.Core.Bool.{Bool, cond}
 use mathlib.Core.List.{List, [], _∷_, _++_}
 use lib.ListN.{length, take, drop}
@@ -22,6 +24,7 @@ use lib.Dec.{eqb}
 use Rattle.bits.specs.Bits.{isSet}
 use Rattle.bits.specs.Layout.{total, field, packed}
 use Rattle.fields.specs.declared.sheet.Head.{Head}
+use Rattle.fields.specs.declared.sheet.Booking.{Booking}
 use Rattle.fields.specs.declared.sheet.Job.{Job}
 use Rattle.fields.specs.Contents.{Contents}
 
@@ -37,6 +40,10 @@ jobKind = 2
 
 abbrev pub endKind : ℕ
 endKind = 3
+
+-- Request S-1: "Kind 4 in version 1 carries them"
+abbrev pub bookingKind : ℕ
+bookingKind = 4
 
 -- "A frame header has 24 bits: version (4), kind (4), body length in bytes (16)."
 abbrev pub headerLayout : List ℕ
@@ -54,8 +61,15 @@ jobLayout = 20 ∷ 64 ∷ 4 ∷ []
 abbrev pub endLayout : List ℕ
 endLayout = []
 
+-- Request S-1: "4 bytes: bench (6 bits), booked minutes (20), 6 spare bits"
+abbrev pub bookingLayout : List ℕ
+bookingLayout = 6 ∷ 20 ∷ 6 ∷ []
+
 abbrev pub layoutOf : ℕ → List ℕ
-layoutOf kind = cond (eqb kind headKind) headLayout (cond (eqb kind jobKind) jobLayout endLayout)
+layoutOf kind =
+    cond (eqb kind headKind) headLayout
+    (cond (eqb kind jobKind) jobLayout
+    (cond (eqb kind bookingKind) bookingLayout endLayout))
 
 abbrev pub headerSize : ℕ
 headerSize = total headerLayout / 8
@@ -91,9 +105,14 @@ headOf body =
 abbrev pub jobOf : List ℕ → Job
 jobOf body = record { minutes = field jobLayout 0 body; allowed = field jobLayout 1 body }
 
+abbrev pub bookingOf : List ℕ → Booking
+bookingOf body = record { bench = field bookingLayout 0 body; minutes = field bookingLayout 1 body }
+
 abbrev pub spareOf : ℕ → List ℕ → ℕ
 spareOf kind body =
-    cond (eqb kind headKind) (field headLayout 4 body) (cond (eqb kind jobKind) (field jobLayout 2 body) 0)
+    cond (eqb kind headKind) (field headLayout 4 body)
+    (cond (eqb kind jobKind) (field jobLayout 2 body)
+    (cond (eqb kind bookingKind) (field bookingLayout 2 body) 0))
 
 -- "the first bit is bench 0"
 abbrev pub allows : Job → ℕ → Bool
@@ -105,16 +124,32 @@ frameBytes kind body = packed headerLayout (ours ∷ kind ∷ length body ∷ []
 abbrev pub headFrame : Head → List ℕ
 headFrame h = frameBytes headKind (packed headLayout (h .benches ∷ h .p ∷ h .q ∷ h .target ∷ 0 ∷ []))
 
+abbrev pub bookingFrame : Booking → List ℕ
+bookingFrame b = frameBytes bookingKind (packed bookingLayout (b .bench ∷ b .minutes ∷ 0 ∷ []))
+
 abbrev pub jobFrame : Job → List ℕ
 jobFrame j = frameBytes jobKind (packed jobLayout (j .minutes ∷ j .allowed ∷ 0 ∷ []))
 
 abbrev pub endFrame : List ℕ
 endFrame = frameBytes endKind (packed endLayout [])
 
+-- Request S-1: "the writer gives the non-zero ones by rising bench"
+unfoldable pub bookedFrom : ℕ → List ℕ → List Booking
+bookedFrom b [] = []
+bookedFrom b (n ∷ ns) =
+    cond (eqb n 0) (bookedFrom (suc b) ns) (record { bench = b; minutes = n } ∷ bookedFrom (suc b) ns)
+
+abbrev pub bookings : List ℕ → List Booking
+bookings bs = bookedFrom 0 bs
+
+unfoldable pub bookingFrames : List Booking → List ℕ
+bookingFrames [] = []
+bookingFrames (b ∷ bs) = bookingFrame b ++ bookingFrames bs
+
 unfoldable pub jobFrames : List Job → List ℕ
 jobFrames [] = []
 jobFrames (j ∷ js) = jobFrame j ++ jobFrames js
 
--- "The writer gives the head, the jobs in order, and the end, all version 1."
+-- "The writer gives the head, the jobs in order, and the end, all version 1." Bookings stand between head and jobs.
 abbrev pub sheetBytes : Contents → List ℕ
-sheetBytes c = headFrame (c .head) ++ jobFrames (c .jobs) ++ endFrame
+sheetBytes c = headFrame (c .head) ++ bookingFrames (bookings (c .booked)) ++ jobFrames (c .jobs) ++ endFrame

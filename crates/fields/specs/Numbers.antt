@@ -1,22 +1,24 @@
 -- The number and the place of each fault (document 01, "Faults, in checking order"): one definition for every case of
 -- the program's enum, used by all contracts. A number that is added later is a new case.
 --     numberOf f     the number that users see
---     placeOf f      the place that users see: the frame's first byte, the sheet's length, a job's number, or 0
+--     placeOf f      the place that users see: the frame's first byte, the sheet's length, the number of a job or of a
+--                    bench, or 0
 use Prim.Native.Nat.{ℕ}
 use Rattle.fields.specs.declared.fault.Fault.{Fault}
 use Rattle.fields.specs.declared.fault.Fault.the-variants.{TooLong, Truncated, UnknownKind}
 use Rattle.fields.specs.declared.fault.Fault.the-variants.{Misplaced, WrongLength, SpareBit, BenchCount}
 use Rattle.fields.specs.declared.fault.Fault.the-variants.{Share, JobCount, Minutes, Allowed}
-use Rattle.fields.specs.declared.fault.Fault.the-variants.{HeavyHyperEdge, Table}
+use Rattle.fields.specs.declared.fault.Fault.the-variants.{HeavyHyperEdge, Table, BookedBench, BookedTwice}
 
 abbrev pub numberOf : Fault → ℕ
 -- "The sheet is longer than 65,536 bytes (place 0)."
 numberOf TooLong = 1
 -- "The sheet ends inside a frame of any version (place: that frame), or its frames are over and none was an end frame."
 numberOf (Truncated at) = 2
--- "A version 1 frame has a kind other than 1, 2, 3."
+-- "A version 1 frame has a kind other than 1, 2, 3." Kind 4 leaves it (request S-1).
 numberOf (UnknownKind at) = 3
 -- "A version 1 frame is out of its place: a job or end before the head, a second head, or any after the end."
+-- Bookings stand after the head and before the first job.
 numberOf (Misplaced at) = 4
 -- "The body length is not that of its kind."
 numberOf (WrongLength at) = 5
@@ -37,6 +39,11 @@ numberOf (HeavyHyperEdge job) = 12
 -- "The table of places is shorter than the jobs, or the table of loads shorter than the benches (place 0)"; the
 -- output does not fit.
 numberOf (Table at) = 13
+-- Request S-1: "number 14 says that the bench is not in the head or, from the writer, that the minutes are too wide
+-- for the field"
+numberOf (BookedBench at) = 14
+-- "then number 15 that the bench already had a booking frame"
+numberOf (BookedTwice at) = 15
 
 abbrev pub placeOf : Fault → ℕ
 placeOf TooLong = 0
@@ -52,3 +59,5 @@ placeOf (Minutes at) = at
 placeOf (Allowed at) = at
 placeOf (HeavyHyperEdge job) = job
 placeOf (Table at) = at
+placeOf (BookedBench at) = at
+placeOf (BookedTwice at) = at

@@ -1,8 +1,13 @@
--- The tests of faults 7 to 12, the same for the reader and the writer (document 01, "Faults, in checking order").
+-- The tests of faults 7 to 12, 14 and 15, the same for the reader and the writer (document 01, "Faults, in checking
+-- order"; request S-1).
 --     firstFault tests        the fault of the first test that holds
 --     benchCountFault h       7        shareFault h    8
 --     jobCountFault n         9        minutesFault j  10      allowedFault m j   11
+--     bookingFault m b        14
 --     headFaults h at         7 and 8, in this order, with their place
+--     bookingFaults m had b at        14 and 15 for the booking b; had says which benches had a booking frame before
+--     noneHad                 no bench had one
+--     bookedFaults m bs       14 and 15 for the bookings that the writer gives, with benches as places
 --     jobFaults m n j at      9 to 11 for job n, in this order, with their place
 --     jobAt js n, jobTable n ms bs    job n of a list; jobs given by two tables
 --     longest js              W, the longest job's minutes
@@ -14,17 +19,18 @@
 use Prim.Native.Nat.{ℕ, _*_, _^_, _<_}
 use mathlib.Core.Path.{_≡_}
 use mathlib.Core.Bool.{Bool, true, false, cond, not, _&&_, _||_}
-use mathlib.Core.List.{List, [], _∷_}
+use mathlib.Core.List.{List, [], _∷_, _++_}
 use lib.ListN.{length, getD}
 use lib.Dec.{eqb, leb, ltb}
 use Rattle.sums.specs.Sum.{count, largest}
 use Rattle.sums.specs.Search.{any, least}
 use Rattle.sums.specs.Table.{table}
 use Rattle.fields.specs.declared.sheet.Head.{Head}
+use Rattle.fields.specs.declared.sheet.Booking.{Booking}
 use Rattle.fields.specs.declared.sheet.Job.{Job}
 use Rattle.fields.specs.declared.fault.Fault.{Fault}
 use Rattle.fields.specs.declared.fault.Fault.the-variants.{BenchCount, Share, JobCount, Minutes, Allowed}
-use Rattle.fields.specs.declared.fault.Fault.the-variants.{HeavyHyperEdge}
+use Rattle.fields.specs.declared.fault.Fault.the-variants.{HeavyHyperEdge, BookedBench, BookedTwice}
 use Rattle.fields.specs.declared.fault.Verdict.{Verdict}
 use Rattle.fields.specs.declared.fault.Verdict.the-variants.{Accepted, Refused}
 use Rattle.fields.specs.Format.{allows}
@@ -59,11 +65,30 @@ minutesFault j = eqb (j .minutes) 0 || leb (2 ^ 20) (j .minutes)
 abbrev pub allowedFault : ℕ → Job → Bool
 allowedFault m j = not (any 64 (allows j)) || any 64 (λ b. leb m b && allows j b)
 
+-- "14 says that the bench is not in the head or, from the writer, that the minutes are too wide for the field"
+abbrev pub bookingFault : ℕ → Booking → Bool
+bookingFault m b = leb m (b .bench) || leb (2 ^ 20) (b .minutes)
+
 abbrev pub headFaults : Head → ℕ → List Test
 headFaults h at =
     record { holds = benchCountFault h; fault = BenchCount at }
     ∷ record { holds = shareFault h; fault = Share at }
     ∷ []
+
+-- "then number 15 that the bench already had a booking frame"
+abbrev pub bookingFaults : ℕ → (ℕ → Bool) → Booking → ℕ → List Test
+bookingFaults m had b at =
+    record { holds = bookingFault m b; fault = BookedBench at }
+    ∷ record { holds = had (b .bench); fault = BookedTwice at }
+    ∷ []
+
+abbrev pub noneHad : ℕ → Bool
+noneHad b = false
+
+-- Request S-1: the writer "never meets 15; it tries 14 .., lowest bench first": it gives a bench one booking or none.
+unfoldable pub bookedFaults : ℕ → List Booking → List Test
+bookedFaults m [] = []
+bookedFaults m (b ∷ bs) = bookingFaults m noneHad b (b .bench) ++ bookedFaults m bs
 
 abbrev pub jobFaults : ℕ → ℕ → Job → ℕ → List Test
 jobFaults m n j at =

@@ -1,4 +1,4 @@
-// The faults of a sheet and of the writer, in checking order, each with its place.
+// The faults of a sheet and of the writer, by number, each with its place.
 ghost use mathlib.Core.Path.{_≡_};
 ghost use Rattle.fields.specs.Numbers.{numberOf, placeOf};
 
@@ -29,6 +29,10 @@ pub enum Fault {
     HeavyHyperEdge(usize),
     // 13: a table or the output is too short.
     Table(usize),
+    // 14: a booking for a bench that the head lacks; from the writer also minutes too wide.
+    BookedBench(usize),
+    // 15: a second booking frame for a bench.
+    BookedTwice(usize),
 }
 
 // Whether a test found a fault.
@@ -56,10 +60,12 @@ impl Fault {
             Fault::Allowed(_) => 11,
             Fault::HeavyHyperEdge(_) => 12,
             Fault::Table(_) => 13,
+            Fault::BookedBench(_) => 14,
+            Fault::BookedTwice(_) => 15,
         }
     }
 
-    // The place that users see: a byte, a job or 0.
+    // The place that users see: a byte, a job, a bench or 0.
     pub fn place(self) -> usize
         ensures { λ r. ⌜ r ≡ placeOf self ⌝ }
     {
@@ -77,6 +83,8 @@ impl Fault {
             Fault::Allowed(at) => at,
             Fault::HeavyHyperEdge(job) => job,
             Fault::Table(at) => at,
+            Fault::BookedBench(at) => at,
+            Fault::BookedTwice(at) => at,
         }
     }
 }

@@ -9,15 +9,22 @@ pub struct Head {
     pub target: u64,
 }
 
+// Minutes booked on a bench before the day begins.
+pub struct Booking {
+    pub bench: usize,
+    pub minutes: u64,
+}
+
 // Minutes, and the benches allowed as the sheet's 64-bit field: bench b is the bit of weight 2 ^ (63 - b).
 pub struct Job {
     pub minutes: u64,
     pub allowed: u64,
 }
 
-// A whole sheet. Entry n of the arrays is job n; entries from `count` on are 0.
+// A whole sheet. Entry b of `booked` is bench b. Entry n of the other arrays is job n; entries from `count` on are 0.
 pub struct Sheet {
     pub head: Head,
+    pub booked: [u64; 64],
     pub count: usize,
     pub minutes: [u64; 512],
     pub allowed: [u64; 512],

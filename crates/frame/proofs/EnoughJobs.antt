@@ -21,11 +21,10 @@ use Rattle.fields.specs.declared.sheet.Job.{Job}
 use Rattle.fields.specs.Contents.{Contents}
 use Rattle.fields.specs.declared.fault.Fault.{Fault}
 use Rattle.fields.specs.declared.fault.Verdict.the-variants.{Refused}
-use Rattle.frame.specs.declared.writer.Written.{Written}
-use Rattle.frame.specs.declared.writer.Written.the-variants.{Refusal}
-use Rattle.fields.specs.Tests.{firstFault, headFaults, jobFaults}
-use Rattle.frame.specs.Writing.{jobsOf, contentsOf, andThen, jobsVerdict, writerVerdict, writeSheet, output}
-use Rattle.frame.proofs.WriterLaws.{jobs-bound}
+use Rattle.fields.specs.Tests.{firstFault, jobFaults}
+use Rattle.frame.specs.Writing.{jobsOf, contentsOf, andThen, jobsVerdict, openingVerdict}
+use Rattle.frame.specs.Writing.{writerVerdict, writeSheet, output}
+use Rattle.frame.proofs.WriterLaws.{jobs-bound, write-refused, output-refused}
 use Rattle.frame.proofs.WholeFrames.{verdict-cases}
 
 -- ── the first jobs of two tables ──
@@ -52,7 +51,7 @@ jobsVerdict-take m n (suc k) (j ∷ js) l e = elim (lt-or-le n 512) [
 ]
 
 abbrev pub firstJobs : Contents → Contents
-firstJobs c = record { head = c .head; jobs = take 513 (c .jobs) }
+firstJobs c = record { head = c .head; booked = c .booked; jobs = take 513 (c .jobs) }
 
 pub jobs-needed : (c : Contents)
     → (firstJobs c ≡ c) ⊎ ((f : Fault) × (writerVerdict (firstJobs c) ≡ Refused f) × (writerVerdict c ≡ Refused f))
@@ -61,11 +60,11 @@ jobs-needed c =
     let m : ℕ = c .head .benches in
     let js : List Job = c .jobs in
     let same = jobsVerdict-take m 0 513 js (omega arith) refl in
-    elim (verdict-cases (firstFault (headFaults (c .head) 0))) [
+    elim (verdict-cases (openingVerdict (c .head) (c .booked))) [
       | inr a ↦ inr (a .0, rw (a .1), rw (a .1))
       | inl a ↦ elim (verdict-cases (jobsVerdict m 0 js)) [
         | inl b ↦ inl
-            (ap (λ (us : List Job). record { head = c .head; jobs = us })
+            (ap (λ (us : List Job). record { head = c .head; booked = c .booked; jobs = us })
             (take-all 513 js (omega (arith, jobs-bound m 0 js b (omega arith)))))
         | inr b ↦ inr (b .0, rw (a, same, b .1), rw (a, b .1))
       ]
@@ -76,19 +75,11 @@ verdict-enough c = elim (jobs-needed c) [ inl e ↦ ap writerVerdict e | inr r �
 
 -- ── what is returned ──
 
-write-refused : (c : Contents) (room : ℕ) (f : Fault) → writerVerdict c ≡ Refused f → writeSheet c room ≡ Refusal f
-unfolding writeSheet
-write-refused c room f e = rw (e, writeSheet)
-
 pub write-enough : (c : Contents) (room : ℕ) → writeSheet (firstJobs c) room ≡ writeSheet c room
 write-enough c room = elim (jobs-needed c) [
   | inl e ↦ ap (λ (x : Contents). writeSheet x room) e
   | inr r ↦ write-refused (firstJobs c) room (r .0) (r .1) ∙ sym (write-refused c room (r .0) (r .2))
 ]
-
-output-refused : (w : Written) (f : Fault) (c : Contents) (out : List ℕ) → w ≡ Refusal f → output w c out ≡ out
-unfolding output
-output-refused w f c out e = rw e
 
 pub output-enough : (c : Contents) (room : ℕ) (out : List ℕ)
     → output (writeSheet (firstJobs c) room) (firstJobs c) out ≡ output (writeSheet c room) c out
@@ -101,18 +92,19 @@ output-enough c room out = elim (jobs-needed c) [
 
 -- ── two tables ──
 
-contentsOf-take : (h : Head) (ms bs : List ℕ)
-    → contentsOf h (take 513 ms) (take 513 bs) ≡ firstJobs (contentsOf h ms bs)
-contentsOf-take h ms bs = ap (λ (js : List Job). record { head = h; jobs = js }) (jobsOf-take 513 ms bs)
+module _ (h : Head) (booked ms bs : List ℕ) where
+  contentsOf-take : contentsOf h booked (take 513 ms) (take 513 bs) ≡ firstJobs (contentsOf h booked ms bs)
+  contentsOf-take = ap (λ (js : List Job). record { head = h; booked = booked; jobs = js }) (jobsOf-take 513 ms bs)
 
-pub jobs-enough : (h : Head) (ms bs : List ℕ) (room : ℕ)
-    → writeSheet (contentsOf h (take 513 ms) (take 513 bs)) room ≡ writeSheet (contentsOf h ms bs) room
-jobs-enough h ms bs room =
-    ap (λ (c : Contents). writeSheet c room) (contentsOf-take h ms bs) ∙ write-enough (contentsOf h ms bs) room
+  pub jobs-enough : (room : ℕ)
+      → writeSheet (contentsOf h booked (take 513 ms) (take 513 bs)) room ≡ writeSheet (contentsOf h booked ms bs) room
+  jobs-enough room =
+      ap (λ (c : Contents). writeSheet c room) contentsOf-take ∙ write-enough (contentsOf h booked ms bs) room
 
-pub output-jobs-enough : (h : Head) (ms bs : List ℕ) (room : ℕ) (out : List ℕ)
-    → output (writeSheet (contentsOf h (take 513 ms) (take 513 bs)) room) (contentsOf h (take 513 ms) (take 513 bs)) out
-    ≡ output (writeSheet (contentsOf h ms bs) room) (contentsOf h ms bs) out
-output-jobs-enough h ms bs room out =
-    ap (λ (c : Contents). output (writeSheet c room) c out) (contentsOf-take h ms bs)
-    ∙ output-enough (contentsOf h ms bs) room out
+  pub output-jobs-enough : (room : ℕ) (out : List ℕ)
+      → output (writeSheet (contentsOf h booked (take 513 ms) (take 513 bs)) room)
+      (contentsOf h booked (take 513 ms) (take 513 bs)) out
+      ≡ output (writeSheet (contentsOf h booked ms bs) room) (contentsOf h booked ms bs) out
+  output-jobs-enough room out =
+      ap (λ (c : Contents). output (writeSheet c room) c out) contentsOf-take
+      ∙ output-enough (contentsOf h booked ms bs) room out

@@ -1,8 +1,9 @@
--- "Frames are judged in sheet order; numbers 2 to 11 are tried in this order at each frame." (document 01, "Faults, in checking order")
+-- "Frames are judged in sheet order; numbers 2 to 11 are tried in this order at each frame." (document 01, "Faults, in
+-- checking order"); behind 6 a booking has 14 and 15 (request S-1).
 -- Of the tests at a frame:
 --     first-test, first-test-holds    firstFault gives the fault of the first test that holds, and back
 --     none-holds, none-holds-passes   it gives none where no test holds, and back
---     faultsAt-numbers        the tests at a frame have the numbers 3 to 11, in this order, as far as its kind has them
+--     faultsAt-numbers        the tests at a frame have the numbers 3 to 6, then by its kind 7 and 8, 9 to 11, or 14 and 15
 --     in-frame-number         a fault found by them has one of these numbers, and the frame's first byte for its place
 -- Of 12, passed on: lowest-hyper-edge, hyper-edge-lowest, none-hyper-edge, hyper-edge-none (fields HyperEdgeLaws)
 -- Of the places that reading comes to:
@@ -10,7 +11,7 @@
 --     reached-read            the sheet is read as what is left is read from there on
 --     reached-unique          one byte is reached in one way only: with the same bytes left and the same progress
 -- Of the first fault:
---     fault-here-number       a fault found after fault 1 has a number from 2 to 12
+--     fault-here-number       a fault found after fault 1 has a number from 2 to 15 other than 13
 --     fault-here-read         what is read from a place at which a fault is found is that fault
 --     sheet-fault-unique      a sheet has at most one first fault
 -- Of what a sheet is read as:
@@ -30,8 +31,6 @@ use lib.Dec.{eqb}
 use borrow.Author.Tests.{lt-ltb}
 use Rattle.bools.proofs.BoolLaws.{split}
 use Rattle.bools.proofs.OrderLaws.{lt-or-le, eq-or-ne, last-or-below}
-use Rattle.fields.specs.declared.sheet.Head.{Head}
-use Rattle.fields.specs.declared.sheet.Job.{Job}
 use Rattle.fields.specs.Contents.{Contents}
 use Rattle.judging.specs.declared.judge.Stage.{Stage}
 use Rattle.judging.specs.declared.judge.Stage.the-variants.{Start, Open, Closed}
@@ -40,8 +39,9 @@ use Rattle.fields.specs.declared.fault.Fault.the-variants.{TooLong, Truncated}
 use Rattle.fields.specs.declared.fault.Verdict.{Verdict}
 use Rattle.fields.specs.declared.fault.Verdict.the-variants.{Accepted, Refused}
 use Rattle.fields.specs.Numbers.{numberOf, placeOf}
-use Rattle.fields.specs.Format.{ours, headKind, jobKind, versionOf, kindOf, bodyOf, headOf, jobOf}
-use Rattle.fields.specs.Tests.{Test, firstFault, headFaults, jobFaults, hyperEdgeVerdict}
+use Rattle.fields.specs.Format.{ours, headKind, jobKind, bookingKind, versionOf, kindOf, bodyOf}
+use Rattle.fields.specs.Format.{headOf, jobOf, bookingOf}
+use Rattle.fields.specs.Tests.{Test, firstFault, headFaults, bookingFaults, jobFaults, hyperEdgeVerdict}
 pub use Rattle.fields.proofs.HyperEdgeLaws.{lowest-hyper-edge, hyper-edge-lowest, none-hyper-edge, hyper-edge-none}
 use Rattle.judging.specs.FrameTests.{frameFaults}
 use Rattle.frame.specs.Reading.{Progress, Read, accepted, refused, nothingRead, faultsAt, after, judged, endVerdict, ending, readFrom, readSheet}
@@ -87,21 +87,31 @@ pub none-holds-passes : (ts : List Test) → NoneHolds ts → firstFault ts ≡ 
 none-holds-passes [] n = refl
 none-holds-passes (t ∷ ts) n = rw (n .0) (none-holds-passes ts (n .1))
 
-contentNumbers : (b c : Bool) (h : Head) (m n : ℕ) (j : Job) (at : ℕ)
-    → map (λ (t : Test). numberOf (t .fault)) (cond b (headFaults h at) (cond c (jobFaults m n j at) []))
-    ≡ cond b (7 ∷ 8 ∷ []) (cond c (9 ∷ 10 ∷ 11 ∷ []) [])
-contentNumbers true c h m n j at = refl
-contentNumbers false true h m n j at = refl
-contentNumbers false false h m n j at = refl
+-- The tests of what a frame holds, by three tests of its kind: it is a head, a job, a booking.
+abbrev contentTests : Progress → Bool → Bool → Bool → List ℕ → ℕ → List Test
+contentTests g head job booking body at =
+    cond head (headFaults (headOf body) at)
+    (cond job (jobFaults (g .contents .head .benches) (length (g .contents .jobs)) (jobOf body) at)
+    (cond booking (bookingFaults (g .contents .head .benches) (g .had) (bookingOf body) at) []))
+
+contentNumbers : (g : Progress) (a b c : Bool) (body : List ℕ) (at : ℕ)
+    → map (λ (t : Test). numberOf (t .fault)) (contentTests g a b c body at)
+    ≡ cond a (7 ∷ 8 ∷ []) (cond b (9 ∷ 10 ∷ 11 ∷ []) (cond c (14 ∷ 15 ∷ []) []))
+contentNumbers g true b c body at = refl
+contentNumbers g false true c body at = refl
+contentNumbers g false false true body at = refl
+contentNumbers g false false false body at = refl
 
 pub faultsAt-numbers : (g : Progress) (at : ℕ) (frame : List ℕ)
     → map (λ (t : Test). numberOf (t .fault)) (faultsAt g at frame)
-    ≡ 3 ∷ 4 ∷ 5 ∷ 6 ∷ cond (eqb (kindOf frame) headKind) (7 ∷ 8 ∷ []) (cond (eqb (kindOf frame) jobKind) (9 ∷ 10 ∷ 11 ∷ []) [])
+    ≡ 3 ∷ 4 ∷ 5 ∷ 6
+    ∷ cond (eqb (kindOf frame) headKind) (7 ∷ 8 ∷ [])
+    (cond (eqb (kindOf frame) jobKind) (9 ∷ 10 ∷ 11 ∷ []) (cond (eqb (kindOf frame) bookingKind) (14 ∷ 15 ∷ []) []))
 unfolding frameFaults
 faultsAt-numbers g at frame =
     ap (λ (ns : List ℕ). 3 ∷ 4 ∷ 5 ∷ 6 ∷ ns)
-    (contentNumbers (eqb (kindOf frame) headKind) (eqb (kindOf frame) jobKind) (headOf (bodyOf frame))
-    (g .contents .head .benches) (length (g .contents .jobs)) (jobOf (bodyOf frame)) at)
+    (contentNumbers g (eqb (kindOf frame) headKind) (eqb (kindOf frame) jobKind) (eqb (kindOf frame) bookingKind)
+    (bodyOf frame) at)
 
 -- What holds of the fault of every test holds of the fault that is found.
 abbrev Every : (Fault → Type 0) → List Test → Type 0
@@ -115,25 +125,31 @@ every-found P (t ∷ ts) f a e = elim (split (t .holds)) [
   | inr p ↦ every-found P ts f (a .1) (rw p at e)
 ]
 
-abbrev InFrame : ℕ → Fault → Type 0
-InFrame at f = (3 ≤ numberOf f) × (numberOf f ≤ 11) × (placeOf f ≡ at)
+-- A fault of a frame at byte at: neither 1, 2 nor 12, 13.
+pub record InFrame (at : ℕ) (f : Fault) : Type 0 where
+  pub from-3 : 3 ≤ numberOf f
+  pub to-15 : numberOf f ≤ 15
+  pub not-12 : numberOf f ≡ 12 → ⊥
+  pub not-13 : numberOf f ≡ 13 → ⊥
+  pub place-is : placeOf f ≡ at
 
-content-in-frame : (b c : Bool) (h : Head) (m n : ℕ) (j : Job) (at : ℕ)
-    → Every (InFrame at) (cond b (headFaults h at) (cond c (jobFaults m n j at) []))
-content-in-frame true c h m n j at = omega arith
-content-in-frame false true h m n j at = omega arith
-content-in-frame false false h m n j at = tt
+content-in-frame : (g : Progress) (a b c : Bool) (body : List ℕ) (at : ℕ)
+    → Every (InFrame at) (contentTests g a b c body at)
+content-in-frame g true b c body at = omega arith
+content-in-frame g false true c body at = omega arith
+content-in-frame g false false true body at = omega arith
+content-in-frame g false false false body at = tt
 
 faultsAt-in-frame : (g : Progress) (at : ℕ) (frame : List ℕ) → Every (InFrame at) (faultsAt g at frame)
 unfolding frameFaults
 faultsAt-in-frame g at frame =
     let content =
-    content-in-frame (eqb (kindOf frame) headKind) (eqb (kindOf frame) jobKind) (headOf (bodyOf frame))
-    (g .contents .head .benches) (length (g .contents .jobs)) (jobOf (bodyOf frame)) at in
+    content-in-frame g (eqb (kindOf frame) headKind) (eqb (kindOf frame) jobKind) (eqb (kindOf frame) bookingKind)
+    (bodyOf frame) at in
     (omega arith, (omega arith, (omega arith, (omega arith, content))))
 
 pub in-frame-number : (g : Progress) (at : ℕ) (frame : List ℕ) (f : Fault) → FirstTest (faultsAt g at frame) f
-    → (3 ≤ numberOf f) × (numberOf f ≤ 11) × (placeOf f ≡ at)
+    → InFrame at f
 in-frame-number g at frame f t = every-found (InFrame at) (faultsAt g at frame) f (faultsAt-in-frame g at frame) (first-test-holds t)
 
 -- ── the places that reading comes to ──
@@ -227,9 +243,12 @@ module _ (at : ℕ) (g : Progress) where
 -- ── the first fault ──
 
 module _ {s : List ℕ} {at : ℕ} {rest : List ℕ} {g : Progress} where
-  pub fault-here-number : {f : Fault} → FaultHere s at rest g f → (2 ≤ numberOf f) × (numberOf f ≤ 12)
+  pub fault-here-number : {f : Fault} → FaultHere s at rest g f
+      → (2 ≤ numberOf f) × (numberOf f ≤ 15) × (numberOf f ≡ 13 → ⊥)
   fault-here-number (ends-inside h c) = omega arith
-  fault-here-number {f} (in-frame frame later e w v t) = omega (arith, in-frame-number g at frame f t)
+  fault-here-number {f} (in-frame frame later e w v t) =
+      let n = in-frame-number g at frame f t in
+      (omega (arith, n .from-3), n .to-15, n .not-13)
   fault-here-number (no-end e n) = omega arith
   fault-here-number (heavy-hyper-edge e c l) = omega arith
 

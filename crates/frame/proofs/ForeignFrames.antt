@@ -13,6 +13,7 @@
 --     readOn-padded           what is read of bytes with foreign frames added is the same, moved
 --     padded-length           adding frames makes no sheet shorter
 --     read-padded             the sentence itself, for any number of added frames: a byte place moves by the bytes added before it
+--     movedRead-accepted      what is accepted has no place that moves
 --     read-padded-accepted    with frames added a sheet is accepted exactly where it is without, with the same contents
 --     padded-one              one foreign frame behind a row of frames is a case of this
 --     read-foreign            the sentence for one added frame
@@ -29,6 +30,7 @@ use borrow.Author.Tests.{eqb-true, lt-ltb, le-ltb, le-leb}
 use Rattle.bools.proofs.BoolLaws.{split, bool-ext, tests}
 use Rattle.bools.proofs.OrderLaws.{eq-or-ne}
 use Rattle.sums.specs.Search.{least}
+use Rattle.fields.specs.declared.sheet.Booking.{Booking}
 use Rattle.fields.specs.declared.sheet.Head.{Head}
 use Rattle.fields.specs.declared.sheet.Job.{Job}
 use Rattle.fields.specs.Contents.{Contents}
@@ -36,11 +38,13 @@ use Rattle.judging.specs.declared.judge.Stage.{Stage}
 use Rattle.judging.specs.declared.judge.Stage.the-variants.{Start, Open, Closed}
 use Rattle.fields.specs.declared.fault.Fault.{Fault}
 use Rattle.fields.specs.declared.fault.Fault.the-variants.{TooLong, Truncated, UnknownKind, Misplaced, WrongLength, SpareBit, BenchCount, Share, JobCount, Minutes, Allowed, HeavyHyperEdge, Table}
+use Rattle.fields.specs.declared.fault.Fault.the-variants.{BookedBench, BookedTwice}
 use Rattle.fields.specs.declared.fault.Verdict.{Verdict}
 use Rattle.fields.specs.declared.fault.Verdict.the-variants.{Accepted, Refused}
 use Rattle.fields.specs.Numbers.{numberOf}
-use Rattle.fields.specs.Format.{ours, headKind, jobKind, versionOf, kindOf, frameSize, bodyOf, headOf, jobOf}
-use Rattle.fields.specs.Tests.{Test, firstFault, headFaults, jobFaults, heavyHyperEdgeAt, hyperEdgeVerdict}
+use Rattle.fields.specs.Format.{ours, headKind, jobKind, bookingKind, versionOf, kindOf, frameSize, bodyOf}
+use Rattle.fields.specs.Format.{headOf, jobOf, bookingOf}
+use Rattle.fields.specs.Tests.{Test, firstFault, headFaults, bookingFaults, jobFaults, heavyHyperEdgeAt, hyperEdgeVerdict}
 use Rattle.judging.specs.FrameTests.{frameFaults, cut}
 use Rattle.frame.specs.Reading.{Progress, Read, accepted, refused, nothingRead, faultsAt, after, judged, endVerdict, ending, readFrom, readSheet}
 use Rattle.frame.specs.Frames.{WholeFrame, Foreign, Row, no-frame, a-frame, Padded, unchanged, kept, added, addedBefore, movedBy, fromOn, movedReadBy, movedRead, readOn}
@@ -64,6 +68,8 @@ numberOf-moved by (Minutes at) = refl
 numberOf-moved by (Allowed at) = refl
 numberOf-moved by (HeavyHyperEdge job) = refl
 numberOf-moved by (Table at) = refl
+numberOf-moved by (BookedBench at) = refl
+numberOf-moved by (BookedTwice at) = refl
 
 abbrev movedTest : (ℕ → ℕ) → Test → Test
 movedTest by t = record { holds = t .holds; fault = movedBy by (t .fault) }
@@ -76,25 +82,30 @@ firstFault-moved : (by : ℕ → ℕ) (ts : List Test) → firstFault (map (move
 firstFault-moved by [] = refl
 firstFault-moved by (t ∷ ts) = elim (split (t .holds)) [ inl p ↦ rw p | inr p ↦ rw p (firstFault-moved by ts) ]
 
-contentFaults-moved : (by : ℕ → ℕ) (b c : Bool) (h : Head) (m n : ℕ) (j : Job) (at : ℕ)
-    → cond b (headFaults h (at + by at)) (cond c (jobFaults m n j (at + by at)) [])
-    ≡ map (movedTest by) (cond b (headFaults h at) (cond c (jobFaults m n j at) []))
-unfolding movedBy
-contentFaults-moved by true c h m n j at = refl
-contentFaults-moved by false true h m n j at = refl
-contentFaults-moved by false false h m n j at = refl
+module _ (by : ℕ → ℕ) (h : Head) (m n : ℕ) (j : Job) (had : ℕ → Bool) (k : Booking) (at : ℕ) where
+  contentFaults-moved : (a b c : Bool)
+      → cond a (headFaults h (at + by at))
+      (cond b (jobFaults m n j (at + by at)) (cond c (bookingFaults m had k (at + by at)) []))
+      ≡ map (movedTest by)
+      (cond a (headFaults h at) (cond b (jobFaults m n j at) (cond c (bookingFaults m had k at) [])))
+  unfolding movedBy
+  contentFaults-moved true b c = refl
+  contentFaults-moved false true c = refl
+  contentFaults-moved false false true = refl
+  contentFaults-moved false false false = refl
 
-frameFaults-moved : (by : ℕ → ℕ) (stage : Stage) (m n at kind : ℕ) (body : List ℕ)
-    → frameFaults stage m n (at + by at) kind body ≡ map (movedTest by) (frameFaults stage m n at kind body)
+frameFaults-moved : (by : ℕ → ℕ) (stage : Stage) (m n : ℕ) (had : ℕ → Bool) (at kind : ℕ) (body : List ℕ)
+    → frameFaults stage m n had (at + by at) kind body ≡ map (movedTest by) (frameFaults stage m n had at kind body)
 unfolding frameFaults movedBy
-frameFaults-moved by stage m n at kind body =
-    rw (contentFaults-moved by (eqb kind headKind) (eqb kind jobKind) (headOf body) m n (jobOf body) at)
+frameFaults-moved by stage m n had at kind body =
+    rw (contentFaults-moved by (headOf body) m n (jobOf body) had (bookingOf body) at
+    (eqb kind headKind) (eqb kind jobKind) (eqb kind bookingKind))
 
 pub faultsAt-moved : (by : ℕ → ℕ) (g : Progress) (at : ℕ) (frame : List ℕ)
     → firstFault (faultsAt g (at + by at) frame) ≡ movedVerdict by (firstFault (faultsAt g at frame))
 faultsAt-moved by g at frame =
     ap firstFault
-    (frameFaults-moved by (g .stage) (g .contents .head .benches) (length (g .contents .jobs)) at
+    (frameFaults-moved by (g .stage) (g .contents .head .benches) (length (g .contents .jobs)) (g .had) at
     (kindOf frame) (bodyOf frame))
     ∙ firstFault-moved by (faultsAt g at frame)
 
@@ -273,7 +284,7 @@ read-padded {s} {t} p h =
     rw (readSheet-within t h, readSheet-within s (omega (arith, padded-length p)))
     (readOn-padded p (addedBefore p) 0 0 nothingRead (λ x. rw zero-add refl))
 
-movedRead-accepted : (by : ℕ → ℕ) (r : Read) (c : Contents) → (movedReadBy by r ≡ accepted c) ↔ (r ≡ accepted c)
+pub movedRead-accepted : (by : ℕ → ℕ) (r : Read) (c : Contents) → (movedReadBy by r ≡ accepted c) ↔ (r ≡ accepted c)
 unfolding movedReadBy
 movedRead-accepted by (accepted c′) c = (λ e. e, λ e. e)
 movedRead-accepted by (refused f) c = (λ e. cc, λ e. cc)

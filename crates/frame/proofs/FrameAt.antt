@@ -1,8 +1,9 @@
 -- From what the program finds at a frame (`frameAt`) to how reading goes on.
 --     found                               the answer, for the progress so far
+--     frameAt-had                         only benches below 64 can have had a booking frame
 --     found-fault                         the sheet is refused
 --     found-foreign, found-ours           the frame is whole, and of another version; of version 1
-use Prim.Native.Nat.{ℕ, _-_, _<_}
+use Prim.Native.Nat.{ℕ, _<_}
 use mathlib.Core.Path.{_≡_, refl, sym, ap, _∙_}
 use mathlib.Core.Logic.{_⊎_, inl, inr, ⊎-elim}
 use mathlib.Core.Bool.{Bool, true, false, cond}
@@ -11,28 +12,31 @@ use native.Mathlib.Omega.{arith}
 use lib.ListN.{length}
 use lib.Dec.{eqb}
 use Rattle.bools.proofs.BoolLaws.{clash}
-use Rattle.fields.specs.declared.sheet.Head.{Head}
-use Rattle.fields.specs.declared.sheet.Job.{Job}
 use Rattle.fields.specs.declared.fault.Fault.{Fault}
 use Rattle.fields.specs.declared.fault.Fault.the-variants.{Truncated}
 use Rattle.fields.specs.declared.fault.Verdict.{Verdict}
 use Rattle.fields.specs.declared.fault.Verdict.the-variants.{Accepted, Refused}
 use Rattle.judging.specs.declared.judge.Frame.{Frame}
 use Rattle.judging.specs.declared.judge.Frame.the-variants as frame
-use Rattle.fields.specs.Format.{ours, headKind, jobKind, versionOf, kindOf, bodyOf, headOf, jobOf}
+use Rattle.fields.specs.Format.{ours, bookingLayout, versionOf, kindOf, bodyOf, headOf, jobOf, bookingOf}
 use Rattle.fields.specs.Tests.{firstFault}
-use Rattle.judging.specs.FrameTests.{cut}
+use Rattle.bits.specs.Layout.{field}
+use Rattle.bits.proofs.BitsLaws.{bits-lt}
+use Rattle.judging.specs.declared.judge.Stage.{Stage}
+use Rattle.judging.specs.FrameTests.{cut, frameFaults}
 use Rattle.frame.specs.Reading.{Progress, refused, faultsAt}
 use Rattle.frame.specs.Frames.{readOn}
 use Rattle.judging.specs.Steps.{frameOf, frameAt, contentOf, sound}
 use Rattle.frame.proofs.WholeFrames.{readOn-cut}
 use Rattle.frame.proofs.JudgeLaws.{readOn-fault, judgement, frameOf-fault}
+use Rattle.frame.proofs.JudgeLaws.{isHead, isJob, isBooking, content-not-foreign}
 
 -- A frame of version 1 without a fault.
 abbrev pub holdsSomething : Frame → Bool
 holdsSomething (frame.Faulty f) = false
 holdsSomething frame.Foreign = false
 holdsSomething (frame.Head h) = true
+holdsSomething (frame.Booking b) = true
 holdsSomething (frame.Job j) = true
 holdsSomething frame.End = true
 
@@ -54,18 +58,19 @@ picked-foreign true c f v k e = let z : _≡_ {A = ℕ} 0 1 = cc in absurd (omeg
 picked-foreign false true f v k e = absurd (k e)
 picked-foreign false false f v k e = (refl, refl)
 
-content-not-foreign : (b c : Bool) (h : Head) (j : Job) → cond b (frame.Head h) (cond c (frame.Job j) frame.End) ≡ frame.Foreign → ⊥
-content-not-foreign true c h j e = let z : _≡_ {A = ℕ} 0 1 = cc in omega arith
-content-not-foreign false true h j e = let z : _≡_ {A = ℕ} 0 1 = cc in omega arith
-content-not-foreign false false h j e = let z : _≡_ {A = ℕ} 0 1 = cc in omega arith
-
 sound-not-foreign : (v : Verdict) (x : Frame) → (x ≡ frame.Foreign → ⊥) → sound v x ≡ frame.Foreign → ⊥
 sound-not-foreign Accepted x k e = k e
 sound-not-foreign (Refused f) x k e = let z : _≡_ {A = ℕ} 0 1 = cc in omega arith
 
+pub frameAt-had : (stage : Stage) (m n : ℕ) (had had′ : ℕ → Bool) (at : ℕ) (rest : List ℕ)
+    → ((v : ℕ) → v < 64 → had v ≡ had′ v) → frameAt stage m n had at rest ≡ frameAt stage m n had′ at rest
+unfolding frameAt frameOf frameFaults
+frameAt-had stage m n had had′ at rest e =
+    rw (e (field bookingLayout 0 (bodyOf rest)) (bits-lt (bodyOf rest) 0 6))
+
 module _ (g : Progress) (at : ℕ) (rest : List ℕ) where
   abbrev pub found : Frame
-  found = frameAt (g .stage) (g .contents .head .benches) (length (g .contents .jobs)) at rest
+  found = frameAt (g .stage) (g .contents .head .benches) (length (g .contents .jobs)) (g .had) at rest
 
   pub found-fault : 0 < length rest → (f : Fault) → found ≡ frame.Faulty f → readOn rest at g ≡ refused f
   unfolding frameAt
@@ -80,7 +85,8 @@ module _ (g : Progress) (at : ℕ) (rest : List ℕ) where
   found-foreign e =
       picked-foreign (cut rest) (eqb (versionOf rest) ours) (Truncated at) (judgement g at rest)
       (sound-not-foreign (firstFault (faultsAt g at rest)) (contentOf (kindOf rest) (bodyOf rest))
-      (content-not-foreign (eqb (kindOf rest) headKind) (eqb (kindOf rest) jobKind) (headOf (bodyOf rest)) (jobOf (bodyOf rest)))) e
+      (content-not-foreign (headOf (bodyOf rest)) (jobOf (bodyOf rest)) (bookingOf (bodyOf rest))
+      (isHead g at rest) (isJob g at rest) (isBooking g at rest))) e
 
   pub found-ours : (x : Frame) → holdsSomething x ≡ true → found ≡ x
       → (cut rest ≡ false) × (eqb (versionOf rest) ours ≡ true) × (judgement g at rest ≡ x)

@@ -12,6 +12,9 @@ pub mod ReadState
 pub mod WriterSteps
 pub mod AcceptedLaws
 pub mod EnoughJobs
+pub mod EnoughBookings
+pub mod ZeroBooking
+pub mod ZeroWritten
 pub mod Places
 pub mod Stored
 pub mod SheetTables

@@ -12,11 +12,12 @@ use Rattle.frame.proofs.AcceptedLaws.{accepted-sound}
 use Rattle.frame.proofs.SheetArrays.{getD-padded}
 
 pub tables-of : (s : List ℕ) (c : Contents) (x : Sheet) → readSheet s ≡ accepted c → x ≡ sheetOf c
-    → Tables c (x .head .benches) (x .count) (x .minutes) (x .allowed)
+    → Tables c (x .head .benches) (x .booked) (x .count) (x .minutes) (x .allowed)
 tables-of s c x e same =
     record {
       sound = accepted-sound s c e;
       benches-are = ap (λ (y : Sheet). y .head .benches) same;
+      booked-are = λ b. ap (λ (y : Sheet). getD (y .booked) b 0) same;
       jobs-are = ap (λ (y : Sheet). y .count) same;
       minutes-are = λ j l.
           ap (λ (y : Sheet). getD (y .minutes) j 0) same ∙ getD-padded (λ k. k .minutes) refl (c .jobs) j l;

@@ -1,12 +1,15 @@
--- What it means that the tests 7 to 12, by which the writer refuses, find no fault.
---     cond-accepted           a test and then a verdict accept: the test does not hold, and the verdict accepts
+-- What it means that the tests 7 to 12 and 14, by which the writer refuses, find no fault.
+--     cond-accepted           passed on from bookings BookingLaws
 --     andThen-accepted        two verdicts one after the other accept: each of them does
 --     head-sound, sound-head  the tests 7 and 8 find no fault in a head: then it is sound, and back
+--     bookings-sound, sound-bookings  the test 14 finds no fault in a table of bookings: then they are sound, and back
+--     opening-sound, sound-opening    so for 7, 8 and 14 in a head and bookings
 --     job-sound, sound-job    the tests 9 to 11 find no fault in a job: then it is sound, and back
 --     jobsVerdict-sound, sound-jobsVerdict    they find none in a list of jobs: then each job is sound, and back
 --     jobsVerdict-none        the last two as one
 --     jobs-bound              where they find none, there are at most 512 jobs
---     writerVerdict-sound, sound-writerVerdict    the tests 7 to 12 find no fault: then the sheet is sound, and back
+--     writerVerdict-sound, sound-writerVerdict    7 to 12 and 14 find no fault: then the sheet is sound, and back
+--     write-accepted, write-refused, output-refused       what the writer returns and gives, by its verdict
 -- A loop over a list of jobs, at job i:
 --     jobsVerdict-drop        no fault at job i: the verdict is that on the jobs behind it
 --     jobsVerdict-fault       a fault at job i is the verdict
@@ -15,7 +18,7 @@ use Prim.Native.Nat.{ℕ, zero, suc, _+_, _*_, _^_, _≤_, _<_}
 use native.Mathlib.Nat.{add-zero, zero-add, add-suc, suc-add}
 use native.Mathlib.Omega.{arith}
 use mathlib.Core.Path.{_≡_, refl}
-use mathlib.Core.Bool.{Bool, true, false, cond, not, _&&_, _||_}
+use mathlib.Core.Bool.{Bool, false, not, _&&_, _||_}
 use mathlib.Core.List.{List, [], _∷_}
 use mathlib.Core.Logic.{_↔_, inl, inr}
 use lib.ListN.{length, drop}
@@ -32,16 +35,17 @@ use Rattle.fields.specs.Contents.{Contents}
 use Rattle.fields.specs.declared.fault.Fault.{Fault}
 use Rattle.fields.specs.declared.fault.Verdict.{Verdict}
 use Rattle.fields.specs.declared.fault.Verdict.the-variants.{Accepted, Refused}
-use Rattle.fields.specs.Format.{allows}
-use Rattle.fields.specs.Tests.{firstFault, headFaults, jobFaults, noJob, jobAt, benchCountFault, shareFault, jobCountFault, minutesFault, allowedFault}
-use Rattle.frame.specs.Writing.{andThen, jobsVerdict, writerVerdict}
-use Rattle.frame.specs.Sound.{SoundHead, SoundJob, SoundSheet}
+use Rattle.fields.specs.Format.{allows, bookings, sheetBytes}
+use Rattle.frame.specs.declared.writer.Written.{Written}
+use Rattle.frame.specs.declared.writer.Written.the-variants.{Refusal}
+use Rattle.fields.specs.Tests.{bookedFaults, firstFault, headFaults, jobFaults, noJob, jobAt, benchCountFault, shareFault, jobCountFault, minutesFault, allowedFault}
+pub use Rattle.bookings.proofs.BookingLaws.{cond-accepted}
+use Rattle.bookings.proofs.BookingLaws.{bookings-fit, fit-bookings}
+use Rattle.frame.specs.Writing.{andThen, jobsVerdict, openingVerdict, writerVerdict, fitted}
+use Rattle.frame.specs.Writing.{writeSheet, output}
+use Rattle.frame.specs.Sound.{SoundHead, SoundBookings, SoundJob, SoundSheet}
 
 -- ── verdicts ──
-
-pub cond-accepted : (b : Bool) (f : Fault) (v : Verdict) → cond b (Refused f) v ≡ Accepted → (b ≡ false) × (v ≡ Accepted)
-cond-accepted true f v e = let z : _≡_ {A = ℕ} 0 1 = cc in absurd (omega arith)
-cond-accepted false f v e = (refl, e)
 
 pub andThen-accepted : (v w : Verdict) → andThen v w ≡ Accepted → (v ≡ Accepted) × (w ≡ Accepted)
 andThen-accepted Accepted w e = (refl, e)
@@ -82,6 +86,27 @@ sound-head h at s =
     let wide-p : leb (2 ^ 7) (h .p) ≡ false = omega tests in
     let wide-q : leb (2 ^ 7) (h .q) ≡ false = omega tests in
     rw (no-bench, many-benches, wide-target, zero-q, small-share, large-share, wide-p, wide-q)
+
+-- ── bookings ──
+
+pub bookings-sound : (m : ℕ) (bs : List ℕ) → firstFault (bookedFaults m (bookings bs)) ≡ Accepted → SoundBookings m bs
+bookings-sound m bs e =
+    record { booked-fit = λ b. bookings-fit m bs e b .0; none-past-head = λ b. bookings-fit m bs e b .1 }
+
+pub sound-bookings : (m : ℕ) (bs : List ℕ) → SoundBookings m bs → firstFault (bookedFaults m (bookings bs)) ≡ Accepted
+sound-bookings m bs s = fit-bookings m bs (s .booked-fit) (s .none-past-head)
+
+pub opening-sound : (h : Head) (bs : List ℕ) → openingVerdict h bs ≡ Accepted
+    → SoundHead h × SoundBookings (h .benches) bs
+unfolding openingVerdict
+opening-sound h bs e =
+    let a = andThen-accepted (firstFault (headFaults h 0)) _ e in
+    (head-sound h 0 (a .0), bookings-sound (h .benches) bs (a .1))
+
+pub sound-opening : (h : Head) (bs : List ℕ) → SoundHead h → SoundBookings (h .benches) bs
+    → openingVerdict h bs ≡ Accepted
+unfolding openingVerdict
+sound-opening h bs s b = rw (sound-head h 0 s, sound-bookings (h .benches) bs b)
 
 -- ── a job ──
 
@@ -175,10 +200,12 @@ jobsVerdict-over m n (suc i) (j ∷ js) h = rw (add-suc, ← suc-add) (jobsVerdi
 pub writerVerdict-sound : (c : Contents) → writerVerdict c ≡ Accepted → SoundSheet c
 unfolding writerVerdict
 writerVerdict-sound c e =
-    let a = andThen-accepted (firstFault (headFaults (c .head) 0)) _ e in
+    let a = andThen-accepted (openingVerdict (c .head) (c .booked)) _ e in
     let b = andThen-accepted (jobsVerdict (c .head .benches) 0 (c .jobs)) _ (a .1) in
+    let opening = opening-sound (c .head) (c .booked) (a .0) in
     record {
-      head = head-sound (c .head) 0 (a .0);
+      head = opening .0;
+      bookings = opening .1;
       jobs = λ i l. rw zero-add at (jobsVerdict-sound (c .head .benches) 0 (c .jobs) (b .0) i l);
       at-most-512-jobs = omega (arith, jobs-bound (c .head .benches) 0 (c .jobs) (b .0) (omega arith));
       no-heavy-hyper-edge = b .1;
@@ -187,7 +214,22 @@ writerVerdict-sound c e =
 pub sound-writerVerdict : (c : Contents) → SoundSheet c → writerVerdict c ≡ Accepted
 unfolding writerVerdict
 sound-writerVerdict c s =
-    let head : firstFault (headFaults (c .head) 0) ≡ Accepted = sound-head (c .head) 0 (s .head) in
+    let opening = sound-opening (c .head) (c .booked) (s .head) (s .bookings) in
     let jobs : jobsVerdict (c .head .benches) 0 (c .jobs) ≡ Accepted =
     sound-jobsVerdict (c .head .benches) 0 (c .jobs) (λ i l. rw zero-add (s .jobs i l)) in
-    rw (head, jobs) (s .no-heavy-hyper-edge)
+    rw (opening, jobs) (s .no-heavy-hyper-edge)
+
+-- ── what is returned ──
+
+pub write-accepted : (c : Contents) (room : ℕ) → writerVerdict c ≡ Accepted
+    → writeSheet c room ≡ fitted (length (sheetBytes c)) room
+unfolding writeSheet
+write-accepted c room e = rw (e, writeSheet)
+
+pub write-refused : (c : Contents) (room : ℕ) (f : Fault) → writerVerdict c ≡ Refused f → writeSheet c room ≡ Refusal f
+unfolding writeSheet
+write-refused c room f e = rw (e, writeSheet)
+
+pub output-refused : (w : Written) (f : Fault) (c : Contents) (out : List ℕ) → w ≡ Refusal f → output w c out ≡ out
+unfolding output
+output-refused w f c out e = rw e

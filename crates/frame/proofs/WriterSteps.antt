@@ -1,22 +1,25 @@
--- What each step of the writer does to its output and to its verdict. A law's premises are what the calls before it ensure.
+-- What each step of the writer does to its output and to its verdict. A law's premises are what the calls before it
+-- ensure.
 -- Bytes of the output:
 --     written, written-after  passed on from packing PutLaws
 --     jobs-none, jobs-more    no job makes no bytes; a job's frame behind those of the first i
---     sheet-put               the head, the jobs and the end are the sheet
+--     bookings-put            the frames of the bookings in the part of the output that is left for them
+--     sheet-put               the head, the bookings, the jobs and the end are the sheet
 -- Jobs of two tables:
---     given h n ms bs         what the program writes: a head, and n jobs of two tables
+--     given h booked n ms bs  what the program writes: a head, bookings, and n jobs of two tables
 --     length-jobTable         there are n of them
 --     job-at, minutes-at      job i, and its minutes
 -- Verdict:
 --     verdictFrom m n ms bs i     9 to 11 for the jobs from job i on
 --     jobs-sound, jobs-fault, jobs-over   job i is sound, is faulty, or does not exist
---     head-fault, job-fault, all-checked  the head is faulty, a job is, or only 12 is left to judge
+--     opening-refused, opening-passed     the head is faulty, or only the bookings are left to judge
+--     opening-fault, job-fault, all-checked       head or bookings are faulty, a job is, or only 12 is left to judge
 --     hyper-edges-ready       where head and jobs are sound, their numbers fit what 12 computes
 -- What is returned:
 --     refused, no-room, all-written       the check refuses, the output is too short, or the sheet is written
---     head-ready, few-jobs, minutes-ready     where the check accepts, head and jobs fit their fields
+--     head-ready, bookings-ready, few-jobs, minutes-ready     where the check accepts, all numbers fit their fields
 use Prim.Native.Nat.{ℕ, _+_, _-_, _*_, _^_, _≤_, _<_}
-use native.Mathlib.Nat.{zero-add}
+use native.Mathlib.Nat.{zero-add, add-zero}
 use native.Mathlib.Numerals.{add-one}
 use native.Mathlib.Omega.{arith}
 use mathlib.Core.Path.{_≡_, sym, ap, _∙_}
@@ -25,6 +28,7 @@ use lib.ListN.{length, getD, take, drop, length-append, take-append-drop}
 use borrow.Author.Tests.{le-leb, lt-leb}
 use Rattle.sums.specs.Table.{table}
 use Rattle.sums.proofs.TableLaws.{length-table, getD-table, table-snoc}
+use Rattle.fields.specs.declared.sheet.Booking.{Booking}
 use Rattle.fields.specs.declared.sheet.Head.{Head}
 use Rattle.fields.specs.declared.sheet.Job.{Job}
 use Rattle.fields.specs.Contents.{Contents}
@@ -33,19 +37,26 @@ use Rattle.fields.specs.declared.fault.Fault.the-variants.{Table}
 use Rattle.fields.specs.declared.fault.Verdict.{Verdict}
 use Rattle.fields.specs.declared.fault.Verdict.the-variants.{Accepted, Refused}
 use Rattle.frame.specs.declared.writer.Written.the-variants.{Length, Refusal}
-use Rattle.fields.specs.Format.{headFrame, jobFrame, endFrame, jobFrames, sheetBytes}
-use Rattle.fields.specs.Tests.{firstFault, headFaults, jobFaults, noJob, jobAt, jobTable, hyperEdgeVerdict}
-use Rattle.frame.specs.Writing.{jobsVerdict, writerVerdict, fitted, writeSheet}
+use Rattle.fields.specs.Format.{headFrame, jobFrame, endFrame, bookings, bookingFrames, jobFrames, sheetBytes}
+use Rattle.fields.specs.Tests.{firstFault, headFaults, bookedFaults, jobFaults, noJob, jobAt, jobTable}
+use Rattle.fields.specs.Tests.{hyperEdgeVerdict}
+use Rattle.packing.specs.Packing.{framePut}
+use Rattle.bookings.specs.Bookings.{cutBookings}
+use Rattle.bookings.proofs.BookingLaws.{few-bookings, cutBookings-fit}
+use Rattle.frame.specs.Writing.{jobsVerdict, openingVerdict, writerVerdict, fitted, writeSheet}
 use Rattle.frame.specs.Sound.{SoundSheet}
 pub use Rattle.packing.proofs.PutLaws.{written, written-after}
-use Rattle.packing.proofs.PutLaws.{NarrowHead}
-use Rattle.fields.proofs.FormatLaws.{length-headFrame, length-jobFrames, length-sheetBytes, jobFrames-append}
-use Rattle.frame.proofs.WriterLaws.{head-sound, jobsVerdict-sound, writerVerdict-sound, jobsVerdict-drop, jobsVerdict-fault, jobsVerdict-over}
+use Rattle.packing.proofs.PutLaws.{NarrowHead, part-put}
+use Rattle.fields.proofs.FormatLaws.{length-headFrame, length-bookingFrames, length-jobFrames, length-sheetBytes}
+use Rattle.fields.proofs.FormatLaws.{jobFrames-append}
+use Rattle.frame.proofs.WriterLaws.{sound-bookings, opening-sound, jobsVerdict-sound, writerVerdict-sound}
+use Rattle.frame.proofs.WriterLaws.{jobsVerdict-drop, jobsVerdict-fault, jobsVerdict-over, write-accepted}
+use Rattle.frame.proofs.WriterLaws.{write-refused}
 
 -- ── the jobs of two tables ──
 
-abbrev pub given : Head → ℕ → List ℕ → List ℕ → Contents
-given h n ms bs = record { head = h; jobs = jobTable n ms bs }
+abbrev pub given : Head → List ℕ → ℕ → List ℕ → List ℕ → Contents
+given h booked n ms bs = record { head = h; booked = booked; jobs = jobTable n ms bs }
 
 module _ (n : ℕ) (ms bs : List ℕ) where
   pub length-jobTable : length (jobTable n ms bs) ≡ n
@@ -59,9 +70,9 @@ module _ (n : ℕ) (ms bs : List ℕ) where
 
 -- ── the frames of the jobs, and of the sheet ──
 
-pub jobs-none : (out : List ℕ) → out ≡ written out 10 (jobFrames []) 10
+pub jobs-none : (start : ℕ) (out : List ℕ) → out ≡ written out start (jobFrames []) (start + 0)
 unfolding jobFrames
-jobs-none out = rw (append-nil (take 10 out)) (sym (take-append-drop 10 out))
+jobs-none start out = rw (add-zero start, append-nil (take start out)) (sym (take-append-drop start out))
 
 jobFrames-more : (i : ℕ) (job : ℕ → Job) → jobFrames (table (i + 1) job) ≡ jobFrames (table i job) ++ jobFrame (job i)
 unfolding jobFrames
@@ -71,35 +82,66 @@ jobFrames-more i job =
     ∙ jobFrames-append (table i job) (job i ∷ [])
     ∙ ap (λ (s : List ℕ). jobFrames (table i job) ++ s) (append-nil (jobFrame (job i)))
 
-pub jobs-more : (out ms bs : List ℕ) (i : ℕ) (j : Job) {one two : List ℕ} → 10 ≤ length out
-    → one ≡ written out 10 (jobFrames (jobTable i ms bs)) (10 + 14 * i)
+pub jobs-more : (start : ℕ) (out ms bs : List ℕ) (i : ℕ) (j : Job) {one two : List ℕ} → start ≤ length out
+    → one ≡ written out start (jobFrames (jobTable i ms bs)) (start + 14 * i)
     → j .minutes ≡ getD ms i 0 → j .allowed ≡ getD bs i 0
-    → two ≡ written one (10 + 14 * i) (jobFrame j) (10 + 14 * i + 14)
-    → two ≡ written out 10 (jobFrames (jobTable (i + 1) ms bs)) (10 + 14 * (i + 1))
-jobs-more out ms bs i j l first m b second =
+    → two ≡ written one (start + 14 * i) (jobFrame j) (start + 14 * i + 14)
+    → two ≡ written out start (jobFrames (jobTable (i + 1) ms bs)) (start + 14 * (i + 1))
+jobs-more start out ms bs i j l first m b second =
     let job : ℕ → Job = λ n. record { minutes = getD ms n 0; allowed = getD bs n 0 } in
-    let end : 10 + 14 * i + 14 ≡ 10 + 14 * (i + 1) = omega arith in
-    let size : 10 + length (jobFrames (table i job)) ≡ 10 + 14 * i = omega (arith, length-jobFrames (table i job), length-table i job) in
+    let end : start + 14 * i + 14 ≡ start + 14 * (i + 1) = omega arith in
+    let size : start + length (jobFrames (table i job)) ≡ start + 14 * i =
+    omega (arith, length-jobFrames (table i job), length-table i job) in
     second
     ∙ rw (first, m, b, end, jobFrames-more i job)
-    (written-after out 10 (jobFrames (table i job)) (jobFrame (job i)) (10 + 14 * i) (10 + 14 * (i + 1)) l size (omega arith))
+    (written-after out start (jobFrames (table i job)) (jobFrame (job i)) (start + 14 * i) (start + 14 * (i + 1))
+    l size (omega arith))
 
-pub sheet-put : (out : List ℕ) (h : Head) (ms bs : List ℕ) (n : ℕ) {one two three : List ℕ} → 13 + 14 * n ≤ length out
-    → one ≡ headFrame h ++ drop 10 out
-    → two ≡ written one 10 (jobFrames (jobTable n ms bs)) (10 + 14 * n)
-    → three ≡ written two (13 + 14 * n - 3) endFrame (13 + 14 * n - 3 + 3)
-    → three ≡ sheetBytes (given h n ms bs) ++ drop (13 + 14 * n) out
-sheet-put out h ms bs n {two = two} l first second third =
-    let js = jobTable n ms bs in
-    let front = headFrame h ++ jobFrames js in
-    let middle : 13 + 14 * n - 3 ≡ 10 + 14 * n = omega arith in
-    let end : 10 + 14 * n + 3 ≡ 13 + 14 * n = omega arith in
-    let head-end : 0 + length (headFrame h) ≡ 10 = omega (arith, length-headFrame h) in
-    let jobs-end : 0 + length front ≡ 10 + 14 * n =
-    omega (arith, head-end, length-append (headFrame h) (jobFrames js), length-jobFrames js, length-jobTable n ms bs) in
-    let both : two ≡ written out 0 front (10 + 14 * n) =
-    second ∙ rw first (written-after out 0 (headFrame h) (jobFrames js) 10 (10 + 14 * n) (omega arith) head-end (omega arith)) in
-    third ∙ rw (both, middle, end) (written-after out 0 front endFrame (10 + 14 * n) (13 + 14 * n) (omega arith) jobs-end (omega arith))
+-- The part of the output that is left for the bookings is as long as their frames.
+pub bookings-put : (m : ℕ) (booked out : List ℕ) {n : ℕ} → m ≤ 64
+    → firstFault (bookedFaults m (bookings booked)) ≡ Accepted
+    → n ≡ 7 * length (bookings booked) → 10 + n ≤ length out
+    → framePut (bookingFrames (cutBookings (bookings booked))) 0 (take n (drop 10 out))
+    ≡ bookingFrames (bookings booked)
+bookings-put m booked out {n} few ok e l =
+    let frames = bookingFrames (bookings booked) in
+    let size = length-bookingFrames (bookings booked) in
+    ap (λ (bs : List Booking). framePut (bookingFrames bs) 0 (take n (drop 10 out)))
+    (cutBookings-fit m (bookings booked) few ok)
+    ∙ part-put frames out n 10 (omega arith) (omega arith)
+
+module _ (out : List ℕ) (h : Head) (booked ms bs : List ℕ) (n : ℕ) where
+  abbrev js : List Job
+  js = jobTable n ms bs
+
+  abbrev frames : List ℕ
+  frames = bookingFrames (bookings booked)
+
+  pub sheet-put : {start : ℕ} {one two three four : List ℕ} → start ≡ 10 + 7 * length (bookings booked)
+      → start + 14 * n + 3 ≤ length out
+      → one ≡ headFrame h ++ drop 10 out
+      → two ≡ written one 10 frames start
+      → three ≡ written two start (jobFrames js) (start + 14 * n)
+      → four ≡ written three (start + 14 * n + 3 - 3) endFrame (start + 14 * n + 3 - 3 + 3)
+      → four ≡ sheetBytes (given h booked n ms bs) ++ drop (start + 14 * n + 3) out
+  sheet-put {start} {two = two} {three = three} is-start l first second third fourth =
+      let front = headFrame h ++ frames in
+      let most = front ++ jobFrames js in
+      let middle : start + 14 * n + 3 - 3 ≡ start + 14 * n = omega arith in
+      let head-end : 0 + length (headFrame h) ≡ 10 = omega (arith, length-headFrame h) in
+      let front-end : 0 + length front ≡ start =
+      omega (arith, head-end, length-append (headFrame h) frames, length-bookingFrames (bookings booked)) in
+      let most-end : 0 + length most ≡ start + 14 * n =
+      omega (arith, front-end, length-append front (jobFrames js), length-jobFrames js, length-jobTable n ms bs) in
+      let both : two ≡ written out 0 front start =
+      second ∙ rw first (written-after out 0 (headFrame h) frames 10 start (omega arith) head-end (omega arith)) in
+      let all : three ≡ written out 0 most (start + 14 * n) =
+      third
+      ∙ rw both
+      (written-after out 0 front (jobFrames js) start (start + 14 * n) (omega arith) front-end (omega arith)) in
+      fourth
+      ∙ rw (all, middle)
+      (written-after out 0 most endFrame (start + 14 * n) (start + 14 * n + 3) (omega arith) most-end (omega arith))
 
 -- ── the verdict on the jobs ──
 
@@ -129,62 +171,79 @@ module _ (m n : ℕ) (ms bs : List ℕ) where
 
 -- ── the verdict on the contents ──
 
-module _ (c : Contents) {v : Verdict} (head : v ≡ firstFault (headFaults (c .head) 0)) where
-  pub head-fault : {f : Fault} → v ≡ Refused f → Refused f ≡ writerVerdict c
+module _ (h : Head) (booked : List ℕ) {v : Verdict} (head : v ≡ firstFault (headFaults h 0)) where
+  pub opening-refused : {f : Fault} → v ≡ Refused f → Refused f ≡ openingVerdict h booked
+  unfolding openingVerdict
+  opening-refused a = rw (← head, a)
+
+  pub opening-passed : {w : Verdict} → v ≡ Accepted → w ≡ firstFault (bookedFaults (h .benches) (bookings booked))
+      → w ≡ openingVerdict h booked
+  unfolding openingVerdict
+  opening-passed a e = rw (← head, a) e
+
+module _ (c : Contents) {v : Verdict} (opening : v ≡ openingVerdict (c .head) (c .booked)) where
+  pub opening-fault : {f : Fault} → v ≡ Refused f → Refused f ≡ writerVerdict c
   unfolding writerVerdict
-  head-fault a = rw (← head, a)
+  opening-fault a = rw (← opening, a)
 
   pub job-fault : {w : Verdict} {f : Fault} → v ≡ Accepted → w ≡ jobsVerdict (c .head .benches) 0 (c .jobs)
       → w ≡ Refused f → Refused f ≡ writerVerdict c
   unfolding writerVerdict
-  job-fault a jobs b = rw (← head, a, ← jobs, b)
+  job-fault a jobs b = rw (← opening, a, ← jobs, b)
 
   pub all-checked : {w x : Verdict} → v ≡ Accepted → w ≡ jobsVerdict (c .head .benches) 0 (c .jobs) → w ≡ Accepted
       → x ≡ hyperEdgeVerdict (c .head) (c .jobs) → x ≡ writerVerdict c
   unfolding writerVerdict
-  all-checked a jobs b last = rw (← head, a, ← jobs, b) last
+  all-checked a jobs b last = rw (← opening, a, ← jobs, b) last
 
-pub hyper-edges-ready : (h : Head) (n : ℕ) (ms bs : List ℕ) {v w : Verdict} → v ≡ firstFault (headFaults h 0) → v ≡ Accepted
+pub hyper-edges-ready : (h : Head) (booked : List ℕ) (n : ℕ) (ms bs : List ℕ) {v w : Verdict}
+    → v ≡ openingVerdict h booked → v ≡ Accepted
     → w ≡ jobsVerdict (h .benches) 0 (jobTable n ms bs) → w ≡ Accepted
     → (h .p < 128) × (h .q < 128) × ((i : ℕ) → i < n → getD ms i 0 < 2 ^ 20)
-hyper-edges-ready h n ms bs head a jobs b =
-    let s = head-sound h 0 (sym head ∙ a) in
+hyper-edges-ready h booked n ms bs opening a jobs b =
+    let s = opening-sound h booked (sym opening ∙ a) .0 in
     let job = jobsVerdict-sound (h .benches) 0 (jobTable n ms bs) (sym jobs ∙ b) in
     (s .p-fits, s .q-fits, λ i l. minutes-at n ms bs i l (job i (omega (arith, length-jobTable n ms bs)) .minutes-fit))
 
 -- ── what is returned ──
 
-pub refused : (c : Contents) (room : ℕ) {v : Verdict} {f : Fault} → v ≡ writerVerdict c → v ≡ Refused f
-    → Refusal f ≡ writeSheet c room
-unfolding writeSheet
-refused c room e a = rw (← e, a, writeSheet)
+module _ (h : Head) (booked : List ℕ) (n : ℕ) (ms bs : List ℕ) {v : Verdict}
+    (e : v ≡ writerVerdict (given h booked n ms bs)) where
+  pub refused : (room : ℕ) {f : Fault} → v ≡ Refused f → Refusal f ≡ writeSheet (given h booked n ms bs) room
+  refused room {f} a = sym (write-refused (given h booked n ms bs) room f (sym e ∙ a))
 
-writeSheet-sound : (c : Contents) (room : ℕ) → writerVerdict c ≡ Accepted
-    → writeSheet c room ≡ fitted (length (sheetBytes c)) room
-unfolding writeSheet
-writeSheet-sound c room e = rw (e, writeSheet)
+  module _ (a : v ≡ Accepted) where
+    sound : SoundSheet (given h booked n ms bs)
+    sound = writerVerdict-sound (given h booked n ms bs) (sym e ∙ a)
 
-module _ (h : Head) (n : ℕ) (ms bs : List ℕ) {v : Verdict}
-    (e : v ≡ writerVerdict (given h n ms bs)) (a : v ≡ Accepted) where
-  sound : SoundSheet (given h n ms bs)
-  sound = writerVerdict-sound (given h n ms bs) (sym e ∙ a)
+    pub head-ready : NarrowHead h
+    head-ready = omega (arith, sound .head)
 
-  pub head-ready : NarrowHead h
-  head-ready = omega (arith, sound .head)
+    pub few-benches : h .benches ≤ 64
+    few-benches = sound .head .at-most-64-benches
 
-  pub few-jobs : n ≤ 512
-  few-jobs = omega (arith, sound .at-most-512-jobs, length-jobTable n ms bs)
+    pub bookings-ready : firstFault (bookedFaults (h .benches) (bookings booked)) ≡ Accepted
+    bookings-ready = sound-bookings (h .benches) booked (sound .bookings)
 
-  pub minutes-ready : (i : ℕ) → i < n → getD ms i 0 < 2 ^ 20
-  minutes-ready i l = minutes-at n ms bs i l (sound .jobs i (omega (arith, length-jobTable n ms bs)) .minutes-fit)
+    pub bookings-few : length (bookings booked) ≤ 64
+    bookings-few = omega (arith, few-benches, few-bookings (h .benches) booked bookings-ready)
 
-  fits : (room : ℕ) → writeSheet (given h n ms bs) room ≡ fitted (13 + 14 * n) room
-  fits room =
-      writeSheet-sound (given h n ms bs) room (sym e ∙ a)
-      ∙ rw (length-sheetBytes (given h n ms bs), length-jobTable n ms bs)
+    pub few-jobs : n ≤ 512
+    few-jobs = omega (arith, sound .at-most-512-jobs, length-jobTable n ms bs)
 
-  pub no-room : (room : ℕ) → room < 13 + 14 * n → Refusal (Table 0) ≡ writeSheet (given h n ms bs) room
-  no-room room l = rw (fits room, lt-leb (13 + 14 * n) room l)
+    pub minutes-ready : (i : ℕ) → i < n → getD ms i 0 < 2 ^ 20
+    minutes-ready i l = minutes-at n ms bs i l (sound .jobs i (omega (arith, length-jobTable n ms bs)) .minutes-fit)
 
-  pub all-written : (room : ℕ) → 13 + 14 * n ≤ room → Length (13 + 14 * n) ≡ writeSheet (given h n ms bs) room
-  all-written room l = rw (fits room, le-leb (13 + 14 * n) room l)
+    module _ (start room : ℕ) (is-start : start ≡ 10 + 7 * length (bookings booked)) where
+      fits : writeSheet (given h booked n ms bs) room ≡ fitted (start + 14 * n + 3) room
+      fits =
+          let size : length (sheetBytes (given h booked n ms bs)) ≡ start + 14 * n + 3 =
+          omega (arith, length-sheetBytes (given h booked n ms bs), length-jobTable n ms bs) in
+          write-accepted (given h booked n ms bs) room (sym e ∙ a) ∙ ap (λ (k : ℕ). fitted k room) size
+
+      pub no-room : room < start + 14 * n + 3 → Refusal (Table 0) ≡ writeSheet (given h booked n ms bs) room
+      no-room l = rw (fits, lt-leb (start + 14 * n + 3) room l)
+
+      pub all-written : start + 14 * n + 3 ≤ room
+          → Length (start + 14 * n + 3) ≡ writeSheet (given h booked n ms bs) room
+      all-written l = rw (fits, le-leb (start + 14 * n + 3) room l)

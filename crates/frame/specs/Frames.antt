@@ -19,6 +19,9 @@
 --     SheetFault s f          reading s comes to such a place
 --     SheetSound s c          reading s comes to its end with the contents c, and finds no fault
 --     Judgement s r           what s has to be read as
+-- A booking of 0 minutes (request S-1):
+--     BookingPlace s b at rest g      byte at of s is a place for a booking of bench b
+--     NoBookingOf b s         no frame that reading s comes to is a booking of bench b
 use Prim.Native.Nat.{ℕ, _+_, _-_, _≤_, _<_}
 use mathlib.Core.Path.{_≡_}
 use mathlib.Core.Bool.{true, false, cond}
@@ -27,12 +30,12 @@ use mathlib.Core.List.{List, [], _∷_, _++_}
 use lib.ListN.{length}
 use lib.Dec.{leb, ltb}
 use Rattle.fields.specs.Contents.{Contents}
-use Rattle.judging.specs.declared.judge.Stage.the-variants.{Closed}
+use Rattle.judging.specs.declared.judge.Stage.the-variants.{Open, Closed}
 use Rattle.fields.specs.declared.fault.Fault.{Fault}
 use Rattle.fields.specs.declared.fault.Fault.the-variants.{TooLong, Truncated, UnknownKind, Misplaced, WrongLength}
 use Rattle.fields.specs.declared.fault.Fault.the-variants.{SpareBit, BenchCount, Share, JobCount, Minutes, Allowed}
-use Rattle.fields.specs.declared.fault.Fault.the-variants.{HeavyHyperEdge, Table}
-use Rattle.fields.specs.Format.{ours, headerSize, versionOf, kindOf, frameSize, bodyOf}
+use Rattle.fields.specs.declared.fault.Fault.the-variants.{HeavyHyperEdge, Table, BookedBench, BookedTwice}
+use Rattle.fields.specs.Format.{ours, bookingKind, headerSize, versionOf, kindOf, frameSize, bodyOf, bookingOf}
 use Rattle.fields.specs.Tests.{Test, heavyHyperEdgeAt, LowestHeavyHyperEdge}
 use Rattle.judging.specs.FrameTests.{cut}
 use Rattle.frame.specs.Reading.{Progress, Read, accepted, refused, nothingRead, faultsAt, after, readFrom}
@@ -84,6 +87,8 @@ movedBy by (Minutes at) = Minutes (at + by at)
 movedBy by (Allowed at) = Allowed (at + by at)
 movedBy by (HeavyHyperEdge job) = HeavyHyperEdge job
 movedBy by (Table at) = Table at
+movedBy by (BookedBench at) = BookedBench (at + by at)
+movedBy by (BookedTwice at) = BookedTwice (at + by at)
 
 -- Where by bytes are added at byte from, those before byte at.
 abbrev pub fromOn : ℕ → ℕ → ℕ → ℕ
@@ -134,7 +139,7 @@ pub data Reached (s : List ℕ) : ℕ → List ℕ → Progress → Type 0 where
 pub data FaultHere (s : List ℕ) (at : ℕ) (rest : List ℕ) (g : Progress) : Fault → Type 0 where
   -- "2. The sheet ends inside a frame of any version (place: that frame)"
   ends-inside : 0 < length rest → cut rest ≡ true → FaultHere s at rest g (Truncated at)
-  -- 3 to 11: a whole frame of version 1, and the first of its tests that holds.
+  -- 3 to 11, 14 and 15: a whole frame of version 1, and the first of its tests that holds.
   in-frame : {f : Fault} (frame later : List ℕ) → rest ≡ frame ++ later → WholeFrame frame → versionOf frame ≡ ours
       → FirstTest (faultsAt g at frame) f → FaultHere s at rest g f
   -- "2. … or its frames are over and none was an end frame (place: the sheet's length)"
@@ -165,3 +170,17 @@ pub data Judgement (s : List ℕ) : Read → Type 0 where
   too-long : 65536 < length s → Judgement s (refused TooLong)
   faulty : {f : Fault} → length s ≤ 65536 → SheetFault s f → Judgement s (refused f)
   sound : {c : Contents} → length s ≤ 65536 → SheetSound s c → Judgement s (accepted c)
+
+-- ── a booking of 0 minutes ──
+
+-- "after the head and before the first job": reading comes to byte at, the head has come and no job has.
+pub record BookingPlace (s : List ℕ) (b at : ℕ) (rest : List ℕ) (g : Progress) : Type 0 where
+  pub reached : Reached s at rest g
+  pub stage-is : g .stage ≡ Open
+  pub no-job : length (g .contents .jobs) ≡ 0
+  pub bench-of-head : b < g .contents .head .benches
+
+abbrev pub NoBookingOf : ℕ → List ℕ → Type 0
+NoBookingOf b s =
+    (at : ℕ) (f rest : List ℕ) (g : Progress) → Reached s at (f ++ rest) g → WholeFrame f → versionOf f ≡ ours
+    → kindOf f ≡ bookingKind → bookingOf (bodyOf f) .bench ≢ b

@@ -3,6 +3,7 @@
 mod reader;
 mod writer;
 
+pub use fields::Booking;
 pub use fields::Fault;
 pub use fields::Head;
 pub use fields::Job;
@@ -13,4 +14,5 @@ pub use reader::read;
 pub use unpacking::FrameHeader;
 pub use unpacking::byte;
 pub use writer::Written;
+pub use writer::check_opening;
 pub use writer::write;

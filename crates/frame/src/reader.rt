@@ -1,4 +1,4 @@
-// Reading: frames in sheet order, each judged by the faults 2 to 11, then fault 12.
+// Reading: frames in sheet order, each judged by the faults 2 to 11, 14 and 15, then fault 12.
 use fields::Fault;
 use fields::Head;
 use fields::Reading;
@@ -8,6 +8,7 @@ use judging::Frame;
 use judging::Stage;
 ghost use mathlib.Core.Path.{_≡_};
 ghost use Prim.Native.Nat.{ℕ, _<_, _^_};
+ghost use mathlib.Core.List.{List};
 ghost use lib.ListN.{getD};
 ghost use Rattle.fields.specs.Tests.{jobTable};
 ghost use Rattle.frame.specs.Reading.{Read, readSheet, stored, sheetOf, noContents, endVerdict};
@@ -21,12 +22,14 @@ pub fn read(s: &[u8]) -> Reading
     }
     let mut sheet = empty();
     let mut stage = Stage::Start;
+    // The benches that had a booking frame, as a set.
+    let mut had = 0;
     let mut at = 0;
     while at < s.len() {
         let n = sheet.count;
         let benches = sheet.head.benches;
         let next = at + judging::frame_size(&s[at..]);
-        match judging::frame_at(&s[at..], at, stage, benches, n) {
+        match judging::frame_at(&s[at..], at, stage, benches, n, had) {
             Frame::Faulty(f) => {
                 return refusal(f);
             }
@@ -34,6 +37,11 @@ pub fn read(s: &[u8]) -> Reading
             Frame::Head(h) => {
                 sheet.head = h;
                 stage = Stage::Open;
+            }
+            Frame::Booking(b) => {
+                let bench = b.bench;
+                sheet.booked[bench] = b.minutes;
+                had = sets::add(had, bench, true);
             }
             Frame::Job(j) => {
                 sheet.minutes[n] = j.minutes;
@@ -57,7 +65,7 @@ pub fn read(s: &[u8]) -> Reading
     }
 }
 
-// A sheet with no jobs and no head.
+// A sheet with no head, no bookings and no jobs.
 fn empty() -> Sheet
     ensures { λ r. ⌜ r ≡ sheetOf noContents ⌝ }
 {
@@ -68,6 +76,7 @@ fn empty() -> Sheet
             q: 0,
             target: 0,
         },
+        booked: [0; 64],
         count: 0,
         minutes: [0; 512],
         allowed: [0; 512],
@@ -93,8 +102,8 @@ fn finish<'a>(
     allowed: &'a [u64],
 ) -> Verdict
     requires { ⌜ (h .p < 128) × (h .q < 128) × ((n : ℕ) → n < count → getD (now minutes) n 0 < 2 ^ 20) ⌝ }
-    ensures { λ r. ⌜ r ≡ endVerdict stage at
-        (record { head = h; jobs = jobTable count (now (minutes .entry)) (now (allowed .entry)) }) ⌝ }
+    ensures { λ r. ⌜ ((bs : List ℕ) → r ≡ endVerdict stage at
+        (record { head = h; booked = bs; jobs = jobTable count (now (minutes .entry)) (now (allowed .entry)) })) ⌝ }
 {
     match stage {
         Stage::Closed => checks::check_hyper_edges(h, count, minutes, allowed),

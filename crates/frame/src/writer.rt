@@ -1,4 +1,4 @@
-// Writing: the tests 7 to 12, room for the output, then the frames.
+// Writing: the tests 7, 8, 14 and 9 to 12, room for the output, then the frames.
 use fields::Fault;
 use fields::Head;
 use fields::Job;
@@ -9,7 +9,8 @@ ghost use mathlib.Core.List.{_++_};
 ghost use lib.ListN.{length, take, drop, getD};
 ghost use Rattle.fields.specs.Format.{jobFrames};
 ghost use Rattle.fields.specs.Tests.{jobTable};
-ghost use Rattle.frame.specs.Writing.{contentsOf, jobsVerdict, writerVerdict, writeSheet, output};
+ghost use Rattle.frame.specs.Writing.{contentsOf, jobsVerdict, openingVerdict};
+ghost use Rattle.frame.specs.Writing.{writerVerdict, writeSheet, output};
 
 // The length of what was written, or why nothing was.
 pub enum Written {
@@ -17,24 +18,34 @@ pub enum Written {
     Refusal(Fault),
 }
 
-// Writes the head, the jobs of two tables (minutes, benches allowed) and the end to the front of `out`.
-// A table that is shorter than the other counts as 0 from its end on.
-pub fn write<'a>(h: Head, minutes: &'a [u64], allowed: &'a [u64], out: &mut [u8]) -> Written
+// Writes the head, the bookings above 0 of a table, the jobs of two tables (minutes, benches allowed) and the end to
+// the front of `out`. A table counts as 0 from its end on.
+pub fn write<'a>(
+    h: Head,
+    booked: &'a [u64],
+    minutes: &'a [u64],
+    allowed: &'a [u64],
+    out: &mut [u8],
+) -> Written
     ensures { λ r. ⌜
-        (r ≡ writeSheet (contentsOf h (now (minutes .entry)) (now (allowed .entry))) (length (now (out .entry))))
-        × (now (out .exit) ≡ output r (contentsOf h (now (minutes .entry)) (now (allowed .entry))) (now (out .entry)))
+        (r ≡ writeSheet (contentsOf h (now (booked .entry)) (now (minutes .entry)) (now (allowed .entry)))
+        (length (now (out .entry))))
+        × (now (out .exit) ≡ output r
+        (contentsOf h (now (booked .entry)) (now (minutes .entry)) (now (allowed .entry))) (now (out .entry)))
         ⌝ }
 {
     let n = longer(minutes.len(), allowed.len());
-    match check(h, n, minutes, allowed) {
+    match check(h, booked, n, minutes, allowed) {
         Verdict::Refused(f) => Written::Refusal(f),
         Verdict::Accepted => {
-            let size = 13 + 14 * n;
+            let start = 10 + 7 * bookings::count_bookings(booked);
+            let size = start + 14 * n + 3;
             if out.len() < size {
                 return Written::Refusal(Fault::Table(0));
             }
             packing::put_head(h, out);
-            put_jobs(n, minutes, allowed, out);
+            bookings::put_bookings(booked, &mut out[10..start]);
+            put_jobs(n, minutes, allowed, start, out);
             packing::put_end(out, size - 3);
             Written::Length(size)
         }
@@ -47,12 +58,31 @@ fn longer(a: usize, b: usize) -> usize
     if a < b { b } else { a }
 }
 
-// Faults 7 to 12.
-fn check<'a>(h: Head, n: usize, minutes: &'a [u64], allowed: &'a [u64]) -> Verdict
-    ensures { λ r. ⌜ r ≡ writerVerdict
-        (record { head = h; jobs = jobTable n (now (minutes .entry)) (now (allowed .entry)) }) ⌝ }
+// Faults 7, 8 and 14 of a head and a table of bookings.
+pub fn check_opening(h: Head, booked: &[u64]) -> Verdict
+    ensures { λ r. ⌜ r ≡ openingVerdict h (now (booked .entry)) ⌝ }
 {
     match checks::check_head(h, 0) {
+        Verdict::Refused(f) => Verdict::Refused(f),
+        Verdict::Accepted => bookings::check_bookings(h.benches, booked),
+    }
+}
+
+// Faults 7, 8, 14 and 9 to 12.
+fn check<'a>(
+    h: Head,
+    booked: &'a [u64],
+    n: usize,
+    minutes: &'a [u64],
+    allowed: &'a [u64],
+) -> Verdict
+    ensures { λ r. ⌜ r ≡ writerVerdict (record {
+      head = h;
+      booked = now (booked .entry);
+      jobs = jobTable n (now (minutes .entry)) (now (allowed .entry));
+    }) ⌝ }
+{
+    match check_opening(h, booked) {
         Verdict::Refused(f) => Verdict::Refused(f),
         Verdict::Accepted => match check_jobs(h.benches, n, minutes, allowed) {
             Verdict::Refused(f) => Verdict::Refused(f),
@@ -82,14 +112,15 @@ fn check_jobs(benches: u64, n: usize, minutes: &[u64], allowed: &[u64]) -> Verdi
     Verdict::Accepted
 }
 
-// The frames of the first n jobs, from byte 10 on.
-fn put_jobs(n: usize, minutes: &[u64], allowed: &[u64], out: &mut [u8])
-    requires { ⌜ (n ≤ 512) × (10 + 14 * n ≤ length (now out)) × ((i : ℕ) → i < n → getD (now minutes) i 0 < 2 ^ 20) ⌝ }
+// The frames of the first n jobs, from byte `start` on.
+fn put_jobs(n: usize, minutes: &[u64], allowed: &[u64], start: usize, out: &mut [u8])
+    requires { ⌜ (n ≤ 512) × (start + 14 * n ≤ length (now out))
+        × ((i : ℕ) → i < n → getD (now minutes) i 0 < 2 ^ 20) ⌝ }
     ensures { λ _. ⌜
         now (out .exit)
-        ≡ take 10 (now (out .entry))
+        ≡ take start (now (out .entry))
         ++ jobFrames (jobTable n (now (minutes .entry)) (now (allowed .entry)))
-        ++ drop (10 + 14 * n) (now (out .entry))
+        ++ drop (start + 14 * n) (now (out .entry))
         ⌝ }
 {
     let mut i = 0;
@@ -98,7 +129,7 @@ fn put_jobs(n: usize, minutes: &[u64], allowed: &[u64], out: &mut [u8])
             minutes: checks::entry(minutes, i),
             allowed: checks::entry(allowed, i),
         };
-        let at = 10 + 14 * i;
+        let at = start + 14 * i;
         packing::put_job(j, &mut out[at..at + 14]);
         i += 1;
     }

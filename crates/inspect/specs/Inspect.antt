@@ -1,7 +1,7 @@
 -- What was read of a sheet, as a table of numbers, for tests.
 --     headNumbers h         benches, p, q and target
 --     jobNumbers js         minutes and benches allowed of each job
---     numbersRead c         those of the head, then those of the jobs
+--     numbersRead c         those of the head, then the minutes booked on each of 64 benches, then those of the jobs
 --     sizeRead c            the bytes that they take
 --     inspectWord r room    the number of jobs, or the fault; 13 where the numbers do not fit
 --     inspectTable r t      the table afterwards
@@ -26,10 +26,10 @@ jobNumbers [] = []
 jobNumbers (j ∷ js) = j .minutes ∷ j .allowed ∷ jobNumbers js
 
 abbrev pub numbersRead : Contents → List ℕ
-numbersRead c = headNumbers (c .head) ++ jobNumbers (c .jobs)
+numbersRead c = headNumbers (c .head) ++ c .booked ++ jobNumbers (c .jobs)
 
 abbrev pub sizeRead : Contents → ℕ
-sizeRead c = 32 + 16 * length (c .jobs)
+sizeRead c = 544 + 16 * length (c .jobs)
 
 unfoldable pub inspectWord : Read → ℕ → ℕ
 inspectWord (accepted c) room = cond (ltb room (sizeRead c)) (faultWord (Table 0)) (length (c .jobs))

@@ -25,10 +25,11 @@ pub extern "C" fn yinqocha_inspect(sheet: &[u8], table: &mut [u8]) -> u64
             let s = reading.sheet;
             let h = s.head;
             let n = s.count;
-            if table.len() < 32 + 16 * n {
+            if table.len() < 544 + 16 * n {
                 return tables::fault_word(Fault::Table(0));
             }
             put_head(h, table);
+            put_booked(&s.booked, table);
             put_jobs(n, &s.minutes, &s.allowed, table);
             n as u64
         }
@@ -45,16 +46,25 @@ fn put_head(h: Head, table: &mut [u8])
     tables::put(table, 3, h.target);
 }
 
+// One number for each of 64 benches, behind those of the head.
+fn put_booked(booked: &[u64], table: &mut [u8])
+    requires { ⌜ (length (now booked) ≡ 64) × (544 ≤ length (now table)) ⌝ }
+    ensures { λ _. ⌜ now (table .exit) ≡ take 32 (now (table .entry)) ++ littleAll 8 (now (booked .entry))
+        ++ drop 544 (now (table .entry)) ⌝ }
+{
+    tables::put_front(booked, &mut table[32..544]);
+}
+
 fn put_jobs<'a>(n: usize, minutes: &'a [u64], allowed: &'a [u64], table: &mut [u8])
-    requires { ⌜ (n ≤ length (now minutes)) × (n ≤ length (now allowed)) × (32 + 16 * n ≤ length (now table)) ⌝ }
-    ensures { λ _. ⌜ now (table .exit) ≡ take 32 (now (table .entry))
+    requires { ⌜ (n ≤ length (now minutes)) × (n ≤ length (now allowed)) × (544 + 16 * n ≤ length (now table)) ⌝ }
+    ensures { λ _. ⌜ now (table .exit) ≡ take 544 (now (table .entry))
         ++ littleAll 8 (jobNumbers (jobTable n (now (minutes .entry)) (now (allowed .entry))))
-        ++ drop (32 + 16 * n) (now (table .entry)) ⌝ }
+        ++ drop (544 + 16 * n) (now (table .entry)) ⌝ }
 {
     let mut i = 0;
     while i < n {
-        tables::put(table, 4 + 2 * i, minutes[i]);
-        tables::put(table, 5 + 2 * i, allowed[i]);
+        tables::put(table, 68 + 2 * i, minutes[i]);
+        tables::put(table, 69 + 2 * i, allowed[i]);
         i += 1;
     }
 }

@@ -4,10 +4,12 @@
 --     put-byte, put-all       a turn of the loop that puts the k bytes of v stores the next of them; after k turns they all stand there
 --     framePut-room, framePut-none    a frame put where there is room for it, and where there is none
 --     NarrowHead h            each number of the head h fits its field
---     cutHead-fits, cutJob-fits       numbers that fit their fields are not cut
+--     cutHead-fits, cutBooking-fits, cutJob-fits      numbers that fit their fields are not cut
+--     part-put, booking-part  a frame, and a booking's frame, put into a part of the output that is as long
 --     head-fits, job-fits, end-fits   a frame of numbers that fit, put where there is room
---     head-none, job-none, end-none   the output is too short: nothing is put
---     head-put                a header and a head's body, put one behind the other, are the head's frame
+--     head-none, booking-none, job-none, end-none     the output is too short: nothing is put
+--     body-put                a header and a body, put one behind the other, are their frame
+--     head-put, booking-put   so for a head and for a booking
 --     job-put                 a header and the two parts of a job's body are the job's frame
 --     high-fits               the first eight bytes of a job's body are a number below 2 ^ 64
 --     end-put                 a header is the end's frame
@@ -19,18 +21,21 @@ use mathlib.Core.Path.{_≡_, sym, ap, _∙_}
 use mathlib.Core.List.{List, [], _∷_, _++_, append-assoc, append-nil}
 use lib.ListN.{length, take, drop, set, length-append, length-take, length-drop, drop-of-length-le}
 use lib.Seq.{length-take-le, take-all, take-at, drop-at, drop-drop, paste, paste-suc}
-use lib.Dec.{lit≤}
 use borrow.Author.Tests.{le-leb, lt-leb}
 use Rattle.bits.specs.Bits.{bytesOf}
-use Rattle.bits.specs.Layout.{joined}
+use Rattle.bits.specs.Layout.{joined, packed}
 use Rattle.bits.proofs.BitsLaws.{pow-256}
 use Rattle.bits.proofs.BytesLaws.{length-bytesOf, getD-bytesOf, bytesOf-append}
+use Rattle.fields.specs.declared.sheet.Booking.{Booking}
 use Rattle.fields.specs.declared.sheet.Head.{Head}
 use Rattle.fields.specs.declared.sheet.Job.{Job}
-use Rattle.fields.specs.Format.{ours, headKind, jobKind, endKind, headerLayout, headLayout, jobLayout, headFrame, jobFrame, endFrame}
-use Rattle.fields.proofs.FormatLaws.{headValues, jobValues, endBody-empty, length-headBody, length-jobBody}
-use Rattle.fields.proofs.FormatLaws.{length-headFrame, length-jobFrame, length-endFrame}
-use Rattle.packing.specs.Packing.{cutHead, cutJob, framePut}
+use Rattle.fields.specs.Format.{ours, headKind, jobKind, endKind, bookingKind, frameBytes}
+use Rattle.fields.specs.Format.{headerLayout, headLayout, jobLayout, bookingLayout}
+use Rattle.fields.specs.Format.{headFrame, bookingFrame, jobFrame, endFrame}
+use Rattle.fields.proofs.FormatLaws.{headValues, bookingValues, jobValues, endBody-empty, length-headBody}
+use Rattle.fields.proofs.FormatLaws.{length-bookingBody, length-jobBody, length-frameBytes}
+use Rattle.fields.proofs.FormatLaws.{length-headFrame, length-bookingFrame, length-jobFrame, length-endFrame}
+use Rattle.packing.specs.Packing.{cutHead, cutBooking, cutJob, framePut}
 
 -- ── two writes, one behind the other ──
 
@@ -82,6 +87,9 @@ NarrowHead h = (h .benches < 128) × (h .p < 128) × (h .q < 128) × (h .target 
 pub cutHead-fits : (h : Head) → NarrowHead h → cutHead h ≡ h
 cutHead-fits h (b, p, q, t) = rw (mod-eq-of-lt b, mod-eq-of-lt p, mod-eq-of-lt q, mod-eq-of-lt t)
 
+pub cutBooking-fits : (b : Booking) → b .bench < 64 → b .minutes < 2 ^ 20 → cutBooking b ≡ b
+cutBooking-fits b v m = rw (mod-eq-of-lt v, mod-eq-of-lt m)
+
 pub cutJob-fits : (j : Job) → j .minutes < 2 ^ 20 → cutJob j ≡ j
 cutJob-fits j m = rw (mod-eq-of-lt m)
 
@@ -92,15 +100,27 @@ head-fits h out narrow l =
     ∙ framePut-room (headFrame h) 0 out 10 (omega (arith, length-headFrame h)) l
 
 -- A part of an output that is as long as the frame becomes the frame.
+pub part-put : (frame out : List ℕ) (n at : ℕ) → n ≡ length frame → at + length frame ≤ length out
+    → framePut frame 0 (take n (drop at out)) ≡ frame
+part-put frame out n at e l =
+    let part = take n (drop at out) in
+    let size : length part ≡ length frame = omega (arith, length-take n (drop at out), length-drop at out) in
+    framePut-room frame 0 part (length frame) (omega arith) (omega arith)
+    ∙ ap (λ (rest : List ℕ). frame ++ rest) (drop-of-length-le part {i = length frame} (omega arith))
+    ∙ append-nil frame
+
+pub booking-part : (b : Booking) (out : List ℕ) {n : ℕ} → n ≡ 7 → (at : ℕ) → at + 7 ≤ length out
+    → framePut (bookingFrame (cutBooking b)) 0 (take n (drop at out)) ≡ bookingFrame (cutBooking b)
+booking-part b out {n} e at l =
+    let size = length-bookingFrame (cutBooking b) in
+    part-put (bookingFrame (cutBooking b)) out n at (omega arith) (omega arith)
+
 pub job-fits : (j : Job) (out : List ℕ) {n : ℕ} → n ≡ 14 → (at : ℕ) → j .minutes < 2 ^ 20 → at + 14 ≤ length out
     → framePut (jobFrame (cutJob j)) 0 (take n (drop at out)) ≡ jobFrame j
 job-fits j out {n} e at m l =
-    let part = take n (drop at out) in
-    let size : length part ≡ 14 = omega (arith, length-take n (drop at out), length-drop at out) in
-    ap (λ (k : Job). framePut (jobFrame k) 0 part) (cutJob-fits j m)
-    ∙ framePut-room (jobFrame j) 0 part 14 (omega (arith, length-jobFrame j)) (omega arith)
-    ∙ ap (λ (rest : List ℕ). jobFrame j ++ rest) (drop-of-length-le part {i = 14} (omega arith))
-    ∙ append-nil (jobFrame j)
+    let size = length-jobFrame j in
+    ap (λ (k : Job). framePut (jobFrame k) 0 (take n (drop at out))) (cutJob-fits j m)
+    ∙ part-put (jobFrame j) out n at (omega arith) (omega arith)
 
 pub end-fits : (at : ℕ) (out : List ℕ) → at + 3 ≤ length out
     → framePut endFrame at out ≡ written out at endFrame (at + 3)
@@ -111,18 +131,40 @@ end-fits at out l = framePut-room endFrame at out (at + 3) (omega (arith, length
 pub head-none : (h : Head) (out : List ℕ) → length out < 10 → out ≡ framePut (headFrame h) 0 out
 head-none h out l = framePut-none (headFrame h) 0 out 10 (omega (arith, length-headFrame h)) l
 
+-- A body of n bytes, put as one number.
+pub body-put : (out : List ℕ) (kind n fields : ℕ) (body : List ℕ) {header : ℕ} {one two : List ℕ} → length body ≡ n
+    → 3 + n ≤ length out → bytesOf n fields ≡ body
+    → header ≡ joined headerLayout (ours ∷ kind ∷ n ∷ []) → one ≡ written out 0 (bytesOf 3 header) 3
+    → two ≡ written one 3 (bytesOf n fields) (3 + n)
+    → two ≡ framePut (frameBytes kind body) 0 out
+body-put out kind n fields body {header} {two = two} size l same e first second =
+    let a = bytesOf 3 header in
+    let header-end : 0 + length a ≡ 3 = omega (arith, length-bytesOf 3 header) in
+    let both : two ≡ written out 0 (a ++ bytesOf n fields) (3 + n) =
+    second ∙ rw first (written-after out 0 a (bytesOf n fields) 3 (3 + n) (omega arith) header-end (omega arith)) in
+    let whole : two ≡ written out 0 (frameBytes kind body) (3 + n) = both ∙ rw (e, size, same) in
+    whole ∙ sym (framePut-room (frameBytes kind body) 0 out (3 + n) (omega (arith, length-frameBytes kind body)) l)
+
 pub head-put : (out : List ℕ) (h : Head) {header fields : ℕ} {one two : List ℕ} → 10 ≤ length out
     → fields ≡ joined headLayout (headValues h)
     → header ≡ joined headerLayout (ours ∷ headKind ∷ 7 ∷ []) → one ≡ written out 0 (bytesOf 3 header) 3
     → two ≡ written one 3 (bytesOf 7 fields) 10
     → two ≡ framePut (headFrame h) 0 out
-head-put out h {header} {fields} {two = two} l body e first second =
-    let a = bytesOf 3 header in
-    let header-end : 0 + length a ≡ 3 = omega (arith, length-bytesOf 3 header) in
-    let both : two ≡ written out 0 (a ++ bytesOf 7 fields) 10 =
-    second ∙ rw first (written-after out 0 a (bytesOf 7 fields) 3 10 (omega arith) header-end (lit≤ tt)) in
-    let whole : two ≡ written out 0 (headFrame h) 10 = both ∙ rw (e, length-headBody h, body) in
-    whole ∙ sym (framePut-room (headFrame h) 0 out 10 (omega (arith, length-headFrame h)) l)
+head-put out h {fields = fields} l body e first second =
+    body-put out headKind 7 fields (packed headLayout (headValues h)) (length-headBody h) l (ap (bytesOf 7) body)
+    e first second
+
+pub booking-none : (b : Booking) (out : List ℕ) → length out < 7 → out ≡ framePut (bookingFrame b) 0 out
+booking-none b out l = framePut-none (bookingFrame b) 0 out 7 (omega (arith, length-bookingFrame b)) l
+
+pub booking-put : (out : List ℕ) (b : Booking) {header fields : ℕ} {one two : List ℕ} → 7 ≤ length out
+    → fields ≡ joined bookingLayout (bookingValues b)
+    → header ≡ joined headerLayout (ours ∷ bookingKind ∷ 4 ∷ []) → one ≡ written out 0 (bytesOf 3 header) 3
+    → two ≡ written one 3 (bytesOf 4 fields) 7
+    → two ≡ framePut (bookingFrame b) 0 out
+booking-put out b {fields = fields} l body e first second =
+    body-put out bookingKind 4 fields (packed bookingLayout (bookingValues b)) (length-bookingBody b) l
+    (ap (bytesOf 4) body) e first second
 
 joined-fits : (x y : ℕ) → x < 1048576 → y < 17592186044416 → x * 17592186044416 + y < 2 ^ 64
 joined-fits x y hx hy = omega arith

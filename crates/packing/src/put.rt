@@ -1,4 +1,5 @@
 // Frames put into an output. Where the output lacks the room nothing is put; a number too wide is cut to its field.
+use fields::Booking;
 use fields::Head;
 use fields::Job;
 use unpacking::FrameHeader;
@@ -7,8 +8,8 @@ ghost use Prim.Native.Nat.{_+_, _≤_};
 ghost use mathlib.Core.List.{_++_};
 ghost use lib.ListN.{length, take, drop};
 ghost use Rattle.bits.specs.Bits.{bytesOf};
-ghost use Rattle.fields.specs.Format.{headFrame, jobFrame, endFrame};
-ghost use Rattle.packing.specs.Packing.{cutHead, cutJob, framePut};
+ghost use Rattle.fields.specs.Format.{headFrame, bookingFrame, jobFrame, endFrame};
+ghost use Rattle.packing.specs.Packing.{cutHead, cutBooking, cutJob, framePut};
 
 // The head's frame, at the front of the output.
 pub fn put_head(h: Head, out: &mut [u8])
@@ -26,6 +27,23 @@ pub fn put_head(h: Head, out: &mut [u8])
         FrameHeader::packed(FrameHeader::HEAD, FrameHeader::HEAD_LENGTH),
     );
     put(out, 3, 7, fields * 32);
+}
+
+// A booking's frame, at the front of the output.
+pub fn put_booking(b: Booking, out: &mut [u8])
+    ensures { λ _. ⌜ now (out .exit) ≡ framePut (bookingFrame (cutBooking b)) 0 (now (out .entry)) ⌝ }
+{
+    if out.len() < 7 {
+        return;
+    }
+    let fields = (b.bench % 64) as u64 * 1048576 + b.minutes % 1048576;
+    put(
+        out,
+        0,
+        3,
+        FrameHeader::packed(FrameHeader::BOOKING, FrameHeader::BOOKING_LENGTH),
+    );
+    put(out, 3, 4, fields * 64);
 }
 
 // A job's frame, at the front of the output.

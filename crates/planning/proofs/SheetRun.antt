@@ -11,7 +11,7 @@ use mathlib.Core.Bool.{Bool, true, false, cond, _&&_, _||_}
 use mathlib.Core.Logic.{inl, inr}
 use mathlib.Core.List.{List}
 use native.Mathlib.Omega.{arith}
-use lib.ListN.{length, getD, replicate, length-replicate, getD-replicate}
+use lib.ListN.{length, getD, replicate, length-replicate}
 use lib.Dec.{ltb}
 use borrow.Author.Tests.{lt-ltb, le-ltb}
 use Rattle.bools.proofs.BoolLaws.{split, clash}
@@ -100,7 +100,7 @@ module _ (d : Day) where
 -- ── the day of a sheet ──
 
 module _ (s : List ℕ) (c : Contents) (x : Sheet) (read : readSheet s ≡ accepted c) (same : x ≡ sheetOf c) where
-  T : Tables c (x .head .benches) (x .count) (x .minutes) (x .allowed)
+  T : Tables c (x .head .benches) (x .booked) (x .count) (x .minutes) (x .allowed)
   T = tables-of s c x read same
 
   -- An array that is filled with the entries of another.
@@ -127,7 +127,7 @@ module _ (s : List ℕ) (c : Contents) (x : Sheet) (read : readSheet s ≡ accep
           q-small = T .sound .head .q-fits;
           target-small = T .sound .head .target-fits;
           minutes-small = λ j l. T .sound .jobs j l .minutes-fit;
-          booked-small = λ v. omega arith;
+          booked-small = λ v. omega (arith, T .sound .bookings .booked-fit v);
         };
         jobs-are = T .jobs-are;
         minutes-are = λ j l. entry-is (x .minutes) minutes₀ rm em j l ∙ T .minutes-are j l;
@@ -138,12 +138,12 @@ module _ (s : List ℕ) (c : Contents) (x : Sheet) (read : readSheet s ≡ accep
         ];
       }
 
-  -- A sheet books no minutes.
-  pub day-lent : {minutes allowed : List ℕ}
+  pub day-lent : {minutes allowed booked : List ℕ}
       → minutes ≡ filled (x .count) (λ i. getD (x .minutes) i 0) (replicate 512 0)
       → allowed ≡ filled (x .count) (λ i. getD (x .allowed) i 0) (replicate 512 0)
-      → Lent (dayOf c) (x .head) (x .count) minutes allowed (replicate 64 0)
-  day-lent em ea =
+      → booked ≡ filled (x .head .benches) (λ i. getD (x .booked) i 0) (replicate 64 0)
+      → Lent (dayOf c) (x .head) (x .count) minutes allowed booked
+  day-lent em ea eb =
       let head-is : x .head ≡ c .head = ap (λ (y : Sheet). y .head) same in
       let wide : 512 ≤ length (replicate {A = ℕ} 512 0) = omega (arith, length-replicate {A = ℕ} 512 0) in
       let F = fields-of (replicate 512 0) (replicate 512 0) wide wide em ea in
@@ -154,7 +154,12 @@ module _ (s : List ℕ) (c : Contents) (x : Sheet) (read : readSheet s ≡ accep
         p-is = ap (λ (k : Head). k .p) head-is;
         q-is = ap (λ (k : Head). k .q) head-is;
         target-is = ap (λ (k : Head). k .target) head-is;
-        booked-are = λ v h. getD-replicate {A = ℕ} 64 v 0 0 (omega (arith, h, F .bounded .few-benches));
+        booked-are = λ v h.
+            ap (λ (xs : List ℕ). getD xs v 0) eb
+            ∙ getD-filled (λ i. getD (x .booked) i 0) (x .head .benches) (replicate 64 0) v 0
+            (omega (arith, h, T .benches-are))
+            (omega (arith, h, F .bounded .few-benches, length-replicate {A = ℕ} 64 0))
+            ∙ T .booked-are v;
       }
 
   module _ (np nl : ℕ) where

@@ -45,8 +45,8 @@ fn plan_sheet(s: Sheet, places: &mut [u64], loads: &mut [u64]) -> Filled
     let mut allowed = [0usize; 512];
     arrays::narrow(jobs, &s.minutes, &mut minutes);
     arrays::narrow(jobs, &s.allowed, &mut allowed);
-    // A sheet books no minutes.
-    let booked = [0usize; 64];
+    let mut booked = [0usize; 64];
+    arrays::narrow(benches, &s.booked, &mut booked);
     let decided = deciding::decide(h, jobs, &minutes, &allowed, booked);
     let decision = decided.decision;
     match decision {

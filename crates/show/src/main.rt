@@ -1,4 +1,4 @@
-// Shows a sheet that is read from standard input: its head and jobs, or its first fault.
+// Shows a sheet that is read from standard input: its head, bookings and jobs, or its first fault.
 use frame::Fault;
 use frame::Reading;
 use frame::Sheet;
@@ -58,6 +58,7 @@ fn show_sheet(s: Sheet) {
     io::write_all(1, b" minutes, ");
     io::print_decimal(1, s.count as u64);
     io::write_all(1, b" jobs\n");
+    show_bookings(&s.booked);
     let count = s.count;
     let mut n = 0;
     while n < 512 {
@@ -67,6 +68,25 @@ fn show_sheet(s: Sheet) {
         show_job(n, s.minutes[n], s.allowed[n]);
         n += 1;
     }
+}
+
+// The minutes booked on each bench, by rising bench, where there are any.
+fn show_bookings(booked: &[u64]) {
+    let mut b = 0;
+    while b < booked.len() {
+        if booked[b] != 0 {
+            show_booking(b, booked[b]);
+        }
+        b += 1;
+    }
+}
+
+fn show_booking(b: usize, minutes: u64) {
+    io::write_all(1, b"bench ");
+    io::print_decimal(1, b as u64);
+    io::write_all(1, b": ");
+    io::print_decimal(1, minutes);
+    io::write_all(1, b" minutes booked\n");
 }
 
 fn show_job(n: usize, minutes: u64, allowed: u64) {

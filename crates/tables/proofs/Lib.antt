@@ -1,4 +1,5 @@
 pub mod EntryLaws
+pub mod FirstSteps
 pub mod FrontSteps
 pub mod NumberSteps
 pub mod TableSteps

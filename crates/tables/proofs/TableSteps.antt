@@ -3,10 +3,11 @@
 --     entry-over              an entry that the table has not begun is 0
 --     entry-here              an entry is the number of the bytes from its first on
 --     length-numbersOf        a table has as many numbers as entries
+--     entry-at                number i is entry i
 --     load-more               a turn of the loop that loads a table stores its next entry
 --     load-all                in the end all of its entries stand there, or as many as there is room for
 --     empty, room             an array of 513 numbers before a load
---     loaded-front            into an array of 513 the first 513 entries are loaded
+--     loaded-front            into an array of k numbers the first k entries are loaded
 --     loaded-length, loaded-fits    they have the length that the load returns, and stand inside the array
 --     put-byte, put-all       a turn of the loop that puts a number stores the next of its bytes; after eight turns they all stand there
 --     put-none, put-some      a table without room for an entry, and one with room
@@ -20,7 +21,6 @@ use lib.ListN.{length, getD, take, drop, set, replicate, length-take, length-dro
 use lib.Seq.{take-all, take-at, paste, paste-suc}
 use Rattle.bools.proofs.OrderLaws.{lt-or-le}
 use borrow.Author.Tests.{le-leb, lt-leb}
-use Rattle.sums.specs.Table.{table}
 use Rattle.sums.proofs.TableLaws.{length-table, getD-table}
 use Rattle.bits.specs.Little.{little, littleOf}
 use Rattle.bits.proofs.BitsLaws.{pow-256}
@@ -49,7 +49,7 @@ pub length-numbersOf : (t : List ℕ) → length (numbersOf t) ≡ entriesOf t
 unfolding numbersOf
 length-numbersOf t = length-table (entriesOf t) (entryOf t)
 
-entry-at : (t : List ℕ) (i : ℕ) → i < entriesOf t → getD (numbersOf t) i 0 ≡ entryOf t i
+pub entry-at : (t : List ℕ) (i : ℕ) → i < entriesOf t → getD (numbersOf t) i 0 ≡ entryOf t i
 unfolding numbersOf
 entry-at t i l = getD-table (entriesOf t) (entryOf t) i 0 l
 
@@ -86,15 +86,16 @@ empty = replicate 513 0
 pub room : length empty ≡ 513
 room = length-replicate {A = ℕ} 513 0
 
-module _ (t into : List ℕ) (n : ℕ) {after : List ℕ} (room : length into ≡ 513) (e : n ≡ min (entriesOf t) (length into)) (l : after ≡ loadedInto t into) where
-  pub loaded-front : take n after ≡ take 513 (numbersOf t)
+module _ (t into : List ℕ) (n : ℕ) {k : ℕ} {after : List ℕ} (room : length into ≡ k)
+    (e : n ≡ min (entriesOf t) (length into)) (l : after ≡ loadedInto t into) where
+  pub loaded-front : take n after ≡ take k (numbersOf t)
   unfolding loadedInto
   loaded-front =
       let size : length (take (length into) (numbersOf t)) ≡ n = omega (arith, length-take (length into) (numbersOf t), length-numbersOf t) in
-      ap (take n) l ∙ take-at (take (length into) (numbersOf t)) (drop (entriesOf t) into) n size ∙ ap (λ (k : ℕ). take k (numbersOf t)) room
+      ap (take n) l ∙ take-at (take (length into) (numbersOf t)) (drop (entriesOf t) into) n size ∙ ap (λ (m : ℕ). take m (numbersOf t)) room
 
   pub loaded-length : n ≡ length (take n after)
-  loaded-length = omega (arith, ap length loaded-front, length-take 513 (numbersOf t), length-numbersOf t)
+  loaded-length = omega (arith, ap length loaded-front, length-take k (numbersOf t), length-numbersOf t)
 
   pub loaded-fits : n ≤ length after
   loaded-fits = omega (arith, loaded-length, length-take n after)

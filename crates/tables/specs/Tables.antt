@@ -3,6 +3,7 @@
 --     entriesOf t       its entries; a begun entry counts
 --     entryOf t n       entry n; bytes that the table lacks are 0
 --     numbersOf t       all entries
+--     firstFrom t from  its first entry from number `from` on that is not 0; the number of entries where there is none
 --     loadedInto t xs   the numbers xs with the table's entries in front, as many as there is room for; the others stay
 -- A table that is written:
 --     putEntry t n v    the table with v as entry n; without room for the entry, the table as it is
@@ -10,10 +11,11 @@
 --     putNumbers ns t   the table with the numbers ns as its first entries; every other byte keeps its contents
 --     putFitting ns t   the same with as many of the numbers as the table has room for
 use Prim.Native.Nat.{ℕ, _+_, _*_, _/_}
-use mathlib.Core.Bool.{cond}
+use mathlib.Core.Bool.{cond, not, _&&_}
 use mathlib.Core.List.{List, _++_}
 use lib.ListN.{length, take, drop}
-use lib.Dec.{leb}
+use lib.Dec.{eqb, leb}
+use Rattle.sums.specs.Search.{least}
 use Rattle.sums.specs.Table.{table}
 use Rattle.bits.specs.Little.{little, littleOf, littleAll}
 
@@ -25,6 +27,9 @@ entryOf t n = little (drop (8 * n) t) 8
 
 unfoldable pub numbersOf : List ℕ → List ℕ
 numbersOf t = table (entriesOf t) (entryOf t)
+
+unfoldable pub firstFrom : List ℕ → ℕ → ℕ
+firstFrom t from = least (entriesOf t) (λ n. leb from n && not (eqb (entryOf t n) 0))
 
 unfoldable pub loadedInto : List ℕ → List ℕ → List ℕ
 loadedInto t xs = take (length xs) (numbersOf t) ++ drop (entriesOf t) xs

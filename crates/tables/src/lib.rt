@@ -6,6 +6,8 @@ mod words;
 pub use front::put_front;
 pub use front::put_pair;
 pub use front::room;
+pub use table::entries;
+pub use table::first_from;
 pub use table::load;
 pub use table::put;
 pub use words::fault_word;

@@ -4,7 +4,7 @@ ghost use Prim.Native.Nat.{_+_, _≤_, _<_, min};
 ghost use mathlib.Core.List.{_++_};
 ghost use lib.ListN.{length, take, drop};
 ghost use Rattle.bits.specs.Little.{little, littleOf};
-ghost use Rattle.tables.specs.Tables.{entriesOf, entryOf, loadedInto, putEntry};
+ghost use Rattle.tables.specs.Tables.{entriesOf, entryOf, firstFrom, loadedInto, putEntry};
 
 // How many entries a table has; a begun entry counts.
 pub fn entries(t: &[u8]) -> usize
@@ -36,6 +36,21 @@ pub fn load(t: &[u8], into: &mut [u64]) -> usize
         i += 1;
     }
     n
+}
+
+// The first entry from number `from` on that is not 0, and the number of entries where there is none.
+pub fn first_from(t: &[u8], from: usize) -> usize
+    ensures { λ r. ⌜ r ≡ firstFrom (now (t .entry)) from ⌝ }
+{
+    let all = entries(t);
+    let mut i = from;
+    while i < all {
+        if entry(t, i) != 0 {
+            return i;
+        }
+        i += 1;
+    }
+    all
 }
 
 fn wide(x: u8) -> u64

@@ -2,7 +2,8 @@
 --     version-digits, kind-digits, length-digits        of the header's three bytes
 --     benches-digits, p-digits, q-digits, target-digits, headSpare-digits    of the head's seven bytes
 --     minutes-digits, allowed-digits, jobSpare-digits    of the job's first eight bytes and its last three
---     head-digits, job-digits     the whole head, the whole job
+--     bench-digits, booked-digits, bookingSpare-digits      of the booking's four bytes
+--     head-digits, job-digits, booking-digits     the whole head, the whole job, the whole booking
 use Prim.Native.Nat.{ℕ, _+_, _*_, _/_, _%_}
 use mathlib.Core.Path.{_≡_, sym, ap, _∙_}
 use mathlib.Core.List.{List}
@@ -12,9 +13,11 @@ use lib.Dec.{lit≤}
 use Rattle.bits.specs.Bits.{Bytes, bits, big}
 use Rattle.bits.specs.Layout.{field}
 use Rattle.bits.proofs.BitsLaws.{bits-big, bits-split, bits-drop, Bytes-drop}
+use Rattle.fields.specs.declared.sheet.Booking.{Booking}
 use Rattle.fields.specs.declared.sheet.Head.{Head}
 use Rattle.fields.specs.declared.sheet.Job.{Job}
 use Rattle.fields.specs.Format.{versionOf, kindOf, lengthOf, headLayout, jobLayout, headOf, jobOf}
+use Rattle.fields.specs.Format.{bookingLayout, bookingOf}
 
 module _ (s : List ℕ) (ok : Bytes s) where
   pub version-digits : big s 3 / 1048576 % 16 ≡ versionOf s
@@ -81,3 +84,18 @@ module _ (s : List ℕ) (ok : Bytes s) where
       ap (λ (n : ℕ). n % 16) (sym (div-one (big (drop 8 s) 3)))
       ∙ sym (bits-big (drop 8 s) 3 20 4 (Bytes-drop s 8 ok) (lit≤ tt))
       ∙ bits-drop s 8 20 4
+
+  pub bench-digits : big s 4 / 67108864 % 64 ≡ field bookingLayout 0 s
+  bench-digits = sym (bits-big s 4 0 6 ok (lit≤ tt))
+
+  pub booked-digits : big s 4 / 64 % 1048576 ≡ field bookingLayout 1 s
+  booked-digits = sym (bits-big s 4 6 20 ok (lit≤ tt))
+
+  abbrev pub bookingDigits : Booking
+  bookingDigits = record { bench = big s 4 / 67108864 % 64; minutes = big s 4 / 64 % 1048576 }
+
+  pub booking-digits : bookingDigits ≡ bookingOf s
+  booking-digits = rw (bench-digits, booked-digits)
+
+  pub bookingSpare-digits : big s 4 % 64 ≡ field bookingLayout 2 s
+  bookingSpare-digits = ap (λ (n : ℕ). n % 64) (sym (div-one (big s 4))) ∙ sym (bits-big s 4 26 6 ok (lit≤ tt))

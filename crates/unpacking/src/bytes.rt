@@ -18,11 +18,18 @@ pub fn big3(s: &[u8]) -> u64
     (byte(s, 0) * 256 + byte(s, 1)) * 256 + byte(s, 2)
 }
 
+// The number of the first four bytes.
+pub fn big4(s: &[u8]) -> u64
+    ensures { λ r. ⌜ (r ≡ big (now (s .entry)) 4) × (r < 2 ^ 32) ⌝ }
+{
+    big3(s) * 256 + byte(s, 3)
+}
+
 // The number of the first seven bytes.
 pub fn big7(s: &[u8]) -> u64
     ensures { λ r. ⌜ (r ≡ big (now (s .entry)) 7) × (r < 2 ^ 56) ⌝ }
 {
-    (((big3(s) * 256 + byte(s, 3)) * 256 + byte(s, 4)) * 256 + byte(s, 5)) * 256 + byte(s, 6)
+    ((big4(s) * 256 + byte(s, 4)) * 256 + byte(s, 5)) * 256 + byte(s, 6)
 }
 
 // The number of the first eight bytes.

@@ -1,5 +1,6 @@
 // Frames: headers and the bodies of each kind.
 use crate::bytes;
+use fields::Booking;
 use fields::Head;
 use fields::Job;
 ghost use mathlib.Core.Path.{_≡_};
@@ -9,7 +10,7 @@ ghost use lib.ListN.{drop};
 ghost use Rattle.bits.specs.Bits.{big};
 ghost use Rattle.bits.specs.Layout.{field, joined};
 ghost use Rattle.fields.specs.Format.{ours, headerLayout, versionOf, kindOf, lengthOf};
-ghost use Rattle.fields.specs.Format.{headLayout, jobLayout, headOf, jobOf};
+ghost use Rattle.fields.specs.Format.{headLayout, jobLayout, bookingLayout, headOf, jobOf, bookingOf};
 
 // The 24 bits before a body.
 pub struct FrameHeader {
@@ -27,12 +28,16 @@ impl FrameHeader {
     pub const JOB: u64 = 2;
 
     pub const END: u64 = 3;
+
+    pub const BOOKING: u64 = 4;
     // Bytes of a header, and of the body of each kind that has one.
     pub const SIZE: usize = 3;
 
     pub const HEAD_LENGTH: usize = 7;
 
     pub const JOB_LENGTH: usize = 11;
+
+    pub const BOOKING_LENGTH: usize = 4;
 
     // The header at the front of s; bytes that s lacks count as 0.
     pub fn read(s: &[u8]) -> FrameHeader
@@ -103,4 +108,22 @@ fn job_back(body: &[u8]) -> u64
     ensures { λ r. ⌜ (r ≡ big (drop 8 (now (body .entry))) 3) × (r < 2 ^ 24) ⌝ }
 {
     (bytes::byte(body, 8) * 256 + bytes::byte(body, 9)) * 256 + bytes::byte(body, 10)
+}
+
+// The booking that a body of four bytes holds.
+pub fn read_booking(body: &[u8]) -> Booking
+    ensures { λ r. ⌜ r ≡ bookingOf (now (body .entry)) ⌝ }
+{
+    let n = bytes::big4(body);
+    Booking {
+        bench: (n / 67108864 % 64) as usize,
+        minutes: n / 64 % 1048576,
+    }
+}
+
+// Its spare bits.
+pub fn booking_spare(body: &[u8]) -> u64
+    ensures { λ r. ⌜ r ≡ field bookingLayout 2 (now (body .entry)) ⌝ }
+{
+    bytes::big4(body) % 64
 }

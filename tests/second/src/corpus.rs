@@ -1,17 +1,20 @@
-//! Small days with their answers as text, tests/plans/expected.txt. Each case has four lines:
+//! Small days with their answers as text, tests/plans/expected.txt. Each case has these lines,
+//! `booked` and `without` only where benches are booked; `without` is the answer without bookings:
 //!
 //! ```text
 //! case: what it tells apart
 //! head: 2 benches, share 4/7, target 4
+//! booked: 3 on 1
 //! jobs: 2 on 0 1; 2 on 0 1; 2 on 0 1; 2 on 0 1
-//! answer: plan 6 1; places 1 0 0 0; loads 6 2
+//! without: plan 6 1; places 1 0 0 0; loads 6 2
+//! answer: plan 6 1; places 1 0 0 0; loads 6 5
 //! ```
 //!
 //! The other answers are `none MOVES; benches B ...`, `long JOB` and `fault NUMBER PLACE`. Lines
 //! that start with # and empty lines say nothing.
 
 use crate::codec::fault::Fault;
-use crate::codec::sheet::{Head, Job};
+use crate::codec::sheet::{Booked, Head, Job, NOTHING_BOOKED};
 use crate::gen::day::Day;
 use crate::planner::algorithm::Answer;
 use crate::planner::set::Set;
@@ -25,11 +28,12 @@ pub const SLOW: [(&str, &[u8]); 3] = [
     ("slow 3, 19/20", include_bytes!("../../plans/slow-3.sheet")),
 ];
 
-/// One case; the answer stays text.
+/// One case; the answers stay text.
 #[derive(Clone, Debug)]
 pub struct Case {
     pub name: String,
     pub day: Day,
+    pub without: Option<String>,
     pub answer: String,
 }
 
@@ -37,29 +41,40 @@ pub struct Case {
 pub fn cases(text: &str) -> Vec<Case> {
     let wanted = |line: &&str| !line.trim().is_empty() && !line.starts_with('#');
     let lines: Vec<&str> = text.lines().filter(wanted).collect();
-    lines.chunks(4).map(case).collect()
+    lines.chunk_by(|_, next| !next.starts_with("case:")).map(case).collect()
 }
 
 fn case(lines: &[&str]) -> Case {
-    let value = |line: usize, key: &str| {
-        let text = lines.get(line).and_then(|line| line.strip_prefix(key));
-        text.unwrap_or_else(|| panic!("no `{key}` in {lines:?}")).trim().to_string()
-    };
-    let jobs = value(2, "jobs:");
-    let jobs = jobs.split(';').map(numbers).filter(|numbers| !numbers.is_empty());
+    let find = |key: &str| lines.iter().find_map(|line| line.strip_prefix(key)).map(str::trim);
+    let value = |key: &str| find(key).unwrap_or_else(|| panic!("no `{key}` in {lines:?}"));
     let job = |numbers: Vec<u64>| Job {
         minutes: numbers[0],
         allowed: numbers[1..].iter().fold(0, |all, &bench| all | Set::one(bench as usize).0),
     };
-    let head = numbers(&value(1, "head:"));
+    let head = numbers(value("head:"));
     Case {
-        name: value(0, "case:"),
+        name: value("case:").to_string(),
         day: Day {
             head: Head { benches: head[0], p: head[1], q: head[2], target: head[3] },
-            jobs: jobs.map(job).collect(),
+            booked: booked(find("booked:").unwrap_or("")),
+            jobs: rows(value("jobs:")).map(job).collect(),
         },
-        answer: value(3, "answer:"),
+        without: find("without:").map(str::to_string),
+        answer: value("answer:").to_string(),
     }
+}
+
+/// Minutes and benches of each part of a text between semicolons.
+fn rows(text: &str) -> impl Iterator<Item = Vec<u64>> + '_ {
+    text.split(';').map(numbers).filter(|numbers| !numbers.is_empty())
+}
+
+fn booked(text: &str) -> Booked {
+    let mut booked = NOTHING_BOOKED;
+    for row in rows(text) {
+        booked[row[1] as usize] = row[0];
+    }
+    booked
 }
 
 /// The numbers in a text, in order.
@@ -90,12 +105,28 @@ pub fn print_case(case: &Case) -> String {
     let Head { benches, p, q, target } = case.day.head;
     let job = |job: &Job| format!("{} on{}", job.minutes, row(Set(job.allowed)));
     let jobs: Vec<String> = case.day.jobs.iter().map(job).collect();
+    let without = case.without.as_ref().map(|answer| format!("without: {answer}\n"));
     format!(
-        "case: {}\nhead: {benches} benches, share {p}/{q}, target {target}\njobs: {}\nanswer: {}\n",
+        "case: {}\nhead: {benches} benches, share {p}/{q}, target {target}\n\
+         {}jobs: {}\n{}answer: {}\n",
         case.name,
+        booked_line(&case.day.booked),
         jobs.join("; "),
+        without.unwrap_or_default(),
         case.answer
     )
+}
+
+/// Empty where no bench is booked.
+fn booked_line(booked: &Booked) -> String {
+    let benches = booked.iter().enumerate().filter(|&(_, &minutes)| minutes > 0);
+    let rows: Vec<String> =
+        benches.map(|(bench, minutes)| format!("{minutes} on {bench}")).collect();
+    if rows.is_empty() {
+        String::new()
+    } else {
+        format!("booked: {}\n", rows.join("; "))
+    }
 }
 
 #[cfg(test)]
@@ -111,6 +142,19 @@ mod tests {
         for case in cases {
             let answer = planner.plan(&case.day.draft().bytes(), Rooms::FULL);
             assert_eq!(print_answer(answer), case.answer, "{}", case.name);
+        }
+    }
+
+    #[test]
+    fn days_with_bookings_have_these_answers_without() {
+        let mut planner = Planner::new();
+        let is_booked = |case: &Case| case.day.booked != NOTHING_BOOKED;
+        let cases: Vec<Case> = cases(TEXT).into_iter().filter(is_booked).collect();
+        assert!(cases.len() >= 10);
+        for Case { name, day, without, .. } in cases {
+            let day = Day { booked: NOTHING_BOOKED, ..day };
+            let answer = planner.plan(&day.draft().bytes(), Rooms::FULL);
+            assert_eq!(Some(print_answer(answer)), without, "{name}");
         }
     }
 

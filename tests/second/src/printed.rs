@@ -22,11 +22,12 @@ pub fn bay(planner: &mut Planner, sheet: &[u8]) -> String {
     }
 }
 
-/// The text of the show program: a line for the head and one for each job, or the fault's.
+/// The text of the show program: a line for the head, one for each bench with a booking above 0,
+/// and one for each job; or the fault's.
 pub fn show(codec: &mut Codec, sheet: &[u8]) -> String {
     match codec.read(sheet) {
         Err(fault) => fault_line(fault),
-        Ok(sheet) => head_line(sheet) + &job_lines(sheet),
+        Ok(sheet) => head_line(sheet) + &booking_lines(sheet) + &job_lines(sheet),
     }
 }
 
@@ -34,6 +35,12 @@ fn head_line(sheet: &Sheet) -> String {
     let Head { benches, p, q, target } = sheet.head();
     let jobs = sheet.jobs().len();
     format!("{benches} benches, share {p}/{q}, target {target} minutes, {jobs} jobs\n")
+}
+
+fn booking_lines(sheet: &Sheet) -> String {
+    let benches = sheet.booked().iter().enumerate();
+    let booked = benches.filter(|&(_, &minutes)| minutes > 0);
+    booked.map(|(bench, minutes)| format!("bench {bench}: {minutes} minutes booked\n")).collect()
 }
 
 fn job_lines(sheet: &Sheet) -> String {
@@ -83,5 +90,18 @@ mod tests {
         let lines = format!("{head}\njob 0: {job}\njob 1: {job}\njob 2: {job}\n");
         assert_eq!(show(&mut codec, &samples::example_12()), lines);
         assert_eq!(show(&mut codec, &samples::faulty()), "fault 6 24\n");
+    }
+
+    #[test]
+    fn the_show_program_prints_bookings_by_rising_bench() {
+        let text = show(&mut Codec::default(), &samples::booked());
+        let lines: Vec<&str> = text.lines().take(4).collect();
+        let expected = [
+            "5 benches, share 4/7, target 480 minutes, 34 jobs",
+            "bench 0: 180 minutes booked",
+            "bench 3: 120 minutes booked",
+            "job 0: 300 minutes, benches 0 1",
+        ];
+        assert_eq!(lines, expected);
     }
 }

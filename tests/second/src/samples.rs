@@ -6,13 +6,14 @@ use crate::gen::day::{bench_bit, Day};
 use crate::gen::draft::{frame, set, JOB_SPARE};
 
 /// Each file of the folder with its bytes.
-pub fn all() -> [(&'static str, Vec<u8>); 5] {
+pub fn all() -> [(&'static str, Vec<u8>); 6] {
     [
         ("example-12.sheet", example_12()),
         ("day.sheet", day()),
         ("faulty.sheet", faulty()),
         ("bay.sheet", bay()),
         ("none.sheet", none()),
+        ("booked.sheet", booked()),
     ]
 }
 
@@ -20,7 +21,7 @@ pub fn all() -> [(&'static str, Vec<u8>); 5] {
 pub fn example_5() -> Day {
     let head = Head { benches: 2, p: 4, q: 7, target: 9 };
     let job = Job { minutes: 5, allowed: bench_bit(0) | bench_bit(1) };
-    Day { head, jobs: vec![job; 3] }
+    Day::new(head, vec![job; 3])
 }
 
 pub fn example_12() -> Vec<u8> {
@@ -30,21 +31,29 @@ pub fn example_12() -> Vec<u8> {
 /// A working day of six benches of 480 minutes, with a frame of version 2 among the jobs.
 pub fn day() -> Vec<u8> {
     let head = Head { benches: 6, p: 4, q: 7, target: 480 };
-    let mut bytes = written(&Day { head, jobs: jobs(&DAY) });
-    let after_nine_jobs = writer::sheet_bytes(9) - writer::sheet_bytes(0) + 10;
+    let mut bytes = written(&Day::new(head, jobs(&DAY)));
+    let after_nine_jobs = writer::sheet_bytes(0, 9) - writer::sheet_bytes(0, 0) + 10;
     bytes.splice(after_nine_jobs..after_nine_jobs, frame(2, 2, b"bay note"));
     bytes
 }
 
 /// A day of five benches of 480 minutes with heavy and light jobs, for the bay program.
 pub fn bay() -> Vec<u8> {
-    written(&Day { head: BAY_HEAD, jobs: jobs(&BAY) })
+    written(&Day::new(BAY_HEAD, jobs(&BAY)))
 }
 
 /// The same day with eight more jobs of 150 minutes on benches 0 and 1.
 pub fn none() -> Vec<u8> {
     let more: [(u64, &[u64]); 8] = [(150, &[0, 1]); 8];
-    written(&Day { head: BAY_HEAD, jobs: [jobs(&BAY), jobs(&more)].concat() })
+    written(&Day::new(BAY_HEAD, [jobs(&BAY), jobs(&more)].concat()))
+}
+
+/// The day of `bay` with two benches booked for recalls: 180 minutes of bench 0, 120 of bench 3.
+pub fn booked() -> Vec<u8> {
+    let mut day = Day::new(BAY_HEAD, jobs(&BAY));
+    day.booked[0] = 180;
+    day.booked[3] = 120;
+    written(&day)
 }
 
 /// Example 12's sheet with the last spare bit of job 1 set: fault 6, place 24.
@@ -63,9 +72,11 @@ fn jobs(rows: &[(u64, &[u64])]) -> Vec<Job> {
 }
 
 fn written(day: &Day) -> Vec<u8> {
-    let mut bytes = vec![0; writer::sheet_bytes(day.jobs.len())];
-    let jobs = day.jobs.iter().copied();
-    writer::write(day.head, jobs, &mut Sheet::new(), &mut bytes).expect("the sample is taken");
+    let bookings = day.booked.iter().filter(|&&minutes| minutes > 0).count();
+    let mut bytes = vec![0; writer::sheet_bytes(bookings, day.jobs.len())];
+    let (booked, jobs) = (day.booked.into_iter(), day.jobs.iter().copied());
+    let taken = writer::write(day.head, booked, jobs, &mut Sheet::new(), &mut bytes);
+    taken.expect("the sample is taken");
     bytes
 }
 
@@ -189,5 +200,10 @@ mod tests {
         assert_eq!((largest, moves), (860, 6));
         let benches = Set(bench_bit(0) | bench_bit(1));
         assert_eq!(planner.plan(&none(), Rooms::FULL), Ok(Answer::None { benches, moves: 37 }));
+        let Ok(Answer::Plan { largest, moves, loads, .. }) = planner.plan(&booked(), Rooms::FULL)
+        else {
+            panic!("no plan")
+        };
+        assert_eq!((largest, moves, loads), (870, 11, &[870, 600, 365, 505, 350][..]));
     }
 }

@@ -15,6 +15,9 @@ slice-aggregate-write-2 c = search needs
 slice-aggregate-write-3 : tie.Need-slice-aggregate-write-3
 slice-aggregate-write-3 c = search needs
 
+slice-aggregate-write-4 : tie.Need-slice-aggregate-write-4
+slice-aggregate-write-4 c = search needs
+
 write-requires : tie.Need-write-requires
 write-requires c κs = search needs
 
@@ -45,7 +48,7 @@ array-share-prefix-out c = search needs
 slice-aggregate-show-bytes : tie.Need-slice-aggregate-show-bytes
 slice-aggregate-show-bytes c =
     let write = c .before .before .before .before .before .before .before .before .write in
-    sym (length-take-le 10 (write .last .1 .1 .1 .0) (omega (arith, write .kept .1 .1 .1 .0)))
+    sym (length-take-le 10 (write .last .1 .1 .1 .1 .0) (omega (arith, write .kept .1 .1 .1 .1 .0)))
 
 show-bytes-requires : tie.Need-show-bytes-requires
 show-bytes-requires c κs = search needs
@@ -138,6 +141,7 @@ show-written-spec =
     slice-aggregate-write
     slice-aggregate-write-2
     slice-aggregate-write-3
+    slice-aggregate-write-4
     write-requires
     slice-aggregate-write-all
     write-all-requires

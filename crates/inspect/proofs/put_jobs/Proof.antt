@@ -1,4 +1,4 @@
--- The loop's invariant: the numbers of the first i jobs stand from byte 32 on, and all else is as it was.
+-- The loop's invariant: the numbers of the first i jobs stand from byte 544 on, and all else is as it was.
 use Prim.Native.Nat.{_+_, _*_, _-_, _≤_}
 use native.Mathlib.Omega.{arith}
 use mathlib.Core.Path.{_≡_, refl, _∙_}
@@ -16,7 +16,7 @@ use Rattle.inspect.proofs.put_jobs.Tie as tie
 
 abbrev Inv-loop : tie.InvT-loop
 Inv-loop n minutes allowed table₀ i₀ table i =
-    (i ≤ n) × (length table ≡ length table₀) × (table ≡ written table₀ 32 (littleAll 8 (jobNumbers (jobTable i minutes allowed))) (32 + 16 * i))
+    (i ≤ n) × (length table ≡ length table₀) × (table ≡ written table₀ 544 (littleAll 8 (jobNumbers (jobTable i minutes allowed))) (544 + 16 * i))
 
 abbrev μ-loop : tie.MeasureT-loop
 μ-loop n minutes allowed table₀ i₀ table i = n - i
@@ -67,8 +67,8 @@ loop-again c =
     let l = first .before .before .before .before in
     let a = l .before .before .before .before .args in
     let more = jobs-more (now (a .table)) (now (a .minutes)) (now (a .allowed)) (l .loop .i) (omega arith)
-    (l .loop .inv .2) (first .put .ensures ∙ put-some _ (4 + 2 * l .loop .i) _ (omega arith))
-    (second .put2 .ensures ∙ put-some _ (5 + 2 * l .loop .i) _ (omega arith)) in
+    (l .loop .inv .2) (first .put .ensures ∙ put-some _ (68 + 2 * l .loop .i) _ (omega arith))
+    (second .put2 .ensures ∙ put-some _ (69 + 2 * l .loop .i) _ (omega arith)) in
     (omega arith, second .put2 .kept .0 ∙ first .put .kept .0 ∙ l .loop .inv .1, more)
 
 same-length : tie.Need-same-length Inv-loop μ-loop

@@ -1,4 +1,5 @@
--- A reading that accepts holds at most 512 jobs, in tables of 512 entries; the numbers of its head and then of its jobs are what is shown.
+-- A reading that accepts holds 64 booked numbers, and at most 512 jobs in tables of 512 entries. The numbers of its head,
+-- the booked ones and those of its jobs are what is shown.
 use native.Mathlib.Omega.{arith}
 use denote.Ref.{now}
 use borrow.Author.Needs.{needs}
@@ -43,11 +44,18 @@ returns c =
 put-head-requires : tie.Need-put-head-requires
 put-head-requires c κs = search needs
 
-put-jobs-requires : tie.Need-put-jobs-requires
-put-jobs-requires c κs =
-    let head = c .before .before .before .before .before .before .before .before in
+put-booked-requires : tie.Need-put-booked-requires
+put-booked-requires c κs =
+    let head = c .before .before .before .before .before .before in
     let k = told (head .before .before .before) in
     omega (arith, k, head .put-head .kept .1 .0, head .before .before .if1 .left)
+
+put-jobs-requires : tie.Need-put-jobs-requires
+put-jobs-requires c κs =
+    let booked = c .before .before .before .before .before .before .before .before in
+    let head = booked .before .before .before .before .before .before .before in
+    let k = told (head .before .before .before) in
+    omega (arith, k, head .put-head .kept .1 .0, booked .put-booked .kept .1 .0, head .before .before .if1 .left)
 
 returns-2 : tie.Need-returns-2
 returns-2 c =
@@ -62,12 +70,13 @@ same-length c = search needs
 returns-3 : tie.Need-returns-3
 returns-3 c =
     let jobs = c .before .before in
-    let head = jobs .before .before .before .before .before .before .before .before .before in
+    let booked = jobs .before .before .before .before .before .before .before .before .before in
+    let head = booked .before .before .before .before .before .before .before in
     let room = head .before .before in
     let r = room .before .before .before .before .before in
     let a = r .before .before .before .args in
     all-shown (now (a .sheet)) (now (a .table)) (r .read .result .sheet) (told (room .before)) (room .if1 .left)
-    (head .put-head .ensures) (jobs .put-jobs .ensures)
+    (head .put-head .ensures) (booked .put-booked .ensures) (jobs .put-jobs .ensures)
 
 pub yinqocha-inspect-spec : {M : Type 1} → statement M
 yinqocha-inspect-spec =
@@ -82,6 +91,7 @@ yinqocha-inspect-spec =
     fault-word-requires-2
     returns
     put-head-requires
+    put-booked-requires
     put-jobs-requires
     returns-2
     same-length

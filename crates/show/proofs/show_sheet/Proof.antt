@@ -55,6 +55,9 @@ slice-aggregate-write-all-5 c = search needs
 write-all-requires-5 : tie.Need-write-all-requires-5 Inv-loop μ-loop
 write-all-requires-5 c κs = search needs
 
+show-bookings-requires : tie.Need-show-bookings-requires Inv-loop μ-loop
+show-bookings-requires c κs = search needs
+
 loop-holds : tie.Need-loop-holds Inv-loop μ-loop
 loop-holds c = search needs
 
@@ -109,6 +112,7 @@ show-sheet-spec =
     print-decimal-requires-5
     slice-aggregate-write-all-5
     write-all-requires-5
+    show-bookings-requires
     loop-holds
     returns
     mul-show-job

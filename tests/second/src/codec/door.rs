@@ -3,14 +3,18 @@
 
 use super::fault::{self, Fault};
 use super::reader;
-use super::sheet::{Head, Job, Sheet};
+use super::sheet::{Head, Job, Sheet, MAX_BENCHES};
 use super::writer;
 
 pub const ENTRY_BYTES: usize = 8;
 
-/// The bytes of the table that `inspect` fills: the head's four fields, and two for each job.
+/// The entries of the table that `inspect` fills before those of the jobs: the head's four fields
+/// and the booked minutes of each of 64 benches.
+pub const FRONT_ENTRIES: usize = 4 + MAX_BENCHES as usize;
+
+/// The bytes of that table: two more entries for each job.
 pub fn table_bytes(jobs: usize) -> usize {
-    ENTRY_BYTES * (4 + 2 * jobs)
+    ENTRY_BYTES * (FRONT_ENTRIES + 2 * jobs)
 }
 
 /// The result word: a value in the low half, or a fault's number in the high half and its place
@@ -41,6 +45,11 @@ pub fn entry(table: &[u8], index: usize) -> u64 {
     }
 }
 
+/// The numbers of a table, a begun entry counting as one.
+pub fn numbers(table: &[u8]) -> impl Iterator<Item = u64> + '_ {
+    (0..entries(table)).map(|index| entry(table, index))
+}
+
 /// The jobs of a pair of tables; their number is that of the longer table.
 pub fn jobs<'a>(minutes: &'a [u8], allowed: &'a [u8]) -> impl Iterator<Item = Job> + 'a {
     let count = entries(minutes).max(entries(allowed));
@@ -59,8 +68,9 @@ impl Codec {
         Ok(&self.sheet)
     }
 
-    /// Reads a sheet into a table: benches, p, q, target, then each job's minutes and benches
-    /// allowed. Later bytes keep their contents, and after a fault all do.
+    /// Reads a sheet into a table: benches, p, q, target, then the booked minutes of each of 64
+    /// benches, then each job's minutes and benches allowed. Later bytes keep their contents, and
+    /// after a fault all do.
     pub fn inspect(&mut self, bytes: &[u8], table: &mut [u8]) -> u64 {
         word(self.inspected(bytes, table))
     }
@@ -74,15 +84,25 @@ impl Codec {
         let Head { benches, p, q, target } = sheet.head();
         let (front, rest) = table.split_at_mut(table_bytes(0));
         put_entries(front, [benches, p, q, target]);
+        put_entries(&mut front[4 * ENTRY_BYTES..], *sheet.booked());
         for (row, job) in rest.chunks_exact_mut(2 * ENTRY_BYTES).zip(jobs) {
             put_entries(row, [job.minutes, job.allowed]);
         }
         Ok(jobs.len())
     }
 
-    /// Writes the sheet of a head and a pair of tables.
-    pub fn write(&mut self, head: Head, minutes: &[u8], allowed: &[u8], out: &mut [u8]) -> u64 {
-        word(writer::write(head, jobs(minutes, allowed), &mut self.sheet, out))
+    /// Writes the sheet of a head, a table of bookings and a pair of tables for the jobs. Entry b
+    /// of `booked` is bench b's number; one that the table lacks is 0.
+    pub fn write(
+        &mut self,
+        head: Head,
+        booked: &[u8],
+        minutes: &[u8],
+        allowed: &[u8],
+        out: &mut [u8],
+    ) -> u64 {
+        let (booked, jobs) = (numbers(booked), jobs(minutes, allowed));
+        word(writer::write(head, booked, jobs, &mut self.sheet, out))
     }
 }
 

@@ -1,14 +1,14 @@
-//! Fault numbers. Each stands in the checking order of document 01.
+//! Fault numbers. Those to 13 stand in the checking order of document 01.
 
 /// "The sheet is longer than 65,536 bytes (place 0)."
 pub const SHEET_TOO_LONG: u32 = 1;
 /// "The sheet ends inside a frame of any version (place: that frame), or its frames are over and
 /// none was an end frame (place: the sheet's length)."
 pub const SHEET_CUT: u32 = 2;
-/// "A version 1 frame has a kind other than 1, 2, 3."
+/// "A version 1 frame has a kind other than 1, 2, 3." "Kind 4 leaves fault 3".
 pub const UNKNOWN_KIND: u32 = 3;
 /// "A version 1 frame is out of its place: a job or end before the head, a second head, or any
-/// after the end."
+/// after the end." "Bookings stand after the head and before the first job, otherwise fault 4."
 pub const OUT_OF_PLACE: u32 = 4;
 /// "The body length is not that of its kind."
 pub const BODY_LENGTH: u32 = 5;
@@ -29,6 +29,11 @@ pub const ALLOWED: u32 = 11;
 pub const LONG_JOB_WITH_CHOICE: u32 = 12;
 /// A table, or the writer's output, is too short (place 0).
 pub const NO_ROOM: u32 = 13;
+/// "after fault 6, number 14 says that the bench is not in the head or, from the writer, that the
+/// minutes are too wide for the field". The writer "tries 14 between faults 8 and 9".
+pub const BOOKING: u32 = 14;
+/// "then number 15 that the bench already had a booking frame".
+pub const BOOKED_TWICE: u32 = 15;
 
 /// "A fault returns its number and place."
 #[derive(Clone, Copy, Debug, PartialEq, Eq)]

@@ -11,16 +11,18 @@ pub enum Kind {
     Head,
     Job,
     End,
+    Booking,
 }
 
 impl Kind {
-    pub const ALL: [Kind; 3] = [Kind::Head, Kind::Job, Kind::End];
+    pub const ALL: [Kind; 4] = [Kind::Head, Kind::Job, Kind::End, Kind::Booking];
 
     pub fn number(self) -> u64 {
         match self {
             Kind::Head => 1,
             Kind::Job => 2,
             Kind::End => 3,
+            Kind::Booking => 4,
         }
     }
 
@@ -36,10 +38,12 @@ impl Kind {
             // minutes, benches allowed, spare
             Kind::Job => &[20, 64, 4],
             Kind::End => &[],
+            // bench, booked minutes, spare
+            Kind::Booking => &[6, 20, 6],
         }
     }
 
-    /// "head, 7 bytes", "job, 11 bytes", "end, no body".
+    /// "head, 7 bytes", "job, 11 bytes", "end, no body"; a booking has "4 bytes".
     pub fn body_bytes(self) -> usize {
         self.widths().iter().sum::<u32>() as usize / 8
     }

@@ -1,8 +1,9 @@
-//! The second codec, from document 01 alone. Sentences in quotation marks are that document's.
+//! The second codec, from document 01 and request S-1 of document 02 alone. Sentences in quotation
+//! marks are theirs.
 //!
 //! - `fault`: the fault numbers, and a fault with its place.
 //! - `frame`: frame headers, the kinds of version 1, and fields of bits.
-//! - `sheet`: head, job and sheet, and the tests 7 to 12 that reader and writer share.
+//! - `sheet`: head, bookings, jobs and sheet, and the tests that reader and writer share.
 //! - `reader`, `writer`: bytes to a sheet, and fields to bytes.
 //! - `door`: the same through tables and result words, as the static library has them.
 //!

@@ -1,4 +1,4 @@
-//! The reader: the bytes of a sheet to its head and jobs, or a fault.
+//! The reader: the bytes of a sheet to its head, bookings and jobs, or a fault.
 
 use super::fault::{self, Fault};
 use super::frame::{Fields, Frame, Kind, VERSION};
@@ -6,22 +6,24 @@ use super::sheet::{Head, Job, Sheet};
 
 pub const MAX_BYTES: usize = 65_536;
 
-/// What has been read so far of a row that should be a head, jobs and an end.
+/// What has been read so far of a row that should be a head, bookings, jobs and an end.
 #[derive(Clone, Copy, PartialEq, Eq)]
 enum Progress {
     BeforeHead,
     AfterHead,
+    AfterJob,
     AfterEnd,
 }
 
 impl Progress {
-    /// None where a frame of this kind is out of its place: "a job or end before the head, a
-    /// second head, or any after the end".
+    /// None where a frame of this kind is out of its place: "a job or end before the head, a second
+    /// head, or any after the end". "Bookings stand after the head and before the first job".
     fn after(self, kind: Kind) -> Option<Progress> {
         match (self, kind) {
             (Progress::BeforeHead, Kind::Head) => Some(Progress::AfterHead),
-            (Progress::AfterHead, Kind::Job) => Some(Progress::AfterHead),
-            (Progress::AfterHead, Kind::End) => Some(Progress::AfterEnd),
+            (Progress::AfterHead, Kind::Booking) => Some(Progress::AfterHead),
+            (Progress::AfterHead | Progress::AfterJob, Kind::Job) => Some(Progress::AfterJob),
+            (Progress::AfterHead | Progress::AfterJob, Kind::End) => Some(Progress::AfterEnd),
             _ => None,
         }
     }
@@ -56,7 +58,7 @@ pub fn read(bytes: &[u8], sheet: &mut Sheet) -> Result<(), Fault> {
     sheet.whole()
 }
 
-/// Takes one frame of version 1, or gives the number of its fault: tests 3 to 11.
+/// Takes one frame of version 1, or gives the number of its fault: tests 3 to 11, 14 and 15.
 fn take(frame: &Frame, progress: Progress, sheet: &mut Sheet) -> Result<Progress, u32> {
     let kind = Kind::from_number(frame.kind).ok_or(fault::UNKNOWN_KIND)?;
     let progress = progress.after(kind).ok_or(fault::OUT_OF_PLACE)?;
@@ -71,6 +73,10 @@ fn take(frame: &Frame, progress: Progress, sheet: &mut Sheet) -> Result<Progress
         }
         Kind::End => {
             let [] = fields(Kind::End, frame.body)?;
+        }
+        Kind::Booking => {
+            let [bench, minutes, _] = fields(Kind::Booking, frame.body)?;
+            sheet.add_booking(bench, minutes)?;
         }
     }
     Ok(progress)

@@ -1,5 +1,5 @@
-//! Head, job and sheet, and the tests 7 to 12, which reader and writer share: "The writer refuses
-//! by the same tests 7 to 12 in the same order".
+//! Head, bookings, job and sheet, and the tests 7 to 12 and 14, which reader and writer share: "The
+//! writer refuses by the same tests 7 to 12 in the same order".
 //!
 //! Fields are 64-bit numbers, so that a writer's caller can give ones that are too wide. What the
 //! reader takes from a sheet is never too wide, so those parts of a test are the writer's alone.
@@ -17,6 +17,11 @@ pub struct Head {
     pub q: u64,
     pub target: u64,
 }
+
+/// The booked minutes of each of 64 benches: "A booking of 0 is the same as none".
+pub type Booked = [u64; MAX_BENCHES as usize];
+
+pub const NOTHING_BOOKED: Booked = [0; MAX_BENCHES as usize];
 
 /// "minutes (20, 1 to 1,048,575), benches allowed (64, the first bit is bench 0)"
 #[derive(Clone, Copy, Debug, Default, PartialEq, Eq)]
@@ -44,24 +49,39 @@ pub fn first_benches(benches: u64) -> u64 {
 pub struct Sheet {
     head: Head,
     benches: u64,
+    booked: Booked,
+    /// The benches that had a booking frame, also one of 0 minutes.
+    had_booking: [bool; MAX_BENCHES as usize],
     jobs: [Job; MAX_JOBS],
     count: usize,
 }
 
 impl Sheet {
     pub fn new() -> Sheet {
-        Sheet { head: Head::default(), benches: 0, jobs: [Job::default(); MAX_JOBS], count: 0 }
+        Sheet {
+            head: Head::default(),
+            benches: 0,
+            booked: NOTHING_BOOKED,
+            had_booking: [false; MAX_BENCHES as usize],
+            jobs: [Job::default(); MAX_JOBS],
+            count: 0,
+        }
     }
 
     pub fn head(&self) -> Head {
         self.head
     }
 
+    pub fn booked(&self) -> &Booked {
+        &self.booked
+    }
+
     pub fn jobs(&self) -> &[Job] {
         &self.jobs[..self.count]
     }
 
-    /// Takes the head, with no job yet, or gives the number of its fault: tests 7 and 8.
+    /// Takes the head, with no booking and no job yet, or gives the number of its fault: tests 7
+    /// and 8.
     pub fn set_head(&mut self, head: Head) -> Result<(), u32> {
         // "The head has 0 benches or more than 64." Too wide a target counts here.
         if head.benches == 0 || head.benches > MAX_BENCHES || !fits(head.target, 30) {
@@ -77,7 +97,26 @@ impl Sheet {
         }
         self.head = head;
         self.benches = first_benches(head.benches);
+        self.booked = NOTHING_BOOKED;
+        self.had_booking = [false; MAX_BENCHES as usize];
         self.count = 0;
+        Ok(())
+    }
+
+    /// Takes the booking of a bench, or gives the number of its fault: tests 14 and 15.
+    pub fn add_booking(&mut self, bench: u64, minutes: u64) -> Result<(), u32> {
+        // "the bench is not in the head or, from the writer, [...] the minutes are too wide for
+        // the field".
+        if bench >= self.head.benches || !fits(minutes, 20) {
+            return Err(fault::BOOKING);
+        }
+        // "the bench already had a booking frame".
+        let bench = bench as usize;
+        if self.had_booking[bench] {
+            return Err(fault::BOOKED_TWICE);
+        }
+        self.had_booking[bench] = true;
+        self.booked[bench] = minutes;
         Ok(())
     }
 

@@ -1,7 +1,7 @@
 //! The writer and the tables, each fault on both sides of its edge.
 
-use super::door::{entry, table_bytes, Codec};
-use super::sheet::{Head, Job};
+use super::door::{entry, numbers, table_bytes, Codec, FRONT_ENTRIES};
+use super::sheet::{Booked, Head, Job, NOTHING_BOOKED};
 use super::writer::sheet_bytes;
 use crate::gen::day::{bench_bit, Day};
 use crate::gen::tables::Tables;
@@ -19,14 +19,28 @@ fn fault(number: u64, place: u64) -> u64 {
 /// The result word and the output, which had `room` bytes EE.
 fn written(tables: &Tables, room: usize) -> (u64, Vec<u8>) {
     let mut out = vec![0xEE; room];
-    let word = Codec::default().write(tables.head, &tables.minutes, &tables.allowed, &mut out);
+    let Tables { head, booked, minutes, allowed } = tables;
+    let word = Codec::default().write(*head, booked, minutes, allowed, &mut out);
     (word, out)
 }
 
 fn word(head: Head, jobs: &[Job]) -> u64 {
-    let (word, out) = written(&Tables::new(head, jobs), sheet_bytes(jobs.len()));
+    word_of(&Tables::new(head, jobs))
+}
+
+fn word_of(tables: &Tables) -> u64 {
+    let (word, out) = written(tables, sheet_bytes(tables.bookings(), tables.count()));
     assert!(word >> 32 == 0 || out.iter().all(|&byte| byte == 0xEE));
     word
+}
+
+/// These minutes on these benches.
+fn booked(bookings: &[(usize, u64)]) -> Booked {
+    let mut booked = NOTHING_BOOKED;
+    for &(bench, minutes) in bookings {
+        booked[bench] = minutes;
+    }
+    booked
 }
 
 #[test]
@@ -75,10 +89,71 @@ fn faults_9_to_12_of_the_jobs() {
         assert_eq!(word(HEAD, &[JOB, JOB, Job { allowed, ..JOB }]), fault(11, 2));
     }
     let three = Job { minutes: 4, allowed: 7 << 61 };
-    assert_eq!(word(HEAD, &[Job { minutes: 7, ..JOB }, three]), sheet_bytes(2) as u64);
+    assert_eq!(word(HEAD, &[Job { minutes: 7, ..JOB }, three]), sheet_bytes(0, 2) as u64);
     assert_eq!(word(HEAD, &[Job { minutes: 6, ..JOB }, three]), fault(12, 1));
     // 12 comes before 13.
     assert_eq!(written(&Tables::new(HEAD, &[three]), 0).0, fault(12, 0));
+}
+
+#[test]
+fn bookings_stand_by_rising_bench() {
+    let tables = Tables::booked(HEAD, &booked(&[(0, 3), (2, 1_048_575)]), &[]);
+    let sheet = hex::parse(
+        "11 00 07 06 10 38 00 00 01 20
+        14 00 04 00 00 00 C0
+        14 00 04 0B FF FF C0
+        13 00 00",
+    );
+    assert_eq!(written(&tables, 27), (27, sheet));
+    assert_eq!(written(&tables, 26), (fault(13, 0), vec![0xEE; 26]));
+    let head = Head { benches: 64, ..HEAD };
+    let largest = Tables::booked(head, &[1; 64], &vec![JOB; 512]);
+    assert_eq!(written(&largest, 7629).0, 7629);
+    assert_eq!(written(&largest, 7628).0, fault(13, 0));
+}
+
+#[test]
+fn fault_14_of_a_booking() {
+    let word = |head, bookings: &[(usize, u64)], jobs: &[Job]| {
+        word_of(&Tables::booked(head, &booked(bookings), jobs))
+    };
+    for minutes in [1 << 20, 1 << 32 | 5, u64::MAX] {
+        assert_eq!(word(HEAD, &[(0, 1), (1, minutes)], &[]), fault(14, 1));
+    }
+    assert_eq!(word(HEAD, &[(3, 1), (63, 1)], &[]), fault(14, 3));
+    assert_eq!(word(HEAD, &[(3, 0), (2, 1)], &[]), 20);
+    // The lowest bench first, for whichever reason.
+    assert_eq!(word(HEAD, &[(1, 1 << 20), (5, 1)], &[]), fault(14, 1));
+    // After 7 and 8, before 9 to 13.
+    assert_eq!(word(Head { benches: 65, ..HEAD }, &[(1, 1 << 20)], &[]), fault(7, 0));
+    assert_eq!(word(Head { p: 7, ..HEAD }, &[(1, 1 << 20)], &[]), fault(8, 0));
+    let three = Job { minutes: 4, allowed: 7 << 61 };
+    let no_jobs =
+        [vec![JOB; 513], vec![Job::default()], vec![Job { allowed: 0, ..JOB }], vec![three]];
+    for jobs in no_jobs {
+        assert_eq!(word(HEAD, &[(63, 1)], &jobs), fault(14, 63));
+    }
+    assert_eq!(written(&Tables::booked(HEAD, &booked(&[(9, 1)]), &[]), 0).0, fault(14, 9));
+}
+
+#[test]
+fn tables_of_bookings_of_any_length() {
+    let with = |bytes: &[u8]| {
+        let head = Head { benches: 64, ..HEAD };
+        written(&Tables { booked: bytes.to_vec(), ..Tables::new(head, &[]) }, 8192).0
+    };
+    assert_eq!(with(&[5]), 20);
+    assert_eq!(with(&[0, 0, 0, 0, 0, 0, 0, 0, 0]), 13);
+    assert_eq!(with(&[0, 0, 16]), fault(14, 0));
+    for more in [1, 7, 8, 9, 800] {
+        let mut bytes = vec![0; 512 + more];
+        bytes[0] = 1;
+        assert_eq!(with(&bytes), 20);
+        bytes[512 + more - 1] = 1;
+        assert_eq!(with(&bytes), fault(14, 64 + (more as u64 - 1) / 8));
+        bytes[8 * 63 + 7] = 1;
+        assert_eq!(with(&bytes), fault(14, 63));
+    }
 }
 
 #[test]
@@ -108,7 +183,8 @@ fn what_is_written_is_read() {
     for round in 0..300 {
         let count = if round % 30 == 0 { 512 } else { rng.below(9) };
         let day = Day::random(&mut rng, count);
-        let (word, sheet) = written(&day.tables(), sheet_bytes(count));
+        let tables = day.tables();
+        let (word, sheet) = written(&tables, sheet_bytes(tables.bookings(), count));
         assert_eq!(word, sheet.len() as u64);
         assert_eq!(sheet, day.draft().bytes());
         let mut table = vec![0xEE; table_bytes(count) + 1];
@@ -118,8 +194,10 @@ fn what_is_written_is_read() {
         assert_eq!(codec.inspect(&sheet, &mut table), count as u64);
         let Head { benches, p, q, target } = day.head;
         assert_eq!([0, 1, 2, 3].map(|i| entry(&table, i)), [benches, p, q, target]);
+        assert!(numbers(&table).skip(4).take(64).eq(day.booked));
         for (job, fields) in day.jobs.iter().enumerate() {
-            let read = [entry(&table, 4 + 2 * job), entry(&table, 5 + 2 * job)];
+            let at = FRONT_ENTRIES + 2 * job;
+            let read = [entry(&table, at), entry(&table, at + 1)];
             assert_eq!(read, [fields.minutes, fields.allowed]);
         }
         assert_eq!(table[table_bytes(count)], 0xEE);

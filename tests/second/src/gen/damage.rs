@@ -2,11 +2,16 @@
 //! number may come first; the second codec says which.
 
 use super::day::{bad_share, bench_bit};
-use super::draft::{self, end_frame, get, set, Draft};
+use super::draft::{self, booking_frame, end_frame, foreign_frame, get, set, Draft};
 use crate::rng::Rng;
 
-/// Damages the draft, aiming at fault `number`, 2 to 12. A draft without the frame that the
-/// damage needs is left as it is.
+/// The fault numbers that a frame or a whole sheet can be damaged to.
+pub const DAMAGES: [u32; 13] = [2, 3, 4, 5, 6, 7, 8, 9, 10, 11, 12, 14, 15];
+
+const KINDS: [u64; 4] = [draft::HEAD, draft::JOB, draft::END, draft::BOOKING];
+
+/// Damages the draft, aiming at fault `number`, one of `DAMAGES`. A draft without the frame that
+/// the damage needs is left as it is.
 pub fn damage(rng: &mut Rng, draft: &mut Draft, number: u32) {
     match number {
         2 => cut(rng, draft),
@@ -20,6 +25,8 @@ pub fn damage(rng: &mut Rng, draft: &mut Draft, number: u32) {
         10 => in_a_job(rng, draft, |_, frame| set(frame, draft::MINUTES, 0)),
         11 => allowed(rng, draft),
         12 => long_job_with_choice(rng, draft),
+        14 => booking(rng, draft),
+        15 => booked_twice(rng, draft),
         _ => unreachable!("no such damage"),
     }
 }
@@ -54,35 +61,39 @@ fn cut(rng: &mut Rng, draft: &mut Draft) {
 }
 
 fn unknown_kind(rng: &mut Rng, draft: &mut Draft) {
-    let kind = rng.pick(&[0, 4, 5, 6, 7, 8, 9, 10, 11, 12, 13, 14, 15]);
-    let all = [draft::HEAD, draft::JOB, draft::END];
-    in_one_of(rng, draft, &all, |_, frame| set(frame, draft::KIND, kind));
+    let kind = rng.pick(&[0, 5, 6, 7, 8, 9, 10, 11, 12, 13, 14, 15]);
+    in_one_of(rng, draft, &KINDS, |_, frame| set(frame, draft::KIND, kind));
 }
 
-/// A frame before the head, a second head, or a frame after the end.
+/// A frame before the head, a second head, a booking behind a job, or a frame after the end.
 fn out_of_place(rng: &mut Rng, draft: &mut Draft) {
     let heads = draft.of_kind(draft::HEAD);
     let jobs = draft.of_kind(draft::JOB);
     let ends = draft.of_kind(draft::END);
     let (Some(&head), Some(&end)) = (heads.first(), ends.last()) else { return };
     let head_copy = draft.frames[head].clone();
-    let other = match jobs.first() {
-        Some(&job) if rng.one_in(2) => draft.frames[job].clone(),
+    let booking = booking_frame(rng.range(0, 1), rng.range(0, 1));
+    let other = match (rng.below(3), jobs.first()) {
+        (0, Some(&job)) => draft.frames[job].clone(),
+        (1, _) => booking.clone(),
         _ => end_frame(),
     };
-    let (gap, frame) = match rng.below(4) {
-        0 => (rng.below(head + 1), other),
-        1 => (rng.range(head as u64 + 1, end.max(head + 1) as u64) as usize, head_copy),
-        2 => (rng.range(end as u64 + 1, draft.frames.len() as u64) as usize, other),
-        _ => (rng.range(end as u64 + 1, draft.frames.len() as u64) as usize, head_copy),
+    let behind = |rng: &mut Rng, frame: usize, last: usize| {
+        rng.range(frame as u64 + 1, last.max(frame + 1) as u64) as usize
+    };
+    let (gap, frame) = match (rng.below(5), jobs.first()) {
+        (0, _) => (rng.below(head + 1), other),
+        (1, _) => (behind(rng, head, end), head_copy),
+        (2, Some(&job)) => (behind(rng, job, end), booking),
+        (3, _) => (behind(rng, end, draft.frames.len()), head_copy),
+        _ => (behind(rng, end, draft.frames.len()), other),
     };
     draft.frames.insert(gap, frame);
 }
 
 /// A body longer or shorter than its kind has it; the frame stays whole.
 fn body_length(rng: &mut Rng, draft: &mut Draft) {
-    let all = [draft::HEAD, draft::JOB, draft::END];
-    in_one_of(rng, draft, &all, |rng, frame| {
+    in_one_of(rng, draft, &KINDS, |rng, frame| {
         let body = frame.len() - 3;
         let new = match rng.below(4) {
             0 if body > 0 => body - 1,
@@ -96,11 +107,11 @@ fn body_length(rng: &mut Rng, draft: &mut Draft) {
 }
 
 fn spare_bit(rng: &mut Rng, draft: &mut Draft) {
-    in_one_of(rng, draft, &[draft::HEAD, draft::JOB], |rng, frame| {
-        let spare = if get(frame, draft::KIND) == draft::HEAD {
-            draft::HEAD_SPARE
-        } else {
-            draft::JOB_SPARE
+    in_one_of(rng, draft, &[draft::HEAD, draft::JOB, draft::BOOKING], |rng, frame| {
+        let spare = match get(frame, draft::KIND) {
+            draft::HEAD => draft::HEAD_SPARE,
+            draft::JOB => draft::JOB_SPARE,
+            _ => draft::BOOKING_SPARE,
         };
         let bits = rng.range(1, (1 << spare.width) - 1);
         set(frame, spare, bits);
@@ -162,4 +173,39 @@ fn long_job_with_choice(rng: &mut Rng, draft: &mut Draft) {
         set(frame, draft::MINUTES, u64::MAX);
         set(frame, draft::ALLOWED, bench_bit(0) | bench_bit(1) | bench_bit(2));
     });
+}
+
+/// A booking of 0 minutes or more, for a bench that the head lacks.
+fn booking(rng: &mut Rng, draft: &mut Draft) {
+    let gaps = draft.booking_gaps();
+    let Some(&head) = draft.of_kind(draft::HEAD).first() else { return };
+    if gaps.is_empty() {
+        return;
+    }
+    let mut benches = get(&draft.frames[head], draft::BENCHES);
+    if benches >= 64 {
+        benches = rng.range(1, 63);
+        set(&mut draft.frames[head], draft::BENCHES, benches);
+    }
+    let bench = if rng.one_in(2) { benches } else { rng.range(benches, 63) };
+    let minutes = rng.pick(&[0, 1, 30, u64::MAX]);
+    draft.frames.insert(rng.pick(&gaps), booking_frame(bench, minutes));
+}
+
+/// One more booking of a bench, or two of bench 0, each of 0 minutes or more; now and then with a
+/// foreign frame among the bookings.
+fn booked_twice(rng: &mut Rng, draft: &mut Draft) {
+    let bookings = draft.of_kind(draft::BOOKING);
+    let (bench, copies) = match bookings.first() {
+        Some(_) => (get(&draft.frames[rng.pick(&bookings)], draft::BENCH), 1),
+        None => (0, 2),
+    };
+    let foreign = rng.one_in(3).then(|| foreign_frame(rng, 4));
+    let copies = (0..copies).map(|_| booking_frame(bench, rng.pick(&[0, 0, 1, 30, u64::MAX])));
+    for frame in copies.collect::<Vec<_>>().into_iter().chain(foreign) {
+        let gaps = draft.booking_gaps();
+        if !gaps.is_empty() {
+            draft.frames.insert(rng.pick(&gaps), frame);
+        }
+    }
 }

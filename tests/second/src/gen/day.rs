@@ -1,17 +1,19 @@
-//! Random heads and jobs that are taken, and ones at the edges of the rules.
+//! Random heads, bookings and jobs that are taken, and ones at the edges of the rules.
 
+use super::bookings;
 use super::draft::Draft;
 use super::tables::Tables;
-use crate::codec::sheet::{Head, Job};
+use crate::codec::sheet::{Booked, Head, Job, Sheet, NOTHING_BOOKED};
 use crate::rng::Rng;
 
 pub const MOST_MINUTES: u64 = 1_048_575;
 pub const MOST_TARGET: u64 = 1_073_741_823;
 
-/// A head and jobs, before they are packed.
+/// A head, bookings and jobs, before they are packed.
 #[derive(Clone, Debug)]
 pub struct Day {
     pub head: Head,
+    pub booked: Booked,
     pub jobs: Vec<Job>,
 }
 
@@ -93,8 +95,18 @@ fn head(rng: &mut Rng, least_benches: u64) -> Head {
 }
 
 impl Day {
-    /// A day with this many jobs that is taken: its longest job has one or two benches, and a job
-    /// with three or more has at most p/q of that job's minutes.
+    /// A day without bookings.
+    pub fn new(head: Head, jobs: Vec<Job>) -> Day {
+        Day { head, booked: NOTHING_BOOKED, jobs }
+    }
+
+    /// What was read of a sheet.
+    pub fn of(sheet: &Sheet) -> Day {
+        Day { head: sheet.head(), booked: *sheet.booked(), jobs: sheet.jobs().to_vec() }
+    }
+
+    /// A day with this many jobs that is taken, on half of the calls with bookings: its longest job
+    /// has one or two benches, and a job with three or more has at most p/q of that job's minutes.
     pub fn random(rng: &mut Rng, count: usize) -> Day {
         let head = head(rng, 1);
         let longest = if rng.one_in(6) { MOST_MINUTES } else { any_size(rng, MOST_MINUTES) };
@@ -110,7 +122,8 @@ impl Day {
             }
         });
         let jobs = jobs.collect();
-        Day { head, jobs }
+        let booked = bookings::some(rng, head.benches, |rng| any_size(rng, MOST_MINUTES));
+        Day { head, booked, jobs }
     }
 
     /// A day whose jobs with three or more benches have minutes about p × W / q: taken, or
@@ -130,14 +143,16 @@ impl Day {
             let place = rng.below(jobs.len() + 1);
             jobs.insert(place, Job { minutes: minutes.max(1), allowed });
         }
-        Day { head, jobs }
+        // Bookings longer than the longest job do not count in W.
+        let booked = bookings::some(rng, head.benches, |rng| any_size(rng, MOST_MINUTES));
+        Day { head, booked, jobs }
     }
 
     pub fn draft(&self) -> Draft {
-        Draft::new(self.head, &self.jobs)
+        Draft::booked(self.head, &self.booked, &self.jobs)
     }
 
     pub fn tables(&self) -> Tables {
-        Tables::new(self.head, &self.jobs)
+        Tables::booked(self.head, &self.booked, &self.jobs)
     }
 }

@@ -1,9 +1,9 @@
 //! Each generator does what it is for, in the second codec's eyes.
 
-use super::damage::damage;
-use super::day::Day;
+use super::damage::{damage, DAMAGES};
+use super::day::{Day, MOST_MINUTES};
 use super::draft;
-use super::tables::spoil;
+use super::tables::{spoil, Tables, SPOILS};
 use crate::codec::door::{fault_number, Codec};
 use crate::codec::sheet::Head;
 use crate::rng::Rng;
@@ -16,6 +16,8 @@ fn fields_are_packed_as_example_12_says() {
     assert_eq!(head, crate::hex::parse("11 00 07 04 10 38 00 00 01 20"));
     assert_eq!(draft::get(&head, draft::BENCHES), 2);
     assert_eq!(draft::get(&head, draft::TARGET), 9);
+    let booking = draft::booking_frame(2, MOST_MINUTES);
+    assert_eq!(booking, crate::hex::parse("14 00 04 0B FF FF C0"));
 }
 
 #[test]
@@ -25,16 +27,27 @@ fn random_days_are_taken() {
     for _ in 0..TIMES {
         let count = rng.below(20);
         let day = Day::random(&mut rng, count);
-        let sheet = codec.read(&day.draft().bytes()).expect("a random day is taken");
+        let mut draft = day.draft();
+        draft.scatter_bookings(&mut rng, 3);
+        let sheet = codec.read(&draft.bytes()).expect("a random day is taken");
         assert_eq!((sheet.head(), sheet.jobs()), (day.head, &day.jobs[..]));
+        assert_eq!(*sheet.booked(), day.booked);
     }
+}
+
+#[test]
+fn half_of_the_random_days_have_bookings() {
+    let mut rng = Rng::new(6);
+    let has_bookings = |day: Day| day.booked.iter().any(|&minutes| minutes > 0);
+    let booked = (0..TIMES).filter(|_| has_bookings(Day::random(&mut rng, 3))).count();
+    assert!(booked > TIMES * 2 / 5 && booked < TIMES * 3 / 5, "{booked}");
 }
 
 #[test]
 fn days_near_fault_12_fall_on_both_sides() {
     let mut rng = Rng::new(2);
     let mut codec = Codec::default();
-    let mut met = [0; 14];
+    let mut met = [0; 16];
     for _ in 0..TIMES {
         let bytes = Day::near_fault_12(&mut rng).draft().bytes();
         let number = codec.read(&bytes).err().map_or(0, |fault| fault.number);
@@ -48,7 +61,7 @@ fn days_near_fault_12_fall_on_both_sides() {
 fn damage_meets_its_fault() {
     let mut rng = Rng::new(3);
     let mut codec = Codec::default();
-    for number in 2..=12 {
+    for number in DAMAGES {
         for _ in 0..TIMES / 10 {
             let mut draft = Day::random(&mut rng, 5).draft();
             damage(&mut rng, &mut draft, number);
@@ -63,12 +76,12 @@ fn spoilt_fields_meet_their_fault() {
     let mut rng = Rng::new(4);
     let mut codec = Codec::default();
     let mut out = [0; 8192];
-    for number in 7..=12 {
+    for number in SPOILS {
         for _ in 0..TIMES / 10 {
             let mut day = Day::random(&mut rng, 5);
             spoil(&mut rng, &mut day, number);
-            let tables = day.tables();
-            let word = codec.write(tables.head, &tables.minutes, &tables.allowed, &mut out);
+            let Tables { head, booked, minutes, allowed } = day.tables();
+            let word = codec.write(head, &booked, &minutes, &allowed, &mut out);
             assert_eq!(fault_number(word), number, "{day:?}");
         }
     }
@@ -79,7 +92,7 @@ fn padding_brings_a_sheet_to_its_length() {
     let mut rng = Rng::new(5);
     let mut codec = Codec::default();
     for length in [16, 17, 18, 19, 20, 1000, 65_536, 65_537, 200_000] {
-        let day = Day::random(&mut rng, 0);
+        let day = Day::new(Day::random(&mut rng, 0).head, Vec::new());
         let mut draft = day.draft();
         draft.pad_to(&mut rng, length);
         assert_eq!(draft.len(), length);

@@ -1,7 +1,8 @@
 //! Generators of sheets and of the writer's tables, good and damaged.
 //!
 //! - `draft`: a sheet as a list of frames that can be changed bit by bit.
-//! - `day`: random heads and jobs that are taken, and ones at the edges of the rules.
+//! - `day`: random heads, bookings and jobs that are taken, and ones at the edges of the rules.
+//! - `bookings`: random bookings of benches.
 //! - `damage`: changes to a draft, each aimed at one fault number.
 //! - `bay`: days for the run.
 //! - `tables`: the writer's fields and tables, and changes to them.
@@ -9,6 +10,7 @@
 //! Nothing here uses the second codec's packing of fields, so that an error there cannot hide.
 
 pub mod bay;
+pub mod bookings;
 pub mod damage;
 pub mod day;
 pub mod draft;

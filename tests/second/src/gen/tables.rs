@@ -1,24 +1,41 @@
 //! The writer's fields and tables, and changes to them.
 
 use super::day::{bad_share, bench_bit, Day};
-use crate::codec::sheet::{Head, Job};
+use crate::codec::sheet::{Booked, Head, Job};
 use crate::rng::Rng;
 
-/// What the writer is given: the head's fields and two tables of 8-byte numbers.
+/// The fault numbers that fields can be spoilt to.
+pub const SPOILS: [u32; 7] = [7, 8, 9, 10, 11, 12, 14];
+
+/// What the writer is given: the head's fields and three tables of 8-byte numbers.
 #[derive(Clone, Debug)]
 pub struct Tables {
     pub head: Head,
+    pub booked: Vec<u8>,
     pub minutes: Vec<u8>,
     pub allowed: Vec<u8>,
 }
 
 impl Tables {
+    /// With an empty table of bookings.
     pub fn new(head: Head, jobs: &[Job]) -> Tables {
         Tables {
             head,
+            booked: Vec::new(),
             minutes: jobs.iter().flat_map(|job| job.minutes.to_le_bytes()).collect(),
             allowed: jobs.iter().flat_map(|job| job.allowed.to_le_bytes()).collect(),
         }
+    }
+
+    pub fn booked(head: Head, booked: &Booked, jobs: &[Job]) -> Tables {
+        let booked = booked.iter().flat_map(|minutes| minutes.to_le_bytes()).collect();
+        Tables { booked, ..Tables::new(head, jobs) }
+    }
+
+    /// The number of bookings that are not 0.
+    pub fn bookings(&self) -> usize {
+        let is_zero = |entry: &[u8]| entry.iter().all(|&byte| byte == 0);
+        self.booked.chunks(8).filter(|entry| !is_zero(entry)).count()
     }
 
     /// The number of jobs: that of the longer table, a begun entry counting as one.
@@ -26,15 +43,27 @@ impl Tables {
         self.minutes.len().max(self.allowed.len()).div_ceil(8)
     }
 
-    /// Cuts bytes off one table or both, so that they end inside an entry or have unequal numbers
+    /// Cuts bytes off one table or all, so that they end inside an entry or have unequal numbers
     /// of entries.
     pub fn tear(&mut self, rng: &mut Rng) {
-        let which = rng.below(3);
-        for (number, table) in [&mut self.minutes, &mut self.allowed].into_iter().enumerate() {
-            if which == number || which == 2 {
+        let which = rng.below(4);
+        let tables = [&mut self.minutes, &mut self.allowed, &mut self.booked];
+        for (number, table) in tables.into_iter().enumerate() {
+            if which == number || which == 3 {
                 let least = if rng.one_in(3) { 0 } else { table.len().saturating_sub(9) };
                 table.truncate(rng.range(least as u64, table.len() as u64) as usize);
             }
+        }
+    }
+
+    /// Lengthens the table of bookings to past the 64th entry, inside an entry or not, with 0 or
+    /// with a number that is not.
+    pub fn lengthen(&mut self, rng: &mut Rng) {
+        let more = rng.range(1, 3 * 8) as usize;
+        self.booked.resize(8 * 64 + more, 0);
+        if !rng.one_in(3) {
+            let at = 8 * 64 + rng.below(more);
+            self.booked[at] = rng.range(1, 255) as u8;
         }
     }
 }
@@ -52,13 +81,14 @@ pub fn too_wide(rng: &mut Rng, width: u32, fitting: u64) -> u64 {
     }
 }
 
-/// Spoils the fields, aiming at fault `number`, 7 to 12. A day without the job that this needs is
-/// left as it is.
+/// Spoils the fields, aiming at fault `number`, one of `SPOILS`. A day without the job that this
+/// needs is left as it is.
 pub fn spoil(rng: &mut Rng, day: &mut Day, number: u32) {
     match number {
         7 => spoil_benches(rng, &mut day.head),
         8 => spoil_share(rng, &mut day.head),
         9 => add_jobs(rng, day),
+        14 => spoil_booking(rng, day),
         10..=12 if day.jobs.is_empty() => {}
         10 => {
             let job = rng.below(day.jobs.len());
@@ -105,6 +135,18 @@ fn spoil_share(rng: &mut Rng, head: &mut Head) {
             head.q = too_wide(rng, 7, head.q);
         }
         _ => (head.p, head.q) = bad_share(rng),
+    }
+}
+
+/// Too wide a booking, or one for a bench that the head lacks.
+fn spoil_booking(rng: &mut Rng, day: &mut Day) {
+    let benches = day.head.benches.min(64);
+    if benches < 64 && rng.one_in(2) {
+        let bench = if rng.one_in(2) { benches } else { rng.range(benches, 63) };
+        day.booked[bench as usize] = if rng.one_in(4) { too_wide(rng, 20, 1) } else { 1 };
+    } else {
+        let bench = rng.range(0, benches.max(1) - 1) as usize;
+        day.booked[bench] = too_wide(rng, 20, day.booked[bench]);
     }
 }
 

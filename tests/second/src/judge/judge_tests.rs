@@ -4,16 +4,21 @@ use super::{has_rival, is_blocking, judge};
 use crate::codec::door::Codec;
 use crate::codec::sheet::{Head, Job};
 use crate::gen::bay::days;
+use crate::gen::day::Day;
 use crate::gen::draft::Draft;
 use crate::planner::algorithm::{Answer, Planner, Rooms};
-use crate::planner::example_tests::{head, job};
+use crate::planner::example_tests::{booked, head, job};
 use crate::planner::set::Set;
 use crate::rng::Rng;
 
 fn blocks(head: Head, jobs: &[Job], benches: &[usize]) -> bool {
+    day_blocks(&Day::new(head, jobs.to_vec()), benches)
+}
+
+fn day_blocks(day: &Day, benches: &[usize]) -> bool {
     let set = benches.iter().fold(Set::EMPTY, |all, &bench| all | Set::one(bench));
     let mut codec = Codec::default();
-    is_blocking(codec.read(&Draft::new(head, jobs).bytes()).expect("accepted"), set)
+    is_blocking(codec.read(&day.draft().bytes()).expect("accepted"), set)
 }
 
 #[test]
@@ -32,6 +37,52 @@ fn blocking_sets() {
     // A heavy job with one bench drives the other away: 8 + 1 > 8 on bench 1.
     let jobs = [job(8, &[0]), job(8, &[0, 1]), job(1, &[1])];
     assert!(blocks(head(2, 8), &jobs, &[1]));
+}
+
+#[test]
+fn booked_minutes_count_in_a_blocking_set_that_holds_the_bench() {
+    let day = |minutes| booked(head(3, 8), &[(1, minutes)], &[job(4, &[0, 1]); 3]);
+    // 12 of jobs and the booking, against 2 × 8.
+    assert!(day_blocks(&day(5), &[0, 1]));
+    assert!(!day_blocks(&day(4), &[0, 1]));
+    assert!(!day_blocks(&day(8), &[1]));
+    assert!(day_blocks(&day(9), &[1]));
+    assert!(!day_blocks(&day(100), &[0]));
+    assert!(!day_blocks(&day(100), &[0, 2]));
+    // A booking is never heavy: with the job of 8 it leaves a placement.
+    let beside = booked(head(2, 8), &[(0, 8)], &[job(8, &[0])]);
+    assert!(!day_blocks(&beside, &[1]));
+    assert!(day_blocks(&beside, &[0]));
+}
+
+#[test]
+fn the_rival_is_bound_by_the_bookings() {
+    let mut codec = Codec::default();
+    let mut rival = |minutes, jobs: &[Job]| {
+        let bytes = booked(head(2, 10), &[(1, minutes)], jobs).draft().bytes();
+        has_rival(codec.read(&bytes).expect("accepted"), 1000)
+    };
+    assert_eq!(rival(5, &[job(5, &[0, 1]); 3]), Some(true));
+    assert_eq!(rival(6, &[job(5, &[0, 1]); 3]), Some(false));
+    assert_eq!(rival(10, &[]), Some(true));
+    assert_eq!(rival(11, &[]), Some(false));
+}
+
+#[test]
+fn loads_without_their_booking_are_refused() {
+    let mut codec = Codec::default();
+    let bytes = booked(head(2, 5), &[(1, 4)], &[job(5, &[0, 1])]).draft().bytes();
+    let sheet = codec.read(&bytes).expect("accepted");
+    let plan =
+        |largest, places, loads| judge(sheet, &Answer::Plan { largest, moves: 0, places, loads });
+    assert_eq!(plan(5, &[0], &[5, 4]), Ok(()));
+    assert_eq!(plan(9, &[1], &[0, 9]), Ok(()));
+    assert!(plan(5, &[0], &[5, 0]).is_err());
+    assert!(plan(5, &[1], &[0, 5]).is_err());
+    let bytes = booked(head(2, 5), &[(1, 5)], &[job(5, &[0, 1])]).draft().bytes();
+    let sheet = codec.read(&bytes).expect("accepted");
+    let above = Answer::Plan { largest: 10, moves: 0, places: &[1], loads: &[0, 10] };
+    assert!(judge(sheet, &above).is_err());
 }
 
 #[test]

@@ -57,7 +57,9 @@ fn judge_plan(
     require(loads.len() == benches as usize, "not one load for each bench")?;
     for (bench, &load) in loads.iter().enumerate() {
         let here = sheet.jobs().iter().zip(places).filter(|&(_, &place)| place == bench as u64);
-        require(load == here.map(|(job, _)| job.minutes).sum(), "a load is wrong")?;
+        let jobs: u64 = here.map(|(job, _)| job.minutes).sum();
+        // Booked minutes "count in loads, in the bound".
+        require(load == sheet.booked()[bench] + jobs, "a load is wrong")?;
         // "A load is within the demand's bound if 3q × load ≤ (5q + p) × T."
         require(3 * q * load <= (5 * q + p) * target, "a load is above the bound")?;
     }
@@ -65,9 +67,12 @@ fn judge_plan(
 }
 
 /// Some assignment keeps every bench within T. Tries them all, but for those that a bench above T
-/// rules out; `None` where that takes more than `steps`.
+/// rules out; `None` where that takes more than `steps`. "The rival is bound by the bookings too."
 pub fn has_rival(sheet: &Sheet, steps: u64) -> Option<bool> {
-    let mut search = Search { sheet, loads: [0; 64], steps };
+    if sheet.booked().iter().any(|&minutes| minutes > sheet.head().target) {
+        return Some(false);
+    }
+    let mut search = Search { sheet, loads: *sheet.booked(), steps };
     search.assign(0)
 }
 
@@ -96,7 +101,8 @@ impl Search<'_> {
 
 /// "A non-empty set of k benches is blocking if in every placement the heavy jobs placed inside it,
 /// plus all light jobs whose benches all lie inside it, weigh more than k × T. Where no placement
-/// exists every non-empty set is blocking."
+/// exists every non-empty set is blocking." Booked minutes count "in a blocking set that holds the
+/// bench; they are never a heavy job".
 pub fn is_blocking(sheet: &Sheet, set: Set) -> bool {
     let head = sheet.head();
     if set.is_empty() || !(set - Set::first(head.benches as usize)).is_empty() {
@@ -104,8 +110,9 @@ pub fn is_blocking(sheet: &Sheet, set: Set) -> bool {
     }
     let inside = |job: &&Job| !is_heavy(head, job) && (Set(job.allowed) - set).is_empty();
     let light: u64 = sheet.jobs().iter().filter(inside).map(|job| job.minutes).sum();
+    let booked: u64 = set.map(|bench| sheet.booked()[bench]).sum();
     let heavy = lightest_placement(sheet, set);
-    heavy.is_none_or(|heavy| light + heavy > set.len() as u64 * head.target)
+    heavy.is_none_or(|heavy| booked + light + heavy > set.len() as u64 * head.target)
 }
 
 /// The least that the heavy jobs inside a set weigh in a placement, or none where there is no

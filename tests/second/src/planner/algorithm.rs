@@ -127,9 +127,10 @@ pub fn is_assignment(sheet: &Sheet, places: &[u64]) -> bool {
     places.len() == jobs.len() && places.iter().enumerate().all(allowed)
 }
 
-/// "A bench's load under it is the sum of the minutes of the jobs put there."
+/// "A bench's load under it is the sum of the minutes of the jobs put there." Booked minutes "count
+/// in loads".
 fn add_loads(sheet: &Sheet, places: &[u64], loads: &mut [u64; 64]) {
-    *loads = [0; 64];
+    *loads = *sheet.booked();
     for (job, &place) in sheet.jobs().iter().zip(places) {
         loads[place as usize] += job.minutes;
     }

@@ -87,6 +87,8 @@ impl Bay {
             return Err(crowded);
         }
         let mut bay = Bay::empty(head);
+        // "Booked minutes are dedicated load in the run".
+        bay.own = sheet.booked().map(|minutes| bay.limits.scale * minutes);
         for (number, job) in sheet.jobs().iter().enumerate() {
             let weight = bay.limits.scale * job.minutes;
             if is_rock(&job) {

@@ -2,7 +2,7 @@
 //! significant byte first, and a result word. The layout of the answer table stands here alone.
 
 use super::algorithm::{Answer, Comparison, Planner, Rooms};
-use crate::codec::door::{entries, entry, word, ENTRY_BYTES};
+use crate::codec::door::{numbers, word, ENTRY_BYTES};
 
 /// The value of the result word for each answer.
 pub const PLAN: u64 = 1;
@@ -62,8 +62,7 @@ pub fn plan(
 
 /// Compares two lists of places. In a list a begun entry counts and missing bytes are 0.
 pub fn compare(planner: &mut Planner, sheet: &[u8], first: &[u8], second: &[u8]) -> u64 {
-    let list = |table: &[u8]| (0..entries(table)).map(|job| entry(table, job)).collect();
-    let [first, second]: [Vec<u64>; 2] = [list(first), list(second)];
+    let [first, second]: [Vec<u64>; 2] = [first, second].map(|table| numbers(table).collect());
     match planner.compare(sheet, &first, &second) {
         Err(fault) => word(Err(fault)),
         Ok(Comparison::Same) => SAME,

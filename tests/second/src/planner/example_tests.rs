@@ -4,6 +4,7 @@ use super::algorithm::{Answer, Planner, Rooms};
 use super::set::Set;
 use crate::codec::fault::Fault;
 use crate::codec::sheet::{Head, Job};
+use crate::gen::day::Day;
 use crate::gen::draft::Draft;
 use crate::hex;
 use crate::samples::example_12;
@@ -37,8 +38,21 @@ pub fn job(minutes: u64, benches: &[usize]) -> Job {
     Job { minutes, allowed: allowed.0 }
 }
 
+/// A day with these benches booked.
+pub fn booked(head: Head, bookings: &[(usize, u64)], jobs: &[Job]) -> Day {
+    let mut day = Day::new(head, jobs.to_vec());
+    for &(bench, minutes) in bookings {
+        day.booked[bench] = minutes;
+    }
+    day
+}
+
 pub fn plan(head: Head, jobs: &[Job]) -> Owned {
-    answer(&Draft::new(head, jobs).bytes(), Rooms::FULL)
+    plan_day(&Day::new(head, jobs.to_vec()))
+}
+
+pub fn plan_day(day: &Day) -> Owned {
+    answer(&day.draft().bytes(), Rooms::FULL)
 }
 
 pub fn planned(largest: u64, moves: u64, places: &[u64], loads: &[u64]) -> Owned {

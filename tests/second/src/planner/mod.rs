@@ -1,6 +1,6 @@
-//! The second planner: document 01's run, written from that document and from chapter 4 of
-//! source document 000. Sentences in quotation marks are theirs. Every weight is multiplied by 3q
-//! when it enters the run, so that each comparison is exact.
+//! The second planner: document 01's run, written from that document, request S-1 of document 02
+//! and chapter 4 of source document 000. Sentences in quotation marks are theirs. Every weight is
+//! multiplied by 3q when it enters the run, so that each comparison is exact.
 //!
 //! - `set`: sets of benches and of rocks.
 //! - `rocks`: heavy jobs as edges between benches; crowded components; peeling.
@@ -12,8 +12,8 @@
 //! - `door`: the same through tables and result words, as the static library has them.
 //!
 //! Words of chapter 4: a *rock* is a heavy job with two benches, a *pebble* a light job with two or
-//! more, *dedicated load* what can lie on one bench only. A bench's own load is its dedicated load
-//! and the pebbles that lie there now; rocks directed to it come on top.
+//! more, *dedicated load* what can lie on one bench only, booked minutes among it. A bench's own
+//! load is its dedicated load and the pebbles that lie there now; rocks directed to it come on top.
 
 pub mod algorithm;
 pub mod bay;
@@ -24,6 +24,8 @@ pub mod push;
 pub mod rocks;
 pub mod set;
 
+#[cfg(test)]
+mod booking_tests;
 #[cfg(test)]
 mod compare_tests;
 #[cfg(test)]

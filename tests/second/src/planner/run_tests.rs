@@ -1,6 +1,6 @@
 //! The second planner against the run word for word.
 
-use super::example_tests::plan;
+use super::example_tests::plan_day;
 use super::literal;
 use crate::corpus;
 use crate::gen::bay::days::{self, Size};
@@ -10,7 +10,7 @@ use crate::planner::algorithm::Planner;
 use crate::rng::Rng;
 
 fn agrees(day: &Day) {
-    assert_eq!(plan(day.head, &day.jobs), literal::answer(day.head, &day.jobs), "{day:?}");
+    assert_eq!(plan_day(day), literal::answer(day), "{day:?}");
 }
 
 fn agree(seed: u64, count: usize, size: fn(&mut Rng) -> Size) {

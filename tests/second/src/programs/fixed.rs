@@ -76,9 +76,9 @@ fn full(check: &mut Check) {
     check.class("512 jobs on 64 benches");
     let head = Head { benches: 64, p: 126, q: 127, target: MOST_TARGET };
     let longest = Job { minutes: MOST_MINUTES, allowed: bench_bit(63) };
-    let last_bench = Day { head, jobs: vec![longest; 512] };
+    let last_bench = Day::new(head, vec![longest; 512]);
     let choice = Job { minutes: MOST_MINUTES * 126 / 127, allowed: u64::MAX };
-    let mut all_benches = Day { head, jobs: vec![choice; 512] };
+    let mut all_benches = Day { booked: [MOST_MINUTES; 64], ..Day::new(head, vec![choice; 512]) };
     all_benches.jobs[511] = longest;
     let mut days = vec![last_bench, all_benches];
     for _ in 0..4 {
@@ -97,7 +97,7 @@ fn blocked(check: &mut Check) {
     let pair = |one, two| Job { minutes: 480, allowed: bench_bit(one) | bench_bit(two) };
     let mut jobs: Vec<Job> = (0..64).map(|bench| pair(bench, (bench + 1) % 64)).collect();
     jobs.push(pair(0, 32));
-    let sheet = Day { head, jobs }.draft().bytes();
+    let sheet = Day::new(head, jobs).draft().bytes();
     let benches: String = (0..64).map(|bench| format!(" {bench}")).collect();
     let [bay, _] = check.sheet(&sheet, Feed::AtOnce);
     check.expect("the set", bay == format!("none 0{benches}\n"), &sheet);
@@ -109,6 +109,7 @@ fn pieces(check: &mut Check) {
     check.sheet(&samples::example_12(), Feed::Pieces(1));
     check.sheet(&samples::day(), Feed::Pieces(7));
     check.sheet(&samples::none(), Feed::Pieces(100));
+    check.sheet(&samples::booked(), Feed::Pieces(5));
     for bytes in [65_535, 65_536, 65_537, 65_538] {
         length(check, bytes, Feed::Pieces(500));
     }
@@ -117,4 +118,5 @@ fn pieces(check: &mut Check) {
 fn scripts(check: &mut Check) {
     check.class("./bay and ./show from another folder");
     check.scripts("bay.sheet", &samples::bay());
+    check.scripts("booked.sheet", &samples::booked());
 }

@@ -3,7 +3,7 @@
 use crate::check::Check;
 use crate::process::Feed;
 use second::gen::bay::days;
-use second::gen::damage::damage;
+use second::gen::damage::{damage, DAMAGES};
 use second::gen::day::Day;
 
 pub fn round(check: &mut Check) {
@@ -31,6 +31,7 @@ fn middle(check: &mut Check) {
     for _ in 0..10 {
         let size = days::middle(&mut check.rng);
         let mut draft = days::any(&mut check.rng, size).draft();
+        draft.scatter_bookings(&mut check.rng, 2);
         draft.sprinkle(&mut check.rng, 3);
         check.sheet(&draft.bytes(), Feed::AtOnce);
     }
@@ -48,7 +49,7 @@ fn any_fields(check: &mut Check) {
 /// Each damage once.
 fn damaged(check: &mut Check) {
     check.class("damaged");
-    for number in 2..=12 {
+    for number in DAMAGES {
         let mut draft = tiny_day(check).draft();
         damage(&mut check.rng, &mut draft, number);
         check.sheet(&draft.bytes(), Feed::AtOnce);

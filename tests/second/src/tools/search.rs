@@ -53,7 +53,7 @@ fn parse(arguments: &[String]) -> Option<(u64, usize, Cost, &str)> {
 fn day_of(sheet: &[u8]) -> Day {
     let mut codec = Codec::default();
     let sheet = codec.read(sheet).expect("the file has an accepted sheet");
-    Day { head: sheet.head(), jobs: sheet.jobs().to_vec() }
+    Day::of(sheet)
 }
 
 /// The random day near its turning point with the longest run.

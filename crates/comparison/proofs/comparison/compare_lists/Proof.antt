@@ -10,7 +10,7 @@ gives-each-requires c κs = search needs
 returns : tie.Need-returns
 returns c =
     let x = c .before .before .before .before .before .before .args in
-    λ s t. found-first-faulty s (x .benches) (x .jobs) (x .minutes .now) (x .allowed .now) t (x .first .now)
+    λ s booked t. found-first-faulty s (x .benches) booked (x .jobs) (x .minutes .now) (x .allowed .now) t (x .first .now)
     (x .second .now) (c .before .gives-each .ensures) (c .if1 .taken)
 
 gives-each-requires-2 : tie.Need-gives-each-requires-2
@@ -19,7 +19,7 @@ gives-each-requires-2 c κs = search needs
 returns-2 : tie.Need-returns-2
 returns-2 c =
     let x = c .before .before .before .before .before .before .before .before .args in
-    λ s t. found-second-faulty s (x .benches) (x .jobs) (x .minutes .now) (x .allowed .now) t (x .first .now)
+    λ s booked t. found-second-faulty s (x .benches) booked (x .jobs) (x .minutes .now) (x .allowed .now) t (x .first .now)
     (x .second .now) (c .before .before .before .gives-each .ensures) (c .before .before .if1 .left)
     (c .before .gives-each2 .ensures) (c .if2 .taken)
 
@@ -29,7 +29,7 @@ same-loads-requires c κs = search needs
 returns-3 : tie.Need-returns-3
 returns-3 c =
     let x = c .before .before .before .before .before .before .before .before .before .before .args in
-    λ s t. found-same s (x .benches) (x .jobs) (x .minutes .now) (x .allowed .now) t (x .first .now)
+    λ s booked t. found-same s (x .benches) booked (x .jobs) (x .minutes .now) (x .allowed .now) t (x .first .now)
     (x .second .now) (c .before .before .before .before .before .gives-each .ensures)
     (c .before .before .before .before .if1 .left) (c .before .before .before .gives-each2 .ensures)
     (c .before .before .if2 .left) (c .before .same-loads .ensures) (c .if3 .taken)
@@ -37,7 +37,7 @@ returns-3 c =
 returns-4 : tie.Need-returns-4
 returns-4 c =
     let x = c .before .before .before .before .before .before .before .before .before .before .args in
-    λ s t. found-different s (x .benches) (x .jobs) (x .minutes .now) (x .allowed .now) t (x .first .now)
+    λ s booked t. found-different s (x .benches) booked (x .jobs) (x .minutes .now) (x .allowed .now) t (x .first .now)
     (x .second .now) (c .before .before .before .before .before .gives-each .ensures)
     (c .before .before .before .before .if1 .left) (c .before .before .before .gives-each2 .ensures)
     (c .before .before .if2 .left) (c .before .same-loads .ensures) (c .if3 .left)

@@ -19,17 +19,17 @@ enum-told-3 : tie.Need-enum-told-3
 enum-told-3 c = search needs
 
 returns : tie.Need-returns
-returns c =
+returns c bs =
     let start = c .before .before .before .before .before in
     let a = start .args in
     rw (c .before .enum-told .given .1)
     (c .check-hyper-edges .ensures ∙ checked-fits (now (a .minutes)) (now (a .allowed)) (a .count) (a .h) (start .pre))
 
 returns-2 : tie.Need-returns-2
-returns-2 c = rw (c .enum-told2 .given .1)
+returns-2 c bs = rw (c .enum-told2 .given .1)
 
 returns-3 : tie.Need-returns-3
-returns-3 c = rw (c .enum-told3 .given .1)
+returns-3 c bs = rw (c .enum-told3 .given .1)
 
 pub finish-spec : {M : Type 1} → statement M
 finish-spec =

@@ -1,5 +1,5 @@
--- `read`: the loop keeps ReadState: what reading the sheet gives is what reading on from here gives. Each way through the body is a
--- law of ReadState.
+-- `read`: the loop keeps ReadState: what reading the sheet gives is what reading on from here gives. Each way through
+-- the body is a law of ReadState.
 use borrow.Author.Needs.{needs}
 use Rattle.fields.specs.declared.fault.Verdict.{Verdict}
 use Prim.Native.Nat.{_-_, _<_}
@@ -9,15 +9,17 @@ use lib.ListN.{length}
 use denote.Ref.{now}
 use Rattle.frame.specs.Reading.{stored, readingOf}
 use Rattle.frame.proofs.FirstFault.{read-too-long}
-use Rattle.frame.proofs.ReadState.{ReadState, next-is, found-is, job-room, state-start, state-foreign, state-fault, state-head, state-job, state-end, state-minutes, state-over}
+use Rattle.frame.proofs.ReadState.{ReadState, next-is, found-is, job-room, state-start, state-foreign}
+use Rattle.frame.proofs.ReadState.{state-fault, state-head}
+use Rattle.frame.proofs.ReadState.{state-booking, bench-room, state-job, state-end, state-minutes, state-over}
 use Rattle.frame.proofs.reader.read.Statement.{statement}
 use Rattle.frame.proofs.reader.read.Tie as tie
 
 abbrev Inv-loop : tie.InvT-loop
-Inv-loop s sheet₀ stage₀ at₀ sheet stage at = ReadState s sheet stage at
+Inv-loop s sheet₀ stage₀ had₀ at₀ sheet stage had at = ReadState s sheet stage had at
 
 abbrev μ-loop : tie.MeasureT-loop
-μ-loop s sheet₀ stage₀ at₀ sheet stage at = length s - at
+μ-loop s sheet₀ stage₀ had₀ at₀ sheet stage had at = length s - at
 
 refusal-requires : tie.Need-refusal-requires Inv-loop μ-loop
 refusal-requires c κs = search needs
@@ -70,17 +72,14 @@ refusal-requires-2 c κs = search needs
 
 returns-2 : tie.Need-returns-2 Inv-loop μ-loop
 returns-2 c =
-    let after-frame-at = c .before .before .before .before in
-    let at-frame-at = after-frame-at .frame-at in
-    let after-loop-test = after-frame-at .before .before .before .before in
-    let at-loop-test = after-loop-test .loop-test in
-    let at-loop = c .before .before .before .before .before .before .before .before .before .loop in
-    let at-args = after-loop-test .before .before .before .before .before .args in
-    let s = now (at-args .s) in
-    let l = at-loop in
-    c .refusal2 .ensures ∙ ap stored (sym (state-fault s (l .sheet) (l .stage) (l .at) (l .inv) (at-loop-test .taken)
-    _ (found-is s (l .sheet) (l .stage) (l .at) (l .inv) _ _ (at-frame-at .ensures)
-    (c .before .before .f .given .1))))
+    let found = c .before .before .before .before in
+    let at-loop-test = found .before .before .before .before .loop-test in
+    let l = found .before .before .before .before .before .loop in
+    let s = now (found .before .before .before .before .before .before .before .before .before .args .s) in
+    let is = found-is s (l .sheet) (l .stage) (l .had) (l .at) (l .inv) _ _ (found .frame-at .ensures) in
+    let faulty = is (c .before .before .f .given .1) in
+    c .refusal2 .ensures
+    ∙ ap stored (sym (state-fault s (l .sheet) (l .stage) (l .had) (l .at) (l .inv) (at-loop-test .taken) _ faulty))
 
 enum-told : tie.Need-enum-told Inv-loop μ-loop
 enum-told c = search needs
@@ -88,27 +87,56 @@ enum-told c = search needs
 enum-known-h : tie.Need-enum-known-h Inv-loop μ-loop
 enum-known-h c = search needs
 
+enum-known-b : tie.Need-enum-known-b Inv-loop μ-loop
+enum-known-b c = search needs
+
+-- The bench of a booking has an entry.
+element-write-sheet : tie.Need-element-write-sheet Inv-loop μ-loop
+element-write-sheet c =
+    let found = c .before .before .before in
+    let at-frame-size = found .before .before .frame-size in
+    let at-loop-test = found .before .before .before .before .loop-test in
+    let l = found .before .before .before .before .before .loop in
+    let s = now (found .before .before .before .before .before .before .before .before .before .args .s) in
+    let next = next-is s (l .at) (at-frame-size .result) (at-frame-size .ensures .0) in
+    let is = found-is s (l .sheet) (l .stage) (l .had) (l .at) (l .inv) _ _ (found .frame-at .ensures) in
+    bench-room s (l .sheet) (l .stage) (l .had) (l .at) (l .inv) (at-loop-test .taken) _ next _
+    (is (c .before .b .given .1))
+
+mul-sheet : tie.Need-mul-sheet Inv-loop μ-loop
+mul-sheet c = omega (arith, element-write-sheet c)
+
+add-requires : tie.Need-add-requires Inv-loop μ-loop
+add-requires c κs = search needs
+
 enum-known-j : tie.Need-enum-known-j Inv-loop μ-loop
 enum-known-j c = search needs
 
 -- A sound job is not the 513th.
-room : (c : tie.After-known-told3 Inv-loop μ-loop) → c .before .before .before .before .before .before .before .before .loop .sheet .count < 512
+room : (c : tie.After-known-told4 Inv-loop μ-loop)
+    → c .before .before .before .before .before .before .before .before .loop .sheet .count < 512
 room c =
-    let s = now (c .before .before .before .before .before .before .before .before .before .before .before .before .args .s) in
-    let l = c .before .before .before .before .before .before .before .before .loop in
-    job-room s (l .sheet) (l .stage) (l .at) (l .inv) (c .before .before .before .before .before .before .before .loop-test .taken) _ (next-is s (l .at) (c .before .before .before .before .before .frame-size .result) (c .before .before .before .before .before .frame-size .ensures .0)) _ (found-is s (l .sheet) (l .stage) (l .at) (l .inv) _ _ (c .before .before .before .frame-at .ensures) (c .before .j .given .1))
-
-mul-sheet : tie.Need-mul-sheet Inv-loop μ-loop
-mul-sheet c = omega (arith, room c)
-
-element-write-sheet : tie.Need-element-write-sheet Inv-loop μ-loop
-element-write-sheet c = room c
+    let found = c .before .before .before in
+    let at-frame-size = found .before .before .frame-size in
+    let at-loop-test = found .before .before .before .before .loop-test in
+    let l = found .before .before .before .before .before .loop in
+    let s = now (found .before .before .before .before .before .before .before .before .before .args .s) in
+    let next = next-is s (l .at) (at-frame-size .result) (at-frame-size .ensures .0) in
+    let is = found-is s (l .sheet) (l .stage) (l .had) (l .at) (l .inv) _ _ (found .frame-at .ensures) in
+    job-room s (l .sheet) (l .stage) (l .had) (l .at) (l .inv) (at-loop-test .taken) _ next _
+    (is (c .before .j .given .1))
 
 mul-sheet-2 : tie.Need-mul-sheet-2 Inv-loop μ-loop
 mul-sheet-2 c = omega (arith, room c)
 
 element-write-sheet-2 : tie.Need-element-write-sheet-2 Inv-loop μ-loop
 element-write-sheet-2 c = room c
+
+mul-sheet-3 : tie.Need-mul-sheet-3 Inv-loop μ-loop
+mul-sheet-3 c = omega (arith, room c)
+
+element-write-sheet-3 : tie.Need-element-write-sheet-3 Inv-loop μ-loop
+element-write-sheet-3 c = room c
 
 add-sheet : tie.Need-add-sheet Inv-loop μ-loop
 add-sheet c = omega (arith, room c)
@@ -121,71 +149,82 @@ loop-less c = omega arith
 
 loop-again : tie.Need-loop-again Inv-loop μ-loop
 loop-again c =
-    let at-frame-size = c .before .before .before .before .frame-size in
-    let at-loop-test = c .before .before .before .before .before .before .loop-test in
-    let at-loop = c .before .before .before .before .before .before .before .loop in
-    let at-args = c .before .before .before .before .before .before .before .before .before .before .before .args in
-    let s = now (at-args .s) in
-    let l = at-loop in
-    state-foreign s (l .sheet) (l .stage) (l .at) (l .inv) (at-loop-test .taken) _
-    (next-is s (l .at) (at-frame-size .result) (at-frame-size .ensures .0))
-    (found-is s (l .sheet) (l .stage) (l .at) (l .inv) _ _ (c .before .before .frame-at .ensures)
-    (c .enum-told .given .1))
+    let found = c .before .before in
+    let at-frame-size = found .before .before .frame-size in
+    let at-loop-test = found .before .before .before .before .loop-test in
+    let l = found .before .before .before .before .before .loop in
+    let s = now (found .before .before .before .before .before .before .before .before .before .args .s) in
+    let next = next-is s (l .at) (at-frame-size .result) (at-frame-size .ensures .0) in
+    let is = found-is s (l .sheet) (l .stage) (l .had) (l .at) (l .inv) _ _ (found .frame-at .ensures) in
+    state-foreign s (l .sheet) (l .stage) (l .had) (l .at) (l .inv) (at-loop-test .taken) _ next
+    (is (c .enum-told .given .1))
 
 loop-less-2 : tie.Need-loop-less-2 Inv-loop μ-loop
 loop-less-2 c = omega arith
 
 loop-again-2 : tie.Need-loop-again-2 Inv-loop μ-loop
 loop-again-2 c =
-    let at-frame-at = c .before .before .before .frame-at in
-    let after-frame-size = c .before .before .before .before .before in
-    let at-frame-size = after-frame-size .frame-size in
-    let at-loop-test = c .before .before .before .before .before .before .before .loop-test in
-    let at-loop = c .before .before .before .before .before .before .before .before .loop in
-    let at-args = after-frame-size .before .before .before .before .before .before .before .args in
-    let s = now (at-args .s) in
-    let l = at-loop in
-    state-head s (l .sheet) (l .stage) (l .at) (l .inv) (at-loop-test .taken) _
-    (next-is s (l .at) (at-frame-size .result) (at-frame-size .ensures .0)) _
-    (found-is s (l .sheet) (l .stage) (l .at) (l .inv) _ _ (at-frame-at .ensures) (c .before .h .given .1))
+    let found = c .before .before .before in
+    let at-frame-size = found .before .before .frame-size in
+    let at-loop-test = found .before .before .before .before .loop-test in
+    let l = found .before .before .before .before .before .loop in
+    let s = now (found .before .before .before .before .before .before .before .before .before .args .s) in
+    let next = next-is s (l .at) (at-frame-size .result) (at-frame-size .ensures .0) in
+    let is = found-is s (l .sheet) (l .stage) (l .had) (l .at) (l .inv) _ _ (found .frame-at .ensures) in
+    state-head s (l .sheet) (l .stage) (l .had) (l .at) (l .inv) (at-loop-test .taken) _ next _
+    (is (c .before .h .given .1))
 
 loop-less-3 : tie.Need-loop-less-3 Inv-loop μ-loop
 loop-less-3 c = omega arith
 
 loop-again-3 : tie.Need-loop-again-3 Inv-loop μ-loop
 loop-again-3 c =
-    let at-frame-at = c .before .before .before .frame-at in
-    let after-frame-size = c .before .before .before .before .before in
-    let at-frame-size = after-frame-size .frame-size in
-    let at-loop-test = c .before .before .before .before .before .before .before .loop-test in
-    let at-loop = c .before .before .before .before .before .before .before .before .loop in
-    let at-args = after-frame-size .before .before .before .before .before .before .before .args in
-    let s = now (at-args .s) in
-    let l = at-loop in
-    state-job s (l .sheet) (l .stage) (l .at) (l .inv) (at-loop-test .taken) _
-    (next-is s (l .at) (at-frame-size .result) (at-frame-size .ensures .0)) _
-    (found-is s (l .sheet) (l .stage) (l .at) (l .inv) _ _ (at-frame-at .ensures) (c .before .j .given .1))
+    let booked = c .before in
+    let found = booked .before .before .before in
+    let at-frame-size = found .before .before .frame-size in
+    let at-loop-test = found .before .before .before .before .loop-test in
+    let l = found .before .before .before .before .before .loop in
+    let s = now (found .before .before .before .before .before .before .before .before .before .args .s) in
+    let next = next-is s (l .at) (at-frame-size .result) (at-frame-size .ensures .0) in
+    let is = found-is s (l .sheet) (l .stage) (l .had) (l .at) (l .inv) _ _ (found .frame-at .ensures) in
+    state-booking s (l .sheet) (l .stage) (l .had) (l .at) (l .inv) (at-loop-test .taken) _ next _
+    (is (booked .before .b .given .1)) _ (c .add .ensures)
 
 loop-less-4 : tie.Need-loop-less-4 Inv-loop μ-loop
 loop-less-4 c = omega arith
 
 loop-again-4 : tie.Need-loop-again-4 Inv-loop μ-loop
 loop-again-4 c =
-    let at-frame-size = c .before .before .before .before .frame-size in
-    let at-loop-test = c .before .before .before .before .before .before .loop-test in
-    let at-loop = c .before .before .before .before .before .before .before .loop in
-    let at-args = c .before .before .before .before .before .before .before .before .before .before .before .args in
-    let s = now (at-args .s) in
-    let l = at-loop in
-    state-end s (l .sheet) (l .stage) (l .at) (l .inv) (at-loop-test .taken) _
-    (next-is s (l .at) (at-frame-size .result) (at-frame-size .ensures .0))
-    (found-is s (l .sheet) (l .stage) (l .at) (l .inv) _ _ (c .before .before .frame-at .ensures)
-    (c .enum-told2 .given .1))
+    let found = c .before .before .before in
+    let at-frame-size = found .before .before .frame-size in
+    let at-loop-test = found .before .before .before .before .loop-test in
+    let l = found .before .before .before .before .before .loop in
+    let s = now (found .before .before .before .before .before .before .before .before .before .args .s) in
+    let next = next-is s (l .at) (at-frame-size .result) (at-frame-size .ensures .0) in
+    let is = found-is s (l .sheet) (l .stage) (l .had) (l .at) (l .inv) _ _ (found .frame-at .ensures) in
+    state-job s (l .sheet) (l .stage) (l .had) (l .at) (l .inv) (at-loop-test .taken) _ next _
+    (is (c .before .j .given .1))
+
+loop-less-5 : tie.Need-loop-less-5 Inv-loop μ-loop
+loop-less-5 c = omega arith
+
+loop-again-5 : tie.Need-loop-again-5 Inv-loop μ-loop
+loop-again-5 c =
+    let found = c .before .before in
+    let at-frame-size = found .before .before .frame-size in
+    let at-loop-test = found .before .before .before .before .loop-test in
+    let l = found .before .before .before .before .before .loop in
+    let s = now (found .before .before .before .before .before .before .before .before .before .args .s) in
+    let next = next-is s (l .at) (at-frame-size .result) (at-frame-size .ensures .0) in
+    let is = found-is s (l .sheet) (l .stage) (l .had) (l .at) (l .inv) _ _ (found .frame-at .ensures) in
+    state-end s (l .sheet) (l .stage) (l .had) (l .at) (l .inv) (at-loop-test .taken) _ next
+    (is (c .enum-told2 .given .1))
 
 finish-requires : tie.Need-finish-requires Inv-loop μ-loop
 finish-requires c κs =
+    let s = now (c .before .before .before .before .before .before .before .before .before .before .before .args .s) in
     let l = c .before .before .before .before .before .before .before .loop in
-    (l .inv .p-fits, l .inv .q-fits, state-minutes (now (c .before .before .before .before .before .before .before .before .before .before .before .args .s)) (l .sheet) (l .stage) (l .at) (l .inv))
+    (l .inv .p-fits, l .inv .q-fits, state-minutes s (l .sheet) (l .stage) (l .had) (l .at) (l .inv))
 
 enum-known-f-2 : tie.Need-enum-known-f-2 Inv-loop μ-loop
 enum-known-f-2 c = search needs
@@ -198,25 +237,23 @@ enum-told-3 c = search needs
 
 returns-3 : tie.Need-returns-3 Inv-loop μ-loop
 returns-3 c =
-    let after-finish = c .before .before .before .before in
-    let at-finish = after-finish .finish in
-    let after-loop-test = after-finish .before .before .before .before .before .before .before in
-    let at-loop-test = after-loop-test .loop-test in
-    let l = c .before .before .before .before .before .before .before .before .before .before .before .before .loop in
-    let at-args = after-loop-test .before .before .before .before .before .args in
-    state-over (now (at-args .s)) (l .sheet) (l .stage) (l .at) (l .inv) (at-loop-test .left) _
-    (c .refusal3 .ensures ∙ sym (ap (λ (v : Verdict). readingOf v (l .sheet))
-    (sym (at-finish .ensures) ∙ c .before .before .f2 .given .1)))
+    let finished = c .before .before .before .before in
+    let over = finished .before .before .before .before .before .before .before in
+    let l = over .before .loop in
+    let s = now (over .before .before .before .before .before .args .s) in
+    let told = sym (finished .finish .ensures (l .sheet .booked)) ∙ c .before .before .f2 .given .1 in
+    state-over s (l .sheet) (l .stage) (l .had) (l .at) (l .inv) (over .loop-test .left) _
+    (c .refusal3 .ensures ∙ sym (ap (λ (v : Verdict). readingOf v (l .sheet)) told))
 
 returns-4 : tie.Need-returns-4 Inv-loop μ-loop
 returns-4 c =
-    let after-loop-test = c .before .before .before .before .before .before .before .before .before in
-    let at-loop-test = after-loop-test .loop-test in
-    let l = c .before .before .before .before .before .before .before .before .before .before .loop in
-    let at-args = after-loop-test .before .before .before .before .before .args in
-    state-over (now (at-args .s)) (l .sheet) (l .stage) (l .at) (l .inv) (at-loop-test .left) _
-    (sym (ap (λ (v : Verdict). readingOf v (l .sheet)) (sym (c .before .before .finish .ensures) ∙
-    c .enum-told3 .given .1)))
+    let finished = c .before .before in
+    let over = finished .before .before .before .before .before .before .before in
+    let l = over .before .loop in
+    let s = now (over .before .before .before .before .before .args .s) in
+    let told = sym (finished .finish .ensures (l .sheet .booked)) ∙ c .enum-told3 .given .1 in
+    state-over s (l .sheet) (l .stage) (l .had) (l .at) (l .inv) (over .loop-test .left) _
+    (sym (ap (λ (v : Verdict). readingOf v (l .sheet)) told))
 
 pub read-spec : {M : Type 1} → statement M
 read-spec =
@@ -242,11 +279,15 @@ read-spec =
     returns-2
     enum-told
     enum-known-h
-    enum-known-j
+    enum-known-b
     mul-sheet
     element-write-sheet
+    add-requires
+    enum-known-j
     mul-sheet-2
     element-write-sheet-2
+    mul-sheet-3
+    element-write-sheet-3
     add-sheet
     enum-told-2
     loop-less
@@ -257,6 +298,8 @@ read-spec =
     loop-again-3
     loop-less-4
     loop-again-4
+    loop-less-5
+    loop-again-5
     finish-requires
     enum-known-f-2
     refusal-requires-3

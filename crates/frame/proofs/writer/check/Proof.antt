@@ -3,12 +3,12 @@ use mathlib.Core.Path.{_∙_}
 use denote.Ref.{now}
 use borrow.Author.Needs.{needs}
 use Rattle.checks.proofs.HyperEdges.{checked-fits}
-use Rattle.frame.proofs.WriterSteps.{given, head-fault, job-fault, all-checked, hyper-edges-ready}
+use Rattle.frame.proofs.WriterSteps.{given, opening-fault, job-fault, all-checked, hyper-edges-ready}
 use Rattle.frame.proofs.writer.check.Statement.{statement}
 use Rattle.frame.proofs.writer.check.Tie as tie
 
-check-head-requires : tie.Need-check-head-requires
-check-head-requires c κs = search needs
+check-opening-requires : tie.Need-check-opening-requires
+check-opening-requires c κs = search needs
 
 enum-known-f : tie.Need-enum-known-f
 enum-known-f c = search needs
@@ -30,30 +30,31 @@ check-hyper-edges-requires c κs = search needs
 
 returns : tie.Need-returns
 returns c =
-    let head = c .before .before .before in
-    let a = head .before .before .before .args in
-    let what = given (a .h) (a .n) (now (a .minutes)) (now (a .allowed)) in
-    head-fault what (head .check-head .ensures) (c .before .f .given .1)
+    let opening = c .before .before .before in
+    let a = opening .before .before .before .before .args in
+    let what = given (a .h) (now (a .booked)) (a .n) (now (a .minutes)) (now (a .allowed)) in
+    opening-fault what (opening .check-opening .ensures) (c .before .f .given .1)
 
 returns-2 : tie.Need-returns-2
 returns-2 c =
     let jobs = c .before .before .before in
-    let head = jobs .before .before .before in
-    let a = head .before .before .before .args in
-    let what = given (a .h) (a .n) (now (a .minutes)) (now (a .allowed)) in
-    job-fault what (head .check-head .ensures) (jobs .before .enum-told .given .1) (jobs .check-jobs .ensures)
+    let opening = jobs .before .before .before in
+    let a = opening .before .before .before .before .args in
+    let what = given (a .h) (now (a .booked)) (a .n) (now (a .minutes)) (now (a .allowed)) in
+    job-fault what (opening .check-opening .ensures) (jobs .before .enum-told .given .1) (jobs .check-jobs .ensures)
     (c .before .f2 .given .1)
 
 returns-3 : tie.Need-returns-3
 returns-3 c =
     let at-enum-told2 = c .before .enum-told2 in
     let jobs = c .before .before .before in
-    let head = jobs .before .before .before in
-    let a = head .before .before .before .args in
-    let what = given (a .h) (a .n) (now (a .minutes)) (now (a .allowed)) in
-    let ready = hyper-edges-ready (a .h) (a .n) (now (a .minutes)) (now (a .allowed)) (head .check-head .ensures)
+    let opening = jobs .before .before .before in
+    let a = opening .before .before .before .before .args in
+    let what = given (a .h) (now (a .booked)) (a .n) (now (a .minutes)) (now (a .allowed)) in
+    let ready = hyper-edges-ready (a .h) (now (a .booked)) (a .n) (now (a .minutes)) (now (a .allowed))
+    (opening .check-opening .ensures)
     (jobs .before .enum-told .given .1) (jobs .check-jobs .ensures) (at-enum-told2 .given .1) in
-    all-checked what (head .check-head .ensures) (jobs .before .enum-told .given .1) (jobs .check-jobs .ensures)
+    all-checked what (opening .check-opening .ensures) (jobs .before .enum-told .given .1) (jobs .check-jobs .ensures)
     (at-enum-told2 .given .1) (c .check-hyper-edges .ensures ∙ checked-fits (now (a .minutes)) (now (a .allowed))
     (a .n) (a .h) ready)
 
@@ -61,7 +62,7 @@ pub check-spec : {M : Type 1} → statement M
 check-spec =
     tie.close
     (tie.spec
-    check-head-requires
+    check-opening-requires
     enum-known-f
     enum-told
     check-jobs-requires

@@ -1,5 +1,5 @@
--- The loop's invariant: the frames of the first i jobs stand from byte 10 on, and all else is as it was.
-use Prim.Native.Nat.{ℕ, _+_, _*_, _-_, _^_, _≤_, _<_}
+-- The loop's invariant: the frames of the first i jobs stand from byte start on, and all else is as it was.
+use Prim.Native.Nat.{ℕ, _+_, _-_, _*_, _^_, _≤_, _<_}
 use native.Mathlib.Omega.{arith}
 use mathlib.Core.Path.{_≡_, refl, sym, ap, _∙_}
 use mathlib.Core.List.{List, _++_, append-assoc}
@@ -16,14 +16,17 @@ use Rattle.frame.proofs.writer.put_jobs.Statement.{statement}
 use Rattle.frame.proofs.writer.put_jobs.Tie as tie
 
 abbrev Inv-loop : tie.InvT-loop
-Inv-loop n minutes allowed out₀ i₀ out i =
-    (i ≤ n) × (length out ≡ length out₀) × (out ≡ written out₀ 10 (jobFrames (jobTable i minutes allowed)) (10 + 14 * i))
+Inv-loop n minutes allowed start out₀ i₀ out i =
+    (i ≤ n) × (length out ≡ length out₀)
+    × (out ≡ written out₀ start (jobFrames (jobTable i minutes allowed)) (start + 14 * i))
 
 abbrev μ-loop : tie.MeasureT-loop
-μ-loop n minutes allowed out₀ i₀ out i = n - i
+μ-loop n minutes allowed start out₀ i₀ out i = n - i
 
 loop-holds : tie.Need-loop-holds Inv-loop μ-loop
-loop-holds c = (omega arith, refl, jobs-none (now (c .before .before .before .args .out)))
+loop-holds c =
+    let a = c .before .before .before .args in
+    (omega arith, refl, jobs-none (a .start) (now (a .out)))
 
 entry-requires : tie.Need-entry-requires Inv-loop μ-loop
 entry-requires c κs = search needs
@@ -64,7 +67,7 @@ loop-again c =
     let l = put .before .before .before .before .before in
     let a = l .before .before .before .before .args in
     let out = l .loop .out in
-    let at = 10 + 14 * l .loop .i in
+    let at = a .start + 14 * l .loop .i in
     let fits = l .before .before .before .before .pre .2 (l .loop .i)
     (put .before .before .before .before .loop-test .taken) in
     let minutes = put .before .before .before .entry in
@@ -75,7 +78,7 @@ loop-again c =
     let whole = ap (λ (ys : List ℕ). take at out ++ (ys ++ postOf at (at + 14 - at) out)) part ∙ ap
     (λ (rest : List ℕ). take at out ++ (jobFrame j ++ rest)) (post-is at (at + 14) out (omega arith)) ∙ sym
     (append-assoc (take at out) (jobFrame j) (drop (at + 14) out)) in
-    let more = jobs-more (now (a .out)) (now (a .minutes)) (now (a .allowed)) (l .loop .i) j (omega arith)
+    let more = jobs-more (a .start) (now (a .out)) (now (a .minutes)) (now (a .allowed)) (l .loop .i) j (omega arith)
     (l .loop .inv .2) (minutes .ensures) (put .before .before .entry2 .ensures) whole in (
       omega arith,
       same-len-mid at (at + 14 - at) out (put .put-job .last .1 .0) (put .put-job .kept .1 .0) ∙

@@ -3,6 +3,7 @@ use borrow.Author.Needs.{needs}
 use native.Mathlib.Omega.{arith}
 use mathlib.Core.Path.{_≡_}
 use denote.Ref.{now}
+use Rattle.bits.specs.Bits.{isSet}
 use Rattle.judging.proofs.HeaderLaws.{at-short, at-foreign, at-ours}
 use Rattle.judging.proofs.judge.frame_at.Statement.{statement}
 use Rattle.judging.proofs.judge.frame_at.Tie as tie
@@ -17,7 +18,7 @@ returns : tie.Need-returns
 returns c =
     let a = c .before .before .before .before .args in
     let r = c .before .before .read .ensures in
-    at-short (a .stage) (a .benches) (a .n) (a .at) (now (a .rest)) _ _ _
+    at-short (a .stage) (a .benches) (a .n) (isSet 64 (a .had)) (a .at) (now (a .rest)) _ _ _
     (record { version-is = r .0; kind-is = r .1; size-is = r .2 }) (omega arith)
 
 returns-2 : tie.Need-returns-2
@@ -25,7 +26,7 @@ returns-2 c =
     let at-read = c .before .before .before .before .read in
     let a = c .before .before .before .before .before .before .args in
     let r = at-read .ensures in
-    at-foreign (a .stage) (a .benches) (a .n) (a .at) (now (a .rest)) _ _ _
+    at-foreign (a .stage) (a .benches) (a .n) (isSet 64 (a .had)) (a .at) (now (a .rest)) _ _ _
     (record { version-is = r .0; kind-is = r .1; size-is = r .2 }) (omega arith) (λ e. omega arith)
 
 sub-judge : tie.Need-sub-judge
@@ -46,7 +47,7 @@ returns-3 c =
     let a = c .before .before .before .before .before .before .before .before .args in
     let r = at-read .ensures in
     let ours : at-read .result .version ≡ 1 = omega arith in
-    at-ours (a .stage) (a .benches) (a .n) (a .at) (now (a .rest)) _ _ _
+    at-ours (a .stage) (a .benches) (a .n) (isSet 64 (a .had)) (a .at) (now (a .rest)) _ _ _
     (record { version-is = r .0; kind-is = r .1; size-is = r .2 }) (omega arith) ours _ (c .judge .ensures)
 
 pub frame-at-spec : {M : Type 1} → statement M

@@ -15,6 +15,9 @@ judge-job-requires c κs = search needs
 judge-end-requires : tie.Need-judge-end-requires
 judge-end-requires c κs = search needs
 
+judge-booking-requires : tie.Need-judge-booking-requires
+judge-booking-requires c κs = search needs
+
 returns : tie.Need-returns
 unfolding frameOf frameFaults
 returns c = rw (c .before .match .keys1) (c .judge-head .ensures)
@@ -29,7 +32,19 @@ returns-3 c = rw (c .before .match .keys3) (c .judge-end .ensures)
 
 returns-4 : tie.Need-returns-4
 unfolding frameOf frameFaults
-returns-4 c = rw (ne-eqb (c .before .before .args .kind) 1 (c .match .rest .0 .0 .1), ne-eqb (c .before .before .args .kind) 2 (c .match .rest .0 .1), ne-eqb (c .before .before .args .kind) 3 (c .match .rest .1))
+returns-4 c = rw (c .before .match .keys4) (c .judge-booking .ensures)
+
+returns-5 : tie.Need-returns-5
+unfolding frameOf frameFaults
+returns-5 c =
+    let kind = c .before .before .args .kind in
+    let others = c .match .rest in
+    rw (
+      ne-eqb kind 1 (others .0 .0 .0 .1),
+      ne-eqb kind 2 (others .0 .0 .1),
+      ne-eqb kind 3 (others .0 .1),
+      ne-eqb kind 4 (others .1),
+    )
 
 pub judge-spec : {M : Type 1} → statement M
 judge-spec =
@@ -38,7 +53,9 @@ judge-spec =
     judge-head-requires
     judge-job-requires
     judge-end-requires
+    judge-booking-requires
     returns
     returns-2
     returns-3
-    returns-4)
+    returns-4
+    returns-5)

@@ -20,18 +20,27 @@ enum-told c = search needs
 
 returns : tie.Need-returns
 unfolding frameOf frameFaults
-returns c = rw (misplaced-unless-start (c .before .before .args .stage) (c .match .keys2))
+returns c = rw (misplaced-unless-start (c .before .before .args .stage) 0 (c .match .keys2))
 
 returns-2 : tie.Need-returns-2
 unfolding frameOf frameFaults
-returns-2 c = rw (c .before .enum-told .given .1, ne-eqb (length (now (c .before .before .before .before .args .body))) 7 (c .if1 .taken))
+returns-2 c =
+    let a = c .before .before .before .before .args in
+    rw (c .before .enum-told .given .1, ne-eqb (length (now (a .body))) 7 (c .if1 .taken))
 
 head-spare-requires : tie.Need-head-spare-requires
 head-spare-requires c κs = search needs
 
 returns-3 : tie.Need-returns-3
 unfolding frameOf frameFaults
-returns-3 c = rw (c .before .before .before .enum-told .given .1, eq-eqb (length (now (c .before .before .before .before .before .before .args .body))) 7 (c .before .before .if1 .left), ne-eqb (field headLayout 4 (now (c .before .before .before .before .before .before .args .body))) 0 (λ e. c .if2 .taken (c .before .head-spare .ensures ∙ e)))
+returns-3 c =
+    let a = c .before .before .before .before .before .before .args in
+    let body = now (a .body) in
+    rw (
+      c .before .before .before .enum-told .given .1,
+      eq-eqb (length body) 7 (c .before .before .if1 .left),
+      ne-eqb (field headLayout 4 body) 0 (λ e. c .if2 .taken (c .before .head-spare .ensures ∙ e)),
+    )
 
 read-head-requires : tie.Need-read-head-requires
 read-head-requires c κs = search needs
@@ -47,16 +56,42 @@ enum-told-2 c = search needs
 
 returns-4 : tie.Need-returns-4
 unfolding frameOf frameFaults
-returns-4 c = rw (c .before .before .before .before .before .before .before .before .enum-told .given .1, eq-eqb (length (now (c .before .before .before .before .before .before .before .before .before .before .before .args .body))) 7 (c .before .before .before .before .before .before .before .if1 .left), eq-eqb (field headLayout 4 (now (c .before .before .before .before .before .before .before .before .before .before .before .args .body))) 0 (sym (c .before .before .before .before .before .before .head-spare .ensures) ∙ c .before .before .before .before .before .if2 .left))
-    (ap (λ (v : Verdict). sound v (Head (headOf (now (c .before .before .before .before .before .before .before .before .before .before .before .args .body)))))
-    (sym (c .before .f .given .1) ∙ c .before .before .before .check-head .ensures ∙ ap (λ x. firstFault (headFaults x (c .before .before .before .before .before .before .before .before .before .before .before .args .at))) (c .before .before .before .before .read-head .ensures)))
+returns-4 c =
+    let judged = c .before .before .before in
+    let at-if2 = judged .before .before .if2 in
+    let at-spare = judged .before .before .before .head-spare in
+    let at-if1 = judged .before .before .before .before .if1 in
+    let a = judged .before .before .before .before .before .before .before .before .args in
+    let body = now (a .body) in
+    let read = judged .before .read-head .ensures in
+    rw (
+      judged .before .before .before .before .before .enum-told .given .1,
+      eq-eqb (length body) 7 (at-if1 .left),
+      eq-eqb (field headLayout 4 body) 0 (sym (at-spare .ensures) ∙ at-if2 .left),
+    )
+    (ap (λ (v : Verdict). sound v (Head (headOf body)))
+    (sym (c .before .f .given .1) ∙ judged .check-head .ensures
+    ∙ ap (λ x. firstFault (headFaults x (a .at))) read))
 
 returns-5 : tie.Need-returns-5
 unfolding frameOf frameFaults
-returns-5 c = rw (c .before .before .before .before .before .before .before .enum-told .given .1, eq-eqb (length (now (c .before .before .before .before .before .before .before .before .before .before .args .body))) 7 (c .before .before .before .before .before .before .if1 .left), eq-eqb (field headLayout 4 (now (c .before .before .before .before .before .before .before .before .before .before .args .body))) 0 (sym (c .before .before .before .before .before .head-spare .ensures) ∙ c .before .before .before .before .if2 .left))
-    (ap (λ h. Head h) (c .before .before .before .read-head .ensures)
-    ∙ ap (λ (v : Verdict). sound v (Head (headOf (now (c .before .before .before .before .before .before .before .before .before .before .args .body)))))
-    (sym (c .enum-told2 .given .1) ∙ c .before .before .check-head .ensures ∙ ap (λ x. firstFault (headFaults x (c .before .before .before .before .before .before .before .before .before .before .args .at))) (c .before .before .before .read-head .ensures)))
+returns-5 c =
+    let judged = c .before .before in
+    let at-if2 = judged .before .before .if2 in
+    let at-spare = judged .before .before .before .head-spare in
+    let at-if1 = judged .before .before .before .before .if1 in
+    let a = judged .before .before .before .before .before .before .before .before .args in
+    let body = now (a .body) in
+    let read = judged .before .read-head .ensures in
+    rw (
+      judged .before .before .before .before .before .enum-told .given .1,
+      eq-eqb (length body) 7 (at-if1 .left),
+      eq-eqb (field headLayout 4 body) 0 (sym (at-spare .ensures) ∙ at-if2 .left),
+    )
+    (ap (λ h. Head h) read
+    ∙ ap (λ (v : Verdict). sound v (Head (headOf body)))
+    (sym (c .enum-told2 .given .1) ∙ judged .check-head .ensures
+    ∙ ap (λ x. firstFault (headFaults x (a .at))) read))
 
 pub judge-head-spec : {M : Type 1} → statement M
 judge-head-spec =

@@ -20,18 +20,29 @@ enum-told c = search needs
 
 returns : tie.Need-returns
 unfolding frameOf frameFaults
-returns c = rw (misplaced-unless-open (c .before .before .args .stage) (c .match .keys2) .0)
+returns c =
+    let a = c .before .before .args in
+    rw (misplaced-unless-open (a .stage) (a .n) (c .match .keys2) .0)
 
 returns-2 : tie.Need-returns-2
 unfolding frameOf frameFaults
-returns-2 c = rw (c .before .enum-told .given .1, ne-eqb (length (now (c .before .before .before .before .args .body))) 11 (c .if1 .taken))
+returns-2 c =
+    let a = c .before .before .before .before .args in
+    rw (c .before .enum-told .given .1, ne-eqb (length (now (a .body))) 11 (c .if1 .taken))
 
 job-spare-requires : tie.Need-job-spare-requires
 job-spare-requires c κs = search needs
 
 returns-3 : tie.Need-returns-3
 unfolding frameOf frameFaults
-returns-3 c = rw (c .before .before .before .enum-told .given .1, eq-eqb (length (now (c .before .before .before .before .before .before .args .body))) 11 (c .before .before .if1 .left), ne-eqb (field jobLayout 2 (now (c .before .before .before .before .before .before .args .body))) 0 (λ e. c .if2 .taken (c .before .job-spare .ensures ∙ e)))
+returns-3 c =
+    let a = c .before .before .before .before .before .before .args in
+    let body = now (a .body) in
+    rw (
+      c .before .before .before .enum-told .given .1,
+      eq-eqb (length body) 11 (c .before .before .if1 .left),
+      ne-eqb (field jobLayout 2 body) 0 (λ e. c .if2 .taken (c .before .job-spare .ensures ∙ e)),
+    )
 
 read-job-requires : tie.Need-read-job-requires
 read-job-requires c κs = search needs
@@ -47,16 +58,42 @@ enum-told-2 c = search needs
 
 returns-4 : tie.Need-returns-4
 unfolding frameOf frameFaults
-returns-4 c = rw (c .before .before .before .before .before .before .before .before .enum-told .given .1, eq-eqb (length (now (c .before .before .before .before .before .before .before .before .before .before .before .args .body))) 11 (c .before .before .before .before .before .before .before .if1 .left), eq-eqb (field jobLayout 2 (now (c .before .before .before .before .before .before .before .before .before .before .before .args .body))) 0 (sym (c .before .before .before .before .before .before .job-spare .ensures) ∙ c .before .before .before .before .before .if2 .left))
-    (ap (λ (v : Verdict). sound v (Job (jobOf (now (c .before .before .before .before .before .before .before .before .before .before .before .args .body)))))
-    (sym (c .before .f .given .1) ∙ c .before .before .before .check-job .ensures ∙ ap (λ x. firstFault (jobFaults (c .before .before .before .before .before .before .before .before .before .before .before .args .benches) (c .before .before .before .before .before .before .before .before .before .before .before .args .n) x (c .before .before .before .before .before .before .before .before .before .before .before .args .at))) (c .before .before .before .before .read-job .ensures)))
+returns-4 c =
+    let judged = c .before .before .before in
+    let at-if2 = judged .before .before .if2 in
+    let at-spare = judged .before .before .before .job-spare in
+    let at-if1 = judged .before .before .before .before .if1 in
+    let a = judged .before .before .before .before .before .before .before .before .args in
+    let body = now (a .body) in
+    let read = judged .before .read-job .ensures in
+    rw (
+      judged .before .before .before .before .before .enum-told .given .1,
+      eq-eqb (length body) 11 (at-if1 .left),
+      eq-eqb (field jobLayout 2 body) 0 (sym (at-spare .ensures) ∙ at-if2 .left),
+    )
+    (ap (λ (v : Verdict). sound v (Job (jobOf body)))
+    (sym (c .before .f .given .1) ∙ judged .check-job .ensures
+    ∙ ap (λ x. firstFault (jobFaults (a .benches) (a .n) x (a .at))) read))
 
 returns-5 : tie.Need-returns-5
 unfolding frameOf frameFaults
-returns-5 c = rw (c .before .before .before .before .before .before .before .enum-told .given .1, eq-eqb (length (now (c .before .before .before .before .before .before .before .before .before .before .args .body))) 11 (c .before .before .before .before .before .before .if1 .left), eq-eqb (field jobLayout 2 (now (c .before .before .before .before .before .before .before .before .before .before .args .body))) 0 (sym (c .before .before .before .before .before .job-spare .ensures) ∙ c .before .before .before .before .if2 .left))
-    (ap (λ h. Job h) (c .before .before .before .read-job .ensures)
-    ∙ ap (λ (v : Verdict). sound v (Job (jobOf (now (c .before .before .before .before .before .before .before .before .before .before .args .body)))))
-    (sym (c .enum-told2 .given .1) ∙ c .before .before .check-job .ensures ∙ ap (λ x. firstFault (jobFaults (c .before .before .before .before .before .before .before .before .before .before .args .benches) (c .before .before .before .before .before .before .before .before .before .before .args .n) x (c .before .before .before .before .before .before .before .before .before .before .args .at))) (c .before .before .before .read-job .ensures)))
+returns-5 c =
+    let judged = c .before .before in
+    let at-if2 = judged .before .before .if2 in
+    let at-spare = judged .before .before .before .job-spare in
+    let at-if1 = judged .before .before .before .before .if1 in
+    let a = judged .before .before .before .before .before .before .before .before .args in
+    let body = now (a .body) in
+    let read = judged .before .read-job .ensures in
+    rw (
+      judged .before .before .before .before .before .enum-told .given .1,
+      eq-eqb (length body) 11 (at-if1 .left),
+      eq-eqb (field jobLayout 2 body) 0 (sym (at-spare .ensures) ∙ at-if2 .left),
+    )
+    (ap (λ h. Job h) read
+    ∙ ap (λ (v : Verdict). sound v (Job (jobOf body)))
+    (sym (c .enum-told2 .given .1) ∙ judged .check-job .ensures
+    ∙ ap (λ x. firstFault (jobFaults (a .benches) (a .n) x (a .at))) read))
 
 pub judge-job-spec : {M : Type 1} → statement M
 judge-job-spec =

@@ -1,7 +1,7 @@
 -- Fault 13, what is decided, and the tables of a plan (SheetRun).
 use mathlib.Core.Path.{_≡_, sym, _∙_}
 use native.Mathlib.Omega.{arith}
-use lib.ListN.{length, replicate}
+use lib.ListN.{length}
 use Rattle.day.specs.Day.{dayOf}
 use Rattle.algorithm.specs.Run.{run}
 use Rattle.deciding.specs.Decision.{placesIn}
@@ -53,6 +53,12 @@ slice-aggregate-narrow-2 c = search needs
 narrow-requires-2 : tie.Need-narrow-requires-2
 narrow-requires-2 c κs = search needs
 
+slice-aggregate-narrow-3 : tie.Need-slice-aggregate-narrow-3
+slice-aggregate-narrow-3 c = search needs
+
+narrow-requires-3 : tie.Need-narrow-requires-3
+narrow-requires-3 c κs = search needs
+
 slice-aggregate-decide : tie.Need-slice-aggregate-decide
 slice-aggregate-decide c = search needs
 
@@ -87,7 +93,8 @@ returns-3 : tie.Need-returns-3
 returns-3 c =
     let after-decision = c .before .before in
     let after-decide = after-decision .before .before in
-    let after-narrow2 = after-decide .before .before .before .before in
+    let after-narrow3 = after-decide .before .before .before .before in
+    let after-narrow2 = after-narrow3 .before .before .before .before .before .before in
     let after-narrow = after-narrow2 .before .before .before .before .before .before in
     let after-if2 = after-narrow .before .before .before .before .before in
     let after-if1 = after-if2 .before in
@@ -96,7 +103,8 @@ returns-3 c =
     let places = at-args .places .now in
     let loads = at-args .loads .now in
     λ bytes sheet read same.
-    let L = day-lent bytes sheet s read same (after-narrow .narrow .ensures) (after-narrow2 .narrow2 .ensures) in
+    let L = day-lent bytes sheet s read same (after-narrow .narrow .ensures) (after-narrow2 .narrow2 .ensures)
+    (after-narrow3 .narrow3 .ensures) in
     let D = after-decide .decide .ensures (dayOf sheet) L in
     let enough = long-enough bytes sheet s read same (length places) (length loads)
     (omega (arith, after-if1 .if1 .left)) (omega (arith, after-if2 .if2 .left)) in
@@ -107,7 +115,8 @@ returns-4 : tie.Need-returns-4
 returns-4 c =
     let after-decision = c .before .before in
     let after-decide = after-decision .before .before in
-    let after-narrow2 = after-decide .before .before .before .before in
+    let after-narrow3 = after-decide .before .before .before .before in
+    let after-narrow2 = after-narrow3 .before .before .before .before .before .before in
     let after-narrow = after-narrow2 .before .before .before .before .before .before in
     let after-if2 = after-narrow .before .before .before .before .before in
     let after-if1 = after-if2 .before in
@@ -116,7 +125,8 @@ returns-4 c =
     let places = at-args .places .now in
     let loads = at-args .loads .now in
     λ bytes sheet read same.
-    let L = day-lent bytes sheet s read same (after-narrow .narrow .ensures) (after-narrow2 .narrow2 .ensures) in
+    let L = day-lent bytes sheet s read same (after-narrow .narrow .ensures) (after-narrow2 .narrow2 .ensures)
+    (after-narrow3 .narrow3 .ensures) in
     let D = after-decide .decide .ensures (dayOf sheet) L in
     let enough = long-enough bytes sheet s read same (length places) (length loads)
     (omega (arith, after-if1 .if1 .left)) (omega (arith, after-if2 .if2 .left)) in
@@ -134,7 +144,8 @@ returns-5 c =
     let after-write-plan = c .before .before .before .before in
     let after-decision = after-write-plan .before .before .before .before .before .before .before .before in
     let after-decide = after-decision .before .before in
-    let after-narrow2 = after-decide .before .before .before .before in
+    let after-narrow3 = after-decide .before .before .before .before in
+    let after-narrow2 = after-narrow3 .before .before .before .before .before .before in
     let after-narrow = after-narrow2 .before .before .before .before .before .before in
     let after-if2 = after-narrow .before .before .before .before .before in
     let after-if1 = after-if2 .before in
@@ -146,13 +157,14 @@ returns-5 c =
     let place = after-decide .decide .result .places in
     let sized : length place ≡ 512 = after-write-plan .before .before .before .write-plan-arg2 .given .0 in
     λ bytes sheet read same.
-    let L = day-lent bytes sheet s read same (after-narrow .narrow .ensures) (after-narrow2 .narrow2 .ensures) in
+    let L = day-lent bytes sheet s read same (after-narrow .narrow .ensures) (after-narrow2 .narrow2 .ensures)
+    (after-narrow3 .narrow3 .ensures) in
     let D = after-decide .decide .ensures (dayOf sheet) L in
     let enough = long-enough bytes sheet s read same (length places) (length loads)
     (omega (arith, after-if1 .if1 .left)) (omega (arith, after-if2 .if2 .left)) in
     let F = L .fields in
     let ps = placesIn (run (dayOf sheet)) in
-    let P : Places (dayOf sheet) (s .count) (s .head .benches) _ (replicate 64 0) place ps = record {
+    let P : Places (dayOf sheet) (s .count) (s .head .benches) _ _ place ps = record {
       allowed = _;
       fields = F;
       benches-are = L .benches-are;
@@ -177,6 +189,8 @@ plan-sheet-spec =
     narrow-requires
     slice-aggregate-narrow-2
     narrow-requires-2
+    slice-aggregate-narrow-3
+    narrow-requires-3
     slice-aggregate-decide
     slice-aggregate-decide-2
     decide-requires

@@ -1,12 +1,12 @@
--- `big7`: the definition of `big`, written out from `big3`.
+-- `big7`: the definition of `big`, written out from `big4`.
 use native.Mathlib.Omega.{arith}
 use Rattle.bits.specs.Bits.{big}
 use borrow.Author.Needs.{needs}
 use Rattle.unpacking.proofs.bytes.big7.Statement.{statement}
 use Rattle.unpacking.proofs.bytes.big7.Tie as tie
 
-big3-requires : tie.Need-big3-requires
-big3-requires c κs = search needs
+big4-requires : tie.Need-big4-requires
+big4-requires c κs = search needs
 
 mul-result : tie.Need-mul-result
 mul-result c = search needs
@@ -35,15 +35,6 @@ byte-requires-3 c κs = search needs
 add-result-3 : tie.Need-add-result-3
 add-result-3 c = search needs
 
-mul-result-4 : tie.Need-mul-result-4
-mul-result-4 c = search needs
-
-byte-requires-4 : tie.Need-byte-requires-4
-byte-requires-4 c κs = search needs
-
-add-result-4 : tie.Need-add-result-4
-add-result-4 c = search needs
-
 returns : tie.Need-returns
 unfolding big
 returns c = omega arith
@@ -52,7 +43,7 @@ pub big7-spec : {M : Type 1} → statement M
 big7-spec =
     tie.close
     (tie.spec
-    big3-requires
+    big4-requires
     mul-result
     byte-requires
     add-result
@@ -62,7 +53,4 @@ big7-spec =
     mul-result-3
     byte-requires-3
     add-result-3
-    mul-result-4
-    byte-requires-4
-    add-result-4
     returns)

@@ -1,9 +1,12 @@
--- What was loaded are the first 513 entries of each table, and the writer gives the same for them as for all.
+-- What was loaded are the first 64 entries of the table of bookings. Where those behind them are 0, the writer gives
+-- the same for them as for all; else the first that is not 0 is refused.
+use mathlib.Core.Path.{refl}
 use denote.Ref.{now}
 use borrow.Author.Needs.{needs}
+use Rattle.fields.specs.Contents.{noBookings}
 use Rattle.door.specs.Door.{headOf}
-use Rattle.tables.proofs.TableSteps.{empty, room, loaded-front, loaded-length}
-use Rattle.yinqocha.proofs.WriteSteps.{sheet-length, sheet-fault}
+use Rattle.tables.proofs.TableSteps.{loaded-front, loaded-length}
+use Rattle.yinqocha.proofs.WriteSteps.{sheet-near, sheet-far}
 use Rattle.yinqocha.proofs.write.yinqocha_write.Statement.{statement}
 use Rattle.yinqocha.proofs.write.yinqocha_write.Tie as tie
 
@@ -13,71 +16,64 @@ slice-aggregate-load c = search needs
 load-requires : tie.Need-load-requires
 load-requires c κs = search needs
 
-slice-aggregate-load-2 : tie.Need-slice-aggregate-load-2
-slice-aggregate-load-2 c = search needs
+first-from-requires : tie.Need-first-from-requires
+first-from-requires c κs = search needs
 
-load-requires-2 : tie.Need-load-requires-2
-load-requires-2 c κs = search needs
+entries-requires : tie.Need-entries-requires
+entries-requires c κs = search needs
 
 array-share-prefix-first : tie.Need-array-share-prefix-first
 array-share-prefix-first c = search needs
 
-slice-aggregate-write : tie.Need-slice-aggregate-write
-slice-aggregate-write c =
+slice-aggregate-far-fault : tie.Need-slice-aggregate-far-fault
+slice-aggregate-far-fault c =
     let x = c .before .before .before .before .before .load in
-    loaded-length _ empty (x .result) room (x .ensures .0) (x .ensures .1)
+    loaded-length _ noBookings (x .result) refl (x .ensures .0) (x .ensures .1)
 
-array-share-prefix-second : tie.Need-array-share-prefix-second
-array-share-prefix-second c = search needs
-
-slice-aggregate-write-2 : tie.Need-slice-aggregate-write-2
-slice-aggregate-write-2 c =
-    let x = c .before .before .before .load2 in
-    loaded-length _ empty (x .result) room (x .ensures .0) (x .ensures .1)
-
-write-requires : tie.Need-write-requires
-write-requires c κs = search needs
-
-enum-known-k : tie.Need-enum-known-k
-enum-known-k c = search needs
-
-enum-known-f : tie.Need-enum-known-f
-enum-known-f c = search needs
+far-fault-requires : tie.Need-far-fault-requires
+far-fault-requires c κs = search needs
 
 fault-word-requires : tie.Need-fault-word-requires
 fault-word-requires c κs = search needs
 
+returns : tie.Need-returns
+returns c =
+    let test = c .before .before .before in
+    let found = test .before .before in
+    let x = found .before .before in
+    let a = x .before .before .before .before .before .before .args in
+    let day =
+    loaded-front (now (a .booked)) noBookings (x .load .result) refl (x .load .ensures .0) (x .load .ensures .1) in
+    sheet-far (headOf (a .benches) (a .p) (a .q) (a .target)) (now (a .booked)) (now (a .minutes)) (now (a .allowed))
+    (now (a .out)) day (found .first-from .ensures) (test .before .entries .ensures) (test .if1 .taken)
+    (c .before .far-fault .ensures) (c .fault-word .ensures)
+
+array-share-prefix-first-2 : tie.Need-array-share-prefix-first-2
+array-share-prefix-first-2 c = search needs
+
+slice-aggregate-write-jobs : tie.Need-slice-aggregate-write-jobs
+slice-aggregate-write-jobs c =
+    let x = c .before .before .before .before .before .load in
+    loaded-length _ noBookings (x .result) refl (x .ensures .0) (x .ensures .1)
+
+write-jobs-requires : tie.Need-write-jobs-requires
+write-jobs-requires c κs = search needs
+
 same-length : tie.Need-same-length
 same-length c = search needs
 
-returns : tie.Need-returns
-returns c =
-    let w = c .before .before .before .before .before in
-    let y = w .before .before .before .before .before in
-    let x = y .before .before .before in
-    let a = x .before .before .before .before .before .args in
-    let h = headOf (a .benches) (a .p) (a .q) (a .target) in
-    let ms = loaded-front (now (a .minutes)) empty (x .load .result) room (x .load .ensures .0) (x .load .ensures .1) in
-    let bs =
-    loaded-front (now (a .allowed)) empty (y .load2 .result) room (y .load2 .ensures .0) (y .load2 .ensures .1) in
-    sheet-length h (now (a .minutes)) (now (a .allowed)) (now (a .out)) ms bs
-    (w .write .ensures .0) (w .write .ensures .1) (c .before .k .given .1)
-
-same-length-2 : tie.Need-same-length-2
-same-length-2 c = search needs
-
 returns-2 : tie.Need-returns-2
 returns-2 c =
-    let w = c .before .before .before .before .before .before in
-    let y = w .before .before .before .before .before in
-    let x = y .before .before .before in
-    let a = x .before .before .before .before .before .args in
-    let h = headOf (a .benches) (a .p) (a .q) (a .target) in
-    let ms = loaded-front (now (a .minutes)) empty (x .load .result) room (x .load .ensures .0) (x .load .ensures .1) in
-    let bs =
-    loaded-front (now (a .allowed)) empty (y .load2 .result) room (y .load2 .ensures .0) (y .load2 .ensures .1) in
-    sheet-fault h (now (a .minutes)) (now (a .allowed)) (now (a .out)) ms bs
-    (w .write .ensures .0) (w .write .ensures .1) (c .before .before .f .given .1) (c .fault-word .ensures)
+    let w = c .before .before in
+    let test = w .before .before .before in
+    let found = test .before .before in
+    let x = found .before .before in
+    let a = x .before .before .before .before .before .before .args in
+    let day =
+    loaded-front (now (a .booked)) noBookings (x .load .result) refl (x .load .ensures .0) (x .load .ensures .1) in
+    sheet-near (headOf (a .benches) (a .p) (a .q) (a .target)) (now (a .booked)) (now (a .minutes)) (now (a .allowed))
+    (now (a .out)) day (found .first-from .ensures) (test .before .entries .ensures) (test .if1 .left)
+    (w .write-jobs .ensures .0) (w .write-jobs .ensures .1)
 
 pub yinqocha-write-spec : {M : Type 1} → statement M
 yinqocha-write-spec =
@@ -85,17 +81,15 @@ yinqocha-write-spec =
     (tie.spec
     slice-aggregate-load
     load-requires
-    slice-aggregate-load-2
-    load-requires-2
+    first-from-requires
+    entries-requires
     array-share-prefix-first
-    slice-aggregate-write
-    array-share-prefix-second
-    slice-aggregate-write-2
-    write-requires
-    enum-known-k
-    enum-known-f
+    slice-aggregate-far-fault
+    far-fault-requires
     fault-word-requires
-    same-length
     returns
-    same-length-2
+    array-share-prefix-first-2
+    slice-aggregate-write-jobs
+    write-jobs-requires
+    same-length
     returns-2)

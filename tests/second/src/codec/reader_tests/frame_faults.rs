@@ -28,13 +28,13 @@ fn fault_2_sheet_cut() {
     assert_eq!(of_text(&[HEAD, END, "20 00 01"]), Err((2, 13)));
     assert_eq!(of_text(&[FOREIGN]), Err((2, 4)));
     // Numbers 3 to 5 come after 2 at the same frame, and before it at an earlier one.
-    assert_eq!(of_text(&["14 FF FF"]), Err((2, 0)));
-    assert_eq!(of_text(&["14 00 00", "13"]), Err((3, 0)));
+    assert_eq!(of_text(&["15 FF FF"]), Err((2, 0)));
+    assert_eq!(of_text(&["15 00 00", "13"]), Err((3, 0)));
 }
 
 #[test]
 fn fault_3_unknown_kind() {
-    for kind in (0..16).filter(|kind| !(1..=3).contains(kind)) {
+    for kind in (0..16).filter(|kind| !(1..=4).contains(kind)) {
         let unknown = format!("1{kind:X} 00 00");
         assert_eq!(of_text(&[&unknown]), Err((3, 0)));
         assert_eq!(of_text(&[HEAD, &unknown, END]), Err((3, 10)));
@@ -57,7 +57,7 @@ fn fault_4_out_of_place() {
 
 #[test]
 fn fault_5_body_length() {
-    for (before, kind, body) in [("", 1, 7), (HEAD, 2, 11), (HEAD, 3, 0)] {
+    for (before, kind, body) in [("", 1, 7), (HEAD, 2, 11), (HEAD, 3, 0), (HEAD, 4, 4)] {
         for length in (0..30).filter(|&length| length != body) {
             let mut bytes = hex::parse(before);
             let place = bytes.len();

@@ -1,5 +1,6 @@
 //! The reader on hand-made sheets, each fault on both sides of its edge.
 
+mod bookings;
 mod field_faults;
 mod frame_faults;
 
@@ -12,6 +13,7 @@ use crate::hex;
 
 const HEAD: &str = "11 00 07 04 10 38 00 00 01 20";
 const JOB: &str = "12 00 0B 00 00 5C 00 00 00 00 00 00 00 00";
+const BOOKING: &str = "14 00 04 04 00 01 40";
 const END: &str = "13 00 00";
 const FOREIGN: &str = "21 00 01 FF";
 

@@ -4,6 +4,7 @@ use super::heavy::{pairs, Shape, SHAPES};
 use super::light::{allowed, Choice, CHOICES};
 use super::weights;
 use crate::codec::sheet::{Head, Job};
+use crate::gen::bookings;
 use crate::gen::day::{bench_bit, share, Day, MOST_MINUTES};
 use crate::rng::Rng;
 
@@ -39,14 +40,21 @@ fn head(rng: &mut Rng, size: Size) -> Head {
     Head { benches: size.benches, p, q, target: size.target }
 }
 
-/// Heavy jobs of some shape, some dedicated load, and light jobs until there are enough.
+/// Heavy jobs of some shape, some dedicated load, and light jobs until there are enough; on half of
+/// the days bookings.
 pub fn any(rng: &mut Rng, size: Size) -> Day {
     let shape = (!rng.one_in(6)).then(|| rng.pick(&SHAPES));
     let choice = rng.pick(&CHOICES);
-    with(rng, size, shape, choice)
+    booked_with(rng, size, shape, choice)
 }
 
 /// As `any`, with the heavy jobs' shape and the light jobs' choice given.
+pub fn booked_with(rng: &mut Rng, size: Size, shape: Option<Shape>, choice: Choice) -> Day {
+    let day = with(rng, size, shape, choice);
+    Day { booked: bookings::for_run(rng, day.head), ..day }
+}
+
+/// As `booked_with`, without bookings.
 pub fn with(rng: &mut Rng, size: Size, shape: Option<Shape>, choice: Choice) -> Day {
     let head = head(rng, size);
     let mut jobs = Vec::new();
@@ -93,19 +101,27 @@ fn finish(rng: &mut Rng, head: Head, mut jobs: Vec<Job>) -> Day {
             }
         }
     }
-    Day { head, jobs }
+    Day::new(head, jobs)
 }
 
 /// A day made from an assignment that keeps every bench within T, so that the answer is a plan.
-/// On each bench there is at most one heavy job, and light jobs up to T or a little less.
+/// On each bench there is at most one heavy job, and light jobs up to T or a little less; on half
+/// of the days some benches have a booking, which may take all of T.
 pub fn planted(rng: &mut Rng, size: Size) -> Day {
     let head = head(rng, size);
     let mut jobs = Vec::new();
     let slack = rng.range(0, head.target / 8);
     let choice = rng.pick(&CHOICES);
     let each = size.jobs / head.benches as usize;
+    let mut booked = bookings::some(rng, head.benches, |rng| match rng.below(6) {
+        0 => head.target,
+        _ => rng.range(1, head.target.div_ceil(3)),
+    });
     for bench in 0..head.benches {
         let mut room = head.target - rng.range(0, slack);
+        let booking = &mut booked[bench as usize];
+        *booking = room.min(*booking);
+        room -= *booking;
         let before = jobs.len();
         if each > 0 && room > weights::most_light(head) && !rng.one_in(3) {
             let minutes = weights::heavy(rng, head).min(room);
@@ -121,7 +137,7 @@ pub fn planted(rng: &mut Rng, size: Size) -> Day {
             room -= minutes;
         }
     }
-    finish_planted(rng, head, jobs)
+    Day { booked, ..finish_planted(rng, head, jobs) }
 }
 
 /// As `finish`, but jobs that fault 12 would refuse are left out.
@@ -135,5 +151,5 @@ fn finish_planted(rng: &mut Rng, head: Head, mut jobs: Vec<Job>) -> Day {
     if !rng.one_in(3) {
         rng.shuffle(&mut jobs);
     }
-    Day { head, jobs }
+    Day::new(head, jobs)
 }

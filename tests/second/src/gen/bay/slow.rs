@@ -42,7 +42,7 @@ pub fn climb(rng: &mut Rng, planner: &mut Planner, day: Day, steps: usize, by: C
 
 /// Changes one job's minutes or benches, exchanges two jobs, or moves the target a little.
 fn change(rng: &mut Rng, day: &mut Day) {
-    let Day { head, jobs } = day;
+    let Day { head, jobs, .. } = day;
     let (one, two) = (rng.below(jobs.len()), rng.below(jobs.len()));
     match rng.below(7) {
         0 => jobs.swap(one, two),

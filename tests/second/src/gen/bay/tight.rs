@@ -1,8 +1,9 @@
-//! Days whose limits are whole minutes, with benches that lie at them or one minute beside.
+//! Days whose limits are whole minutes, with benches that lie at them or one minute beside, by jobs
+//! and on half of the days by bookings too.
 
 use super::heavy::{pairs, Shape};
 use super::weights;
-use crate::codec::sheet::{Head, Job};
+use crate::codec::sheet::{Head, Job, NOTHING_BOOKED};
 use crate::gen::day::{bench_bit, Day};
 use crate::rng::Rng;
 
@@ -31,9 +32,13 @@ pub fn tight(rng: &mut Rng, benches: u64) -> Day {
         })
         .collect();
     let rocks = jobs.clone();
+    let mut booked = NOTHING_BOOKED;
+    let has_bookings = rng.one_in(2);
     for bench in 0..benches {
         let own = own_load(rng, head, &rocks, bench);
-        load(rng, head, &mut jobs, bench, own);
+        let booking = if has_bookings { rng.range(0, own) } else { 0 };
+        booked[bench as usize] = booking;
+        load(rng, head, &mut jobs, bench, own - booking);
     }
     if !rng.one_in(4) {
         let bound = (5 * q + p) * target / (3 * q);
@@ -42,7 +47,7 @@ pub fn tight(rng: &mut Rng, benches: u64) -> Day {
     if rng.one_in(2) {
         rng.shuffle(&mut jobs);
     }
-    Day { head, jobs }
+    Day { head, booked, jobs }
 }
 
 /// An own load that, with none, one or two of the bench's rocks, is about a limit.

@@ -15,10 +15,11 @@ fn has_plan(planner: &mut Planner, day: &Day) -> bool {
 }
 
 /// A target with a plan, where the next lower one has none or makes a job long. Found by halving,
-/// between the longest job and all jobs on one bench.
+/// between the longest job and all jobs on the bench with the largest booking.
 pub fn turning_target(planner: &mut Planner, day: &Day) -> u64 {
     let minutes = || day.jobs.iter().map(|job| job.minutes);
-    let (mut low, mut high) = (minutes().max().unwrap_or(0), minutes().sum());
+    let most_booked = day.booked.iter().max().unwrap_or(&0);
+    let (mut low, mut high) = (minutes().max().unwrap_or(0), minutes().sum::<u64>() + most_booked);
     while low < high {
         let middle = low + (high - low) / 2;
         if has_plan(planner, &with_target(day, middle)) {

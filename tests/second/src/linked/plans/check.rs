@@ -5,6 +5,7 @@ use crate::library;
 use crate::planned::{words, Planned};
 use crate::tally::Tally;
 use second::codec::door::{Codec, ENTRY_BYTES};
+use second::codec::sheet::{Head, Sheet};
 use second::corpus::{print_answer, print_case, Case};
 use second::gen::day::Day;
 use second::hex;
@@ -114,7 +115,7 @@ impl Check {
     fn judge(&mut self, sheet: &[u8], answer: &Answer, known: Rival) {
         let read = self.codec.read(sheet).expect("an answer is for an accepted sheet");
         let judged = judge::judge(read, answer);
-        let full = read.jobs().len() == 512 && read.head().benches == 64;
+        let kinds = kinds(read, answer);
         let rival = match known {
             Rival::Unknown => None,
             Rival::Planted => Some(true),
@@ -132,8 +133,8 @@ impl Check {
             (_, Some(false)) => self.tally.meet("no assignment within T, by search"),
             _ => {}
         }
-        if full {
-            self.tally.meet("full sheet");
+        for kind in kinds {
+            self.tally.meet(&kind);
         }
     }
 
@@ -184,11 +185,34 @@ impl Check {
     }
 }
 
+/// What the tally counts of a sheet and its answer: whether it is full, and what is booked.
+fn kinds(sheet: &Sheet, answer: &Answer) -> Vec<String> {
+    let Head { benches, p, q, target } = sheet.head();
+    let most_booked = sheet.booked().iter().copied().max().unwrap_or(0);
+    let name = match answer {
+        Answer::Plan { .. } => "plan",
+        Answer::Long { .. } => "long",
+        Answer::None { .. } => "none",
+    };
+    let full = sheet.jobs().len() == 512 && benches == 64;
+    let all = [
+        (full, "full sheet".to_string()),
+        (full && most_booked > 0, "full sheet with bookings".to_string()),
+        (most_booked > 0, format!("{name} with bookings")),
+        (most_booked > target, format!("{name} with a booking above T")),
+        (
+            3 * q * most_booked > (5 * q + p) * target,
+            format!("{name} with a booking above the bound"),
+        ),
+    ];
+    all.into_iter().filter(|&(holds, _)| holds).map(|(_, kind)| kind).collect()
+}
+
 /// An accepted sheet in the form of the corpus.
 fn case_of(sheet: &[u8]) -> Option<Case> {
     let mut codec = Codec::default();
     let read = codec.read(sheet).ok()?;
-    let day = Day { head: read.head(), jobs: read.jobs().to_vec() };
+    let day = Day::of(read);
     let answer = print_answer(Planner::new().plan(sheet, Rooms::FULL));
-    Some(Case { name: "failed".to_string(), day, answer })
+    Some(Case { name: "failed".to_string(), day, without: None, answer })
 }

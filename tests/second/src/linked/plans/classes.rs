@@ -13,11 +13,13 @@ pub fn round(check: &mut Check) {
     middle(check);
     middle_turning(check);
     full(check);
+    full_booked(check);
     full_turning(check);
     planted(check);
     shapes(check);
     tight(check);
     everywhere(check);
+    more_booked(check);
     long(check);
 }
 
@@ -53,6 +55,7 @@ fn middle(check: &mut Check) {
     check.class("middle, with foreign frames");
     for _ in 0..200 {
         let mut draft = middle_day(check).draft();
+        draft.scatter_bookings(&mut check.rng, 2);
         draft.sprinkle(&mut check.rng, 3);
         check.plan(&draft.bytes(), Rival::Unknown);
     }
@@ -73,6 +76,16 @@ fn full(check: &mut Check) {
     for _ in 0..4 {
         let size = days::full(&mut check.rng);
         let day = days::any(&mut check.rng, size);
+        check.plan_day(&day, Rival::Unknown);
+    }
+}
+
+fn full_booked(check: &mut Check) {
+    check.class("full, every bench booked");
+    for _ in 0..4 {
+        let size = days::full(&mut check.rng);
+        let mut day = days::any(&mut check.rng, size);
+        day.booked = [0; 64].map(|_| check.rng.range(1, size.target / 3));
         check.plan_day(&day, Rival::Unknown);
     }
 }
@@ -114,7 +127,7 @@ fn shapes(check: &mut Check) {
         for turn in 0..10 {
             let size = shape_size(check, turn);
             let choice = check.rng.pick(&CHOICES);
-            let day = days::with(&mut check.rng, size, Some(shape), choice);
+            let day = days::booked_with(&mut check.rng, size, Some(shape), choice);
             check.plan_day(&day, Rival::Unknown);
             for day in turning::around(&mut check.planner, &day) {
                 check.plan_day(&day, Rival::Unknown);
@@ -146,9 +159,23 @@ fn everywhere(check: &mut Check) {
     for _ in 0..15 {
         let size = days::middle(&mut check.rng);
         let shape = if check.rng.one_in(2) { None } else { Some(Shape::Pieces) };
-        let day = days::with(&mut check.rng, size, shape, Choice::Everywhere);
+        let day = days::booked_with(&mut check.rng, size, shape, Choice::Everywhere);
         for day in turning::around(&mut check.planner, &day) {
             check.plan_day(&day, Rival::Unknown);
+        }
+    }
+}
+
+/// A day at its turning point, and one bench booked for ever more.
+fn more_booked(check: &mut Check) {
+    check.class("more and more booked, judged by search");
+    for _ in 0..40 {
+        let mut day = tiny_day(check);
+        day.head.target = turning::turning_target(&mut check.planner, &day);
+        let bench = check.rng.below(day.head.benches as usize);
+        for _ in 0..6 {
+            check.plan_day(&day, Rival::Searched);
+            day.booked[bench] += check.rng.range(1, 1 + day.head.target / 2);
         }
     }
 }

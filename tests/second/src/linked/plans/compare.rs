@@ -3,7 +3,7 @@
 use crate::check::{Check, Rival};
 use second::codec::door::fault_number;
 use second::gen::bay::{days, turning};
-use second::gen::damage::damage;
+use second::gen::damage::{damage, DAMAGES};
 use second::gen::day::Day;
 use second::planner::door::{PLAN, SAME};
 use second::planner::set::Set;
@@ -47,7 +47,7 @@ fn any_lists(check: &mut Check) {
         let mut draft = day.draft();
         draft.sprinkle(&mut check.rng, 1);
         if turn % 10 == 0 {
-            let number = check.rng.range(2, 12) as u32;
+            let number = check.rng.pick(&DAMAGES);
             damage(&mut check.rng, &mut draft, number);
         }
         let mut lists = [0, 1].map(|_| table(&assignment(check, &day)));

@@ -4,7 +4,7 @@
 use crate::check::{Check, Rival};
 use crate::classes::tiny_day;
 use second::codec::door::ENTRY_BYTES;
-use second::gen::damage::damage;
+use second::gen::damage::{damage, DAMAGES};
 use second::planner::door::ANSWER_ENTRIES;
 
 pub fn round(check: &mut Check) {
@@ -14,13 +14,13 @@ pub fn round(check: &mut Check) {
 
 fn damaged(check: &mut Check) {
     check.class("damaged");
-    for number in 2..=12 {
+    for number in DAMAGES {
         for _ in 0..12 {
             let mut draft = tiny_day(check).draft();
             draft.sprinkle(&mut check.rng, 1);
             damage(&mut check.rng, &mut draft, number);
             if check.rng.one_in(3) {
-                let number = check.rng.range(2, 12) as u32;
+                let number = check.rng.pick(&DAMAGES);
                 damage(&mut check.rng, &mut draft, number);
             }
             check.plan(&draft.bytes(), Rival::Unknown);
@@ -45,7 +45,7 @@ fn short_tables(check: &mut Check) {
         }
         let mut draft = day.draft();
         if turn % 8 == 1 {
-            let number = check.rng.range(2, 12) as u32;
+            let number = check.rng.pick(&DAMAGES);
             damage(&mut check.rng, &mut draft, number);
         }
         let exact = [day.jobs.len(), day.head.benches as usize, ANSWER_ENTRIES];

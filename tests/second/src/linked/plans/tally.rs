@@ -7,7 +7,7 @@ use second::planner::door::{LONG, PLAN, SAME};
 /// A run that meets one of these less often has not tested it.
 const LEAST: u64 = 100;
 
-const WANTED: [&str; 38] = [
+const WANTED: [&str; 48] = [
     "plan at once",
     "plan after moves",
     "none of a crowded component",
@@ -27,6 +27,15 @@ const WANTED: [&str; 38] = [
     "fault 11",
     "fault 12",
     "fault 13",
+    "fault 14",
+    "fault 15",
+    "plan with bookings",
+    "none with bookings",
+    "long with bookings",
+    "plan with a booking above T",
+    "none with a booking above T",
+    "none with a booking above the bound",
+    "long with a booking above T",
     "run with a level above 1",
     "run with a level above 4",
     "run with a fake orientation",
@@ -37,6 +46,7 @@ const WANTED: [&str; 38] = [
     "plan with a neutral cycle",
     "run with 100 moves or more",
     "full sheet",
+    "full sheet with bookings",
     "an assignment within T, by search",
     "no assignment within T, by search",
     "an assignment within T, planted",

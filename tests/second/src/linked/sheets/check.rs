@@ -3,8 +3,8 @@
 
 use crate::library;
 use crate::tally::Tally;
-use second::codec::door::{entry, fault_number, table_bytes, Codec};
-use second::codec::sheet::MAX_JOBS;
+use second::codec::door::{entry, fault_number, numbers, table_bytes, Codec};
+use second::codec::sheet::{MAX_BENCHES, MAX_JOBS};
 use second::codec::writer::sheet_bytes;
 use second::gen::tables::Tables;
 use second::hex;
@@ -76,41 +76,46 @@ impl Check {
         self.same_word(library, second, call);
         self.same_bytes("the table", &found, &expected, call);
         self.same_bytes("the sheet lent to the library", &lent, &input, call);
-        self.tally.count_read(self.class, library);
         let filled = if fault_number(library) == 0 { table_bytes(library as usize) } else { 0 };
-        Reading { word: library, table: found.inside()[..filled].to_vec() }
+        let table = found.inside()[..filled].to_vec();
+        let booked = numbers(&table).skip(4).take(MAX_BENCHES as usize).any(|minutes| minutes > 0);
+        self.tally.count_read(self.class, library, booked);
+        Reading { word: library, table }
     }
 
     /// Writes a sheet, with an output that has room for it.
     pub fn write(&mut self, tables: &Tables) -> Writing {
-        let room = sheet_bytes(tables.count().min(MAX_JOBS)) + self.rng.below(40);
+        let bookings = tables.bookings().min(MAX_BENCHES as usize);
+        let need = sheet_bytes(bookings, tables.count().min(MAX_JOBS));
+        let room = need + self.rng.below(40);
         self.write_into(tables, room)
     }
 
     /// Writes a sheet, with an output of `room` bytes, and reads what was written.
     pub fn write_into(&mut self, tables: &Tables, room: usize) -> Writing {
-        let Tables { head, minutes, allowed } = tables;
-        let inputs = [minutes, allowed].map(|table| Guarded::holding(&mut self.rng, table));
+        let Tables { head, booked, minutes, allowed } = tables;
+        let inputs = [booked, minutes, allowed].map(|table| Guarded::holding(&mut self.rng, table));
         let lent = inputs.clone();
         let mut expected = Guarded::random(&mut self.rng, room);
         let mut found = expected.clone();
         let empty = self.rng.pick(&[Empty::Null, Empty::Pointer]);
-        let second = self.codec.write(*head, minutes, allowed, expected.inside_mut());
+        let second = self.codec.write(*head, booked, minutes, allowed, expected.inside_mut());
         let out = found.inside_mut();
-        let library = library::write(*head, lent[0].inside(), lent[1].inside(), out, empty);
+        let library = library::write(*head, lent.each_ref().map(Guarded::inside), out, empty);
         let call = || {
-            let (minutes, allowed) = (hex::print(minutes), hex::print(allowed));
+            let [booked, minutes, allowed] = [booked, minutes, allowed].map(|of| hex::print(of));
             format!(
-                "writing, an output of {room} bytes\n{head:?}\nminutes {minutes}\nallowed \
-                 {allowed}\nexpected output {}",
+                "writing, an output of {room} bytes\n{head:?}\nbooked {booked}\nminutes {minutes}\n\
+                 allowed {allowed}\nexpected output {}",
                 hex::print(expected.inside())
             )
         };
         self.same_word(library, second, call);
         self.same_bytes("the output", &found, &expected, call);
-        self.same_bytes("the minutes lent to the library", &lent[0], &inputs[0], call);
-        self.same_bytes("the benches lent to the library", &lent[1], &inputs[1], call);
-        self.tally.count_written(self.class, library);
+        for (lent, input) in lent.iter().zip(&inputs) {
+            self.same_bytes("a table lent to the library", lent, input, call);
+        }
+        self.tally.count_written(self.class, library, tables.bookings() > 0);
         let length = if fault_number(library) == 0 { library as usize } else { 0 };
         let sheet = found.inside()[..length].to_vec();
         if fault_number(library) == 0 {
@@ -123,6 +128,7 @@ impl Check {
     fn read_back(&mut self, tables: &Tables, sheet: &[u8]) {
         let head = tables.head;
         let mut fields = vec![head.benches, head.p, head.q, head.target];
+        fields.extend((0..MAX_BENCHES as usize).map(|bench| entry(&tables.booked, bench)));
         for job in 0..tables.count() {
             fields.extend([entry(&tables.minutes, job), entry(&tables.allowed, job)]);
         }

@@ -1,11 +1,11 @@
-//! Reading: cases that are the same in every run.
+//! Reading: cases that are the same in every run. Those of bookings stand in `fixed_bookings`.
 
 use crate::check::{Check, Reading};
 use crate::several_faults;
 use second::codec::door::table_bytes;
-use second::codec::sheet::{Head, Job};
+use second::codec::sheet::{Booked, Head, Job, NOTHING_BOOKED};
 use second::gen::day::bench_bit;
-use second::gen::draft::{self, frame, set, Draft};
+use second::gen::draft::{self, booking_frame, frame, set, Draft};
 use second::hex;
 use second::samples;
 
@@ -24,20 +24,23 @@ pub fn all(check: &mut Check) {
     table_lengths(check);
 }
 
-fn fault(number: u64, place: u64) -> Reading {
+pub fn fault(number: u64, place: u64) -> Reading {
     Reading { word: number << 32 | place, table: Vec::new() }
 }
 
-fn table(fields: &[u64]) -> Vec<u8> {
-    fields.iter().flat_map(|field| field.to_le_bytes()).collect()
+/// What is read of these fields.
+pub fn accepted(head: Head, booked: &Booked, jobs: &[Job]) -> Reading {
+    let head = [head.benches, head.p, head.q, head.target];
+    let jobs_fields = jobs.iter().flat_map(|job| [job.minutes, job.allowed]);
+    let fields = head.into_iter().chain(*booked).chain(jobs_fields);
+    Reading { word: jobs.len() as u64, table: fields.flat_map(u64::to_le_bytes).collect() }
 }
 
 fn examples(check: &mut Check) {
     check.class("reading: examples 11 and 12");
     let head = "11 00 07 04 10 38 00 00 01 20";
     let job = "12 00 0B 00 00 5C 00 00 00 00 00 00 00 00";
-    let both = bench_bit(0) | bench_bit(1);
-    let example_5 = Reading { word: 3, table: table(&[2, 4, 7, 9, 5, both, 5, both, 5, both]) };
+    let example_5 = accepted(HEAD, &NOTHING_BOOKED, &[JOB; 3]);
     for foreign in ["", "21 00 01 FF"] {
         let sheet = hex::parse(&[head, foreign, job, job, job, "13 00 00"].join(" "));
         let reading = check.read(&sheet);
@@ -87,7 +90,7 @@ fn kinds(check: &mut Check) {
     check.class("reading: every version and kind");
     for first in 0..=255 {
         for at in 0..5 {
-            for body in [0, 7, 11] {
+            for body in [0, 4, 7, 11] {
                 let mut sheet = Draft::new(HEAD, &[JOB, JOB]);
                 sheet.frames.insert(at, frame(first / 16, first % 16, &vec![0; body]));
                 check.read(&sheet.bytes());
@@ -106,9 +109,9 @@ fn body_lengths(check: &mut Check) {
     check.class("reading: body lengths");
     let lengths = (0..40).chain([255, 256, 257, 263, 267, 512, 1792, 2816, 65_535]);
     for length in lengths {
-        for at in 0..3 {
-            let sheet = Draft::new(HEAD, &[JOB]);
-            let mut told = sheet.clone();
+        for at in 0..4 {
+            let mut told = Draft::new(HEAD, &[JOB]);
+            told.frames.insert(1, booking_frame(1, 30));
             set(&mut told.frames[at], draft::LENGTH, length as u64);
             check.read(&told.bytes());
             let mut there = told;
@@ -130,6 +133,12 @@ fn spare_bits(check: &mut Check) {
             check.read(&sheet.bytes());
         }
     }
+    for spare in 0..64 {
+        let mut sheet = Draft::new(HEAD, &[JOB]);
+        sheet.frames.insert(1, booking_frame(1, 30));
+        set(&mut sheet.frames[1], draft::BOOKING_SPARE, spare);
+        check.read(&sheet.bytes());
+    }
 }
 
 fn table_lengths(check: &mut Check) {
@@ -141,7 +150,7 @@ fn table_lengths(check: &mut Check) {
         }
     }
     let full = Draft::new(Head { benches: 64, ..HEAD }, &vec![JOB; 512]).bytes();
-    for room in [0, 8, 8216, 8223, 8224, 8225, 9000] {
+    for room in [0, 8, 8224, 8728, 8735, 8736, 8737, 9000] {
         check.read_into(&full, room);
     }
 }

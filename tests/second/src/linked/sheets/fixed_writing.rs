@@ -1,7 +1,7 @@
 //! Writing: cases that are the same in every run.
 
 use crate::check::{Check, Writing};
-use second::codec::sheet::{Head, Job};
+use second::codec::sheet::{Head, Job, NOTHING_BOOKED};
 use second::codec::writer::sheet_bytes;
 use second::gen::day::bench_bit;
 use second::gen::tables::Tables;
@@ -71,27 +71,31 @@ fn shares(check: &mut Check) {
     }
 }
 
-/// Every pair of fields with every pair of edge numbers.
+/// Every pair of fields with every pair of edge numbers. The bookings are of bench 0, of bench 2
+/// and of bench 3, which the head lacks.
 fn edges(check: &mut Check) {
     check.class("writing: numbers at their edges");
-    for one in 0..8 {
+    for one in 0..11 {
         for two in 0..one {
             for (value, other) in EDGES.iter().flat_map(|a| EDGES.iter().map(move |b| (a, b))) {
                 let Head { benches, p, q, target } = HEAD;
                 let Job { minutes, allowed } = JOB;
-                let mut fields = [benches, p, q, target, minutes, allowed, minutes, allowed];
+                let mut fields =
+                    [benches, p, q, target, minutes, allowed, minutes, allowed, 0, 1, 0];
                 fields[one] = *value;
                 fields[two] = *other;
-                let [benches, p, q, target, ..] = fields;
+                let [benches, p, q, target, .., first, third, lacking] = fields;
                 let job = |at: usize| Job { minutes: fields[at], allowed: fields[at + 1] };
-                let jobs = [job(4), job(6)];
-                check.write(&Tables::new(Head { benches, p, q, target }, &jobs));
+                let mut booked = NOTHING_BOOKED;
+                (booked[0], booked[2], booked[3]) = (first, third, lacking);
+                let head = Head { benches, p, q, target };
+                check.write(&Tables::booked(head, &booked, &[job(4), job(6)]));
             }
         }
     }
     let every = Head { benches: u64::MAX, p: u64::MAX, q: u64::MAX, target: u64::MAX };
     let job = Job { minutes: u64::MAX, allowed: u64::MAX };
-    check.write(&Tables::new(every, &vec![job; 600]));
+    check.write(&Tables::booked(every, &[u64::MAX; 64], &vec![job; 600]));
 }
 
 /// Every pair of lengths of the two tables, up to three entries and a bit.
@@ -118,12 +122,20 @@ fn output_lengths(check: &mut Check) {
     check.class("writing: every output length");
     for jobs in [0, 1, 2, 5] {
         let tables = Tables::new(HEAD, &vec![JOB; jobs]);
-        for room in 0..sheet_bytes(jobs) + 20 {
+        for room in 0..sheet_bytes(0, jobs) + 20 {
+            check.write_into(&tables, room);
+        }
+        let tables = Tables::booked(Head { benches: 64, ..HEAD }, &[1; 64], &vec![JOB; jobs]);
+        for room in 0..sheet_bytes(64, jobs) + 20 {
             check.write_into(&tables, room);
         }
     }
     let tables = Tables::new(HEAD, &vec![JOB; 512]);
     for room in [0, 10, 7180, 7181, 7182, 65_536, 65_537] {
+        check.write_into(&tables, room);
+    }
+    let tables = Tables::booked(Head { benches: 64, ..HEAD }, &[1; 64], &vec![JOB; 512]);
+    for room in [0, 7181, 7628, 7629, 7630, 65_536] {
         check.write_into(&tables, room);
     }
 }

@@ -1,7 +1,7 @@
 //! Laws between two answers of the library itself.
 
 use crate::check::{Check, Reading};
-use second::codec::door::{entry, fault_number};
+use second::codec::door::{entry, fault_number, FRONT_ENTRIES};
 use second::codec::frame::Frame;
 use second::codec::sheet::{Head, Job};
 use second::gen::damage::damage;
@@ -13,6 +13,7 @@ use second::hex;
 pub fn round(check: &mut Check) {
     every_gap(check);
     many_gaps(check);
+    zero_bookings(check);
     written_again(check);
 }
 
@@ -20,8 +21,9 @@ pub fn round(check: &mut Check) {
 fn some_sheet(check: &mut Check) -> Draft {
     let count = check.rng.below(5);
     let mut sheet = Day::random(&mut check.rng, count).draft();
+    sheet.scatter_bookings(&mut check.rng, 2);
     if check.rng.one_in(2) {
-        let number = check.rng.pick(&[2, 3, 4, 5, 6, 7, 8, 10, 11, 12]);
+        let number = check.rng.pick(&[2, 3, 4, 5, 6, 7, 8, 10, 11, 12, 14, 15]);
         damage(&mut check.rng, &mut sheet, number);
     }
     sheet.frames.retain(|frame| !frame.is_empty());
@@ -35,13 +37,15 @@ fn gaps(sheet: &Draft) -> usize {
 }
 
 /// "Adding whole frames of other versions between frames changes nothing that is read [...];
-/// fault places counted in bytes move along." `added` has, for each frame added, its gap and its
-/// length.
+/// fault places counted in bytes move along." So do bookings of 0 minutes in their place. `added`
+/// has, for each frame added, its gap and its length.
 fn moved(old: &Draft, reading: &Reading, added: &[(usize, usize)]) -> Reading {
     let place = reading.word as u32 as usize;
     let before_fault = |gap: usize| old.place(gap) <= place;
     let moves = match fault_number(reading.word) {
-        2..=11 => added.iter().filter(|&&(gap, _)| before_fault(gap)).map(|(_, bytes)| bytes).sum(),
+        2..=11 | 14 | 15 => {
+            added.iter().filter(|&&(gap, _)| before_fault(gap)).map(|(_, bytes)| bytes).sum()
+        }
         _ => 0,
     };
     Reading { word: reading.word + moves as u64, table: reading.table.clone() }
@@ -60,7 +64,7 @@ fn every_gap(check: &mut Check) {
                 let expected = moved(&sheet, &old, &[(gap, foreign.len())]);
                 let mut more = sheet.clone();
                 more.frames.insert(gap, foreign);
-                compare(check, &more, &expected);
+                compare(check, "foreign frames change nothing", &more, &expected);
             }
         }
     }
@@ -84,23 +88,40 @@ fn many_gaps(check: &mut Check) {
             }
         }
         let expected = moved(&sheet, &old, &added);
-        compare(check, &more, &expected);
+        compare(check, "foreign frames change nothing", &more, &expected);
     }
 }
 
-fn compare(check: &mut Check, sheet: &Draft, expected: &Reading) {
-    let bytes = sheet.bytes();
-    let reading = check.read(&bytes);
-    check.expect("foreign frames change nothing", reading == *expected, || hex::print(&bytes));
+/// "A booking of 0 is the same as none": one more for a bench without any, in every place.
+fn zero_bookings(check: &mut Check) {
+    check.class("law: a booking of 0 minutes in its place");
+    for _ in 0..150 {
+        let mut sheet = some_sheet(check);
+        let mut old = check.read(&sheet.bytes());
+        for _ in 0..3 {
+            let before = sheet.clone();
+            let Some(gap) = sheet.add_zero_booking(&mut check.rng) else { break };
+            old = moved(&before, &old, &[(gap, sheet.frames[gap].len())]);
+            compare(check, "a booking of 0 minutes changes nothing", &sheet, &old);
+        }
+    }
 }
 
-/// What is read of a sheet, written again, is the sheet without its foreign frames.
+fn compare(check: &mut Check, law: &str, sheet: &Draft, expected: &Reading) {
+    let bytes = sheet.bytes();
+    let reading = check.read(&bytes);
+    check.expect(law, reading == *expected, || hex::print(&bytes));
+}
+
+/// What is read of a sheet, written again, is the sheet without its foreign frames and bookings of
+/// 0 minutes, the other bookings by rising bench.
 fn written_again(check: &mut Check) {
     check.class("law: read, then written again");
     for _ in 0..150 {
         let count = check.rng.below(10);
         let plain = Day::random(&mut check.rng, count).draft();
         let mut sheet = plain.clone();
+        sheet.scatter_bookings(&mut check.rng, 3);
         sheet.sprinkle(&mut check.rng, 4);
         let Reading { word, table } = check.read(&sheet.bytes());
         let head = Head {
@@ -109,10 +130,13 @@ fn written_again(check: &mut Check) {
             q: entry(&table, 2),
             target: entry(&table, 3),
         };
-        let job =
-            |job| Job { minutes: entry(&table, 4 + 2 * job), allowed: entry(&table, 5 + 2 * job) };
+        let job = |job| {
+            let [minutes, allowed] = [0, 1].map(|at| entry(&table, FRONT_ENTRIES + 2 * job + at));
+            Job { minutes, allowed }
+        };
         let jobs: Vec<Job> = (0..word as usize).map(job).collect();
-        let again = check.write(&Tables::new(head, &jobs)).sheet;
+        let booked = std::array::from_fn(|bench| entry(&table, 4 + bench));
+        let again = check.write(&Tables::booked(head, &booked, &jobs)).sheet;
         let holds = again == plain.bytes();
         check.expect("a sheet written again", holds, || hex::print(&sheet.bytes()));
     }

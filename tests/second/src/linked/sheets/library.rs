@@ -9,6 +9,8 @@ extern "C" {
         p: u64,
         q: u64,
         target: u64,
+        booked: *const u8,
+        booked_len: usize,
         minutes: *const u8,
         minutes_len: usize,
         allowed: *const u8,
@@ -25,7 +27,9 @@ extern "C" {
     ) -> u64;
 }
 
-pub fn write(head: Head, minutes: &[u8], allowed: &[u8], out: &mut [u8], empty: Empty) -> u64 {
+/// The tables are those of bookings, of minutes and of benches allowed.
+pub fn write(head: Head, tables: [&[u8]; 3], out: &mut [u8], empty: Empty) -> u64 {
+    let [booked, minutes, allowed] = tables;
     // SAFETY: each pointer and length is one slice's, or NULL and 0; `out` overlaps no other.
     unsafe {
         yinqocha_write(
@@ -33,6 +37,8 @@ pub fn write(head: Head, minutes: &[u8], allowed: &[u8], out: &mut [u8], empty: 
             head.p,
             head.q,
             head.target,
+            empty.input(booked),
+            booked.len(),
             empty.input(minutes),
             minutes.len(),
             empty.input(allowed),

@@ -4,6 +4,7 @@
 //! Arguments: the seed (default 1) and the least number of sheets (default 400,000).
 
 mod check;
+mod fixed_bookings;
 mod fixed_reading;
 mod fixed_writing;
 mod laws;
@@ -31,6 +32,7 @@ fn main() -> ExitCode {
     let mut check = Check::new(seed);
     fixed_reading::all(&mut check);
     fixed_writing::all(&mut check);
+    fixed_bookings::all(&mut check);
     let mut rounds = 0;
     while rounds < ROUNDS || check.tally.total() < sheets {
         reading::round(&mut check);

@@ -2,7 +2,7 @@
 
 use crate::check::Check;
 use second::codec::door::table_bytes;
-use second::gen::damage::damage;
+use second::gen::damage::{damage, DAMAGES};
 use second::gen::day::Day;
 use second::gen::draft::Draft;
 use second::hex;
@@ -25,6 +25,7 @@ pub fn round(check: &mut Check) {
 fn small_sheet(check: &mut Check, most: usize) -> Draft {
     let count = check.rng.below(most + 1);
     let mut sheet = Day::random(&mut check.rng, count).draft();
+    sheet.scatter_bookings(&mut check.rng, 1);
     sheet.sprinkle(&mut check.rng, 2);
     sheet
 }
@@ -35,6 +36,7 @@ fn valid(check: &mut Check) {
         let most = if turn % 50 == 0 { 512 } else { 12 };
         let count = check.rng.below(most + 1);
         let mut sheet = Day::random(&mut check.rng, count).draft();
+        sheet.scatter_bookings(&mut check.rng, 4);
         sheet.sprinkle(&mut check.rng, most / 3);
         let bytes = sheet.bytes();
         let reading = check.read(&bytes);
@@ -110,7 +112,7 @@ fn near_fault_12(check: &mut Check) {
 
 fn one_fault(check: &mut Check) {
     check.class("reading: one fault");
-    for number in 2..=12 {
+    for number in DAMAGES {
         for _ in 0..20 {
             let mut sheet = small_sheet(check, 8);
             damage(&mut check.rng, &mut sheet, number);
@@ -121,14 +123,14 @@ fn one_fault(check: &mut Check) {
 
 fn two_faults(check: &mut Check) {
     check.class("reading: two faults or more");
-    for first in 2..=12 {
-        for second in 2..=12 {
+    for first in DAMAGES {
+        for second in DAMAGES {
             for more in 0..3 {
                 let mut sheet = small_sheet(check, 6);
                 damage(&mut check.rng, &mut sheet, first);
                 damage(&mut check.rng, &mut sheet, second);
                 if more == 2 {
-                    let third = check.rng.range(2, 12) as u32;
+                    let third = check.rng.pick(&DAMAGES);
                     damage(&mut check.rng, &mut sheet, third);
                 }
                 check.read(&sheet.bytes());
@@ -157,7 +159,7 @@ fn changed_bytes(check: &mut Check) {
                 _ if bytes.is_empty() => {}
                 0 => drop(bytes.remove(at)),
                 1 => bytes.insert(at, bytes[at]),
-                2 => bytes[at] = rng.pick(&[0, 1, 0x10, 0x11, 0x12, 0x13, 0x7F, 0x80, 0xFF]),
+                2 => bytes[at] = rng.pick(&[0, 1, 0x10, 0x11, 0x12, 0x13, 0x14, 0x7F, 0x80, 0xFF]),
                 _ => bytes[at] = rng.word() as u8,
             }
         }
@@ -191,7 +193,7 @@ fn short_tables(check: &mut Check) {
         }
         // A fault of the sheet comes before the table's.
         let mut sheet = small_sheet(check, 4);
-        let number = check.rng.range(2, 12) as u32;
+        let number = check.rng.pick(&DAMAGES);
         damage(&mut check.rng, &mut sheet, number);
         check.read_into(&sheet.bytes(), 0);
     }

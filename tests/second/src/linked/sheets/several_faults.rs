@@ -4,11 +4,12 @@ use crate::check::Check;
 use crate::fixed_reading::{HEAD, JOB};
 use second::codec::sheet::{Head, Job};
 use second::gen::day::bench_bit;
-use second::gen::draft::{self, head_frame, job_frame, set, Draft};
+use second::gen::draft::{self, booking_frame, head_frame, job_frame, set, Draft};
 
 pub fn all(check: &mut Check) {
     faults_of_one_head(check);
     faults_of_one_job(check);
+    faults_of_one_booking(check);
 }
 
 /// Every set of faults that one head can have together.
@@ -59,6 +60,40 @@ fn faults_of_one_job(check: &mut Check) {
         // In its place, before the head, or after the end.
         let at = if has(6) { 0 } else { before + 1 + usize::from(has(7)) };
         sheet.frames.insert(at, job);
+        if has(8) {
+            sheet.frames.truncate(at + 1);
+            sheet.frames[at].pop();
+        }
+        check.read(&sheet.bytes());
+    }
+}
+
+/// Every set of faults that one booking can have together.
+fn faults_of_one_booking(check: &mut Check) {
+    check.class("reading: several faults of one booking");
+    for faults in 0..512 {
+        let has = |fault: u32| faults >> fault & 1 == 1;
+        let bench = if has(0) { 2 } else { 1 };
+        let mut booking = booking_frame(bench, if has(1) { 0 } else { 30 });
+        set(&mut booking, draft::BOOKING_SPARE, u64::from(has(2)));
+        if has(3) {
+            booking.push(0);
+            set(&mut booking, draft::LENGTH, 5);
+        }
+        set(&mut booking, draft::KIND, if has(4) { 5 } else { draft::BOOKING });
+        let mut sheet = Draft::new(HEAD, &[JOB]);
+        // The bench's second booking, or its first.
+        if has(5) {
+            sheet.frames.insert(1, booking_frame(bench.min(1), u64::from(has(1))));
+        }
+        // In its place, before the head, behind the job, or after the end.
+        let at = match (has(6), has(7)) {
+            (false, false) => sheet.frames.len() - 2,
+            (true, false) => 0,
+            (false, true) => sheet.frames.len() - 1,
+            (true, true) => sheet.frames.len(),
+        };
+        sheet.frames.insert(at, booking);
         if has(8) {
             sheet.frames.truncate(at + 1);
             sheet.frames[at].pop();

@@ -1,4 +1,5 @@
-//! Times of the library beside those of the second codec, on a full sheet: 64 benches, 512 jobs.
+//! Times of the library beside those of the second codec, on full sheets: 64 benches, 512 jobs, and
+//! the same with every bench booked.
 //! Both are built for release and read and write the same bytes in the same run, in turns. No
 //! buffer is cleared between calls.
 
@@ -6,7 +7,6 @@ mod library;
 
 use second::codec::door::{table_bytes, Codec};
 use second::codec::sheet::{Head, Job, MAX_JOBS};
-use second::codec::writer::sheet_bytes;
 use second::gen::day::{few_benches, many_benches, Day};
 use second::gen::tables::Tables;
 use second::lent::empty::Empty;
@@ -32,7 +32,7 @@ fn full_day() -> Day {
     };
     let mut jobs: Vec<Job> = (0..MAX_JOBS).map(job).collect();
     jobs[0].minutes = 210;
-    Day { head, jobs }
+    Day::new(head, jobs)
 }
 
 fn sample(call: &mut dyn FnMut() -> u64) -> f64 {
@@ -67,10 +67,9 @@ fn print(what: &str, [library, second]: [Times; 2]) {
     row("median", library.median, second.median);
 }
 
-fn main() {
-    let day = full_day();
+fn print_day(day: &Day) {
     let sheet = day.draft().bytes();
-    let Tables { head, minutes, allowed } = day.tables();
+    let Tables { head, booked, minutes, allowed } = &day.tables();
     let mut codec = Codec::default();
 
     let mut tables = [vec![1; table_bytes(MAX_JOBS)], vec![2; table_bytes(MAX_JOBS)]];
@@ -81,19 +80,27 @@ fn main() {
     );
     assert_eq!(tables[0], tables[1], "the tables differ");
 
-    let mut outputs = [vec![1; sheet_bytes(MAX_JOBS)], vec![2; sheet_bytes(MAX_JOBS)]];
+    let mut outputs = [1, 2].map(|byte| vec![byte; sheet.len()]);
     let [found, expected] = &mut outputs;
-    let (minutes, allowed) = (&minutes[..], &allowed[..]);
+    let tables = [&booked[..], minutes, allowed];
     let writing = measure(
-        &mut || library::write(head, minutes, allowed, black_box(found), Empty::Pointer),
-        &mut || codec.write(head, minutes, allowed, black_box(expected)),
+        &mut || library::write(*head, tables, black_box(found), Empty::Pointer),
+        &mut || codec.write(*head, booked, minutes, allowed, black_box(expected)),
     );
     assert_eq!(outputs[0], sheet, "the library's sheet differs");
     assert_eq!(outputs[1], sheet, "the second codec's sheet differs");
 
-    println!("full sheet: 64 benches, {MAX_JOBS} jobs, {} bytes", sheet.len());
-    println!("{SAMPLES} samples of {CALLS} calls each, buffers not cleared between calls");
-    println!("{:<16} {:>13} {:>13} {:>8}", "", "library", "second", "ratio");
+    let bookings = day.tables().bookings();
+    println!("64 benches, {bookings} bookings, {MAX_JOBS} jobs, {} bytes", sheet.len());
     print("reading", reading);
     print("writing", writing);
+}
+
+fn main() {
+    println!("full sheets");
+    println!("{SAMPLES} samples of {CALLS} calls each, buffers not cleared between calls");
+    println!("{:<16} {:>13} {:>13} {:>8}", "", "library", "second", "ratio");
+    let day = full_day();
+    print_day(&day);
+    print_day(&Day { booked: [30; 64], ..day });
 }

@@ -3,12 +3,13 @@
 use crate::check::Check;
 use second::codec::writer::sheet_bytes;
 use second::gen::day::Day;
-use second::gen::tables::spoil;
+use second::gen::tables::{spoil, SPOILS};
 use second::hex;
 
 pub fn round(check: &mut Check) {
     valid(check);
     torn_tables(check);
+    long_bookings(check);
     job_counts(check);
     near_fault_12(check);
     one_fault(check);
@@ -41,6 +42,21 @@ fn torn_tables(check: &mut Check) {
     }
 }
 
+/// Tables of bookings with entries past the 64th.
+fn long_bookings(check: &mut Check) {
+    check.class("writing: more bookings than benches");
+    for turn in 0..60 {
+        let mut day = small_day(check, 4);
+        if turn % 4 == 0 {
+            let number = check.rng.pick(&SPOILS);
+            spoil(&mut check.rng, &mut day, number);
+        }
+        let mut tables = day.tables();
+        tables.lengthen(&mut check.rng);
+        check.write(&tables);
+    }
+}
+
 fn job_counts(check: &mut Check) {
     check.class("writing: 511 jobs and more");
     let more = check.rng.range(515, 6000) as usize;
@@ -67,7 +83,7 @@ fn near_fault_12(check: &mut Check) {
 
 fn one_fault(check: &mut Check) {
     check.class("writing: one fault");
-    for number in 7..=12 {
+    for number in SPOILS {
         for _ in 0..20 {
             let mut day = small_day(check, 6);
             spoil(&mut check.rng, &mut day, number);
@@ -78,8 +94,8 @@ fn one_fault(check: &mut Check) {
 
 fn two_faults(check: &mut Check) {
     check.class("writing: two faults or more");
-    for first in 7..=12 {
-        for second in 7..=12 {
+    for first in SPOILS {
+        for second in SPOILS {
             for more in 0..4 {
                 let mut day = small_day(check, 6);
                 spoil(&mut check.rng, &mut day, first);
@@ -108,10 +124,11 @@ fn outputs(check: &mut Check) {
     check.class("writing: outputs exact and too short");
     for _ in 0..30 {
         let day = small_day(check, 20);
-        let need = sheet_bytes(day.jobs.len());
+        let tables = day.tables();
+        let need = sheet_bytes(tables.bookings(), day.jobs.len());
         let some = check.rng.below(need);
         for room in [need, need - 1, some] {
-            check.write_into(&day.tables(), room);
+            check.write_into(&tables, room);
         }
     }
 }

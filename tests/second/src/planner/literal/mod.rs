@@ -6,7 +6,8 @@ mod explore;
 mod graph;
 
 use super::example_tests::Owned;
-use crate::codec::sheet::{Head, Job};
+use crate::codec::sheet::{Booked, Head, Job};
+use crate::gen::day::Day;
 use std::collections::BTreeSet;
 
 type Benches = BTreeSet<usize>;
@@ -20,6 +21,7 @@ struct Rock {
 
 struct Literal<'a> {
     head: Head,
+    booked: &'a Booked,
     jobs: &'a [Job],
     rocks: Vec<Rock>,
     /// The bench of every job that is no rock.
@@ -58,7 +60,8 @@ impl Literal<'_> {
     /// dl(v) + pl(v)
     fn own(&self, bench: usize) -> u64 {
         let here = (0..self.jobs.len()).filter(|&job| self.place[job] == Some(bench));
-        here.map(|job| self.jobs[job].minutes).sum::<u64>() * self.scale()
+        let jobs: u64 = here.map(|job| self.jobs[job].minutes).sum();
+        (self.booked[bench] + jobs) * self.scale()
     }
 
     /// rl(v)
@@ -100,7 +103,7 @@ impl Literal<'_> {
         for rock in &self.rocks {
             places[rock.job] = rock.head.expect("every rock is directed") as u64;
         }
-        let mut loads = vec![0; self.head.benches as usize];
+        let mut loads = self.booked[..self.head.benches as usize].to_vec();
         for (job, &place) in self.jobs.iter().zip(&places) {
             loads[place as usize] += job.minutes;
         }
@@ -128,7 +131,9 @@ impl Literal<'_> {
 }
 
 /// The answer for an accepted day.
-pub fn answer(head: Head, jobs: &[Job]) -> Owned {
+pub fn answer(day: &Day) -> Owned {
+    let Day { head, booked, jobs } = day;
+    let head = *head;
     if let Some(job) = jobs.iter().position(|job| job.minutes > head.target) {
         return Owned::Long(job);
     }
@@ -142,6 +147,7 @@ pub fn answer(head: Head, jobs: &[Job]) -> Owned {
     };
     let mut literal = Literal {
         head,
+        booked,
         jobs,
         rocks: jobs.iter().enumerate().filter(|(_, job)| is_rock(job)).map(rock).collect(),
         place: jobs.iter().map(|job| (!is_rock(job)).then(|| benches_of(job)[0])).collect(),
