@@ -141,7 +141,7 @@ heavyPair = first 4 ∷ second 4 ∷ []
 
 pub placed-where-booked : Placement (bookedDay (bay 2 4 7 5) (4 ∷ 4 ∷ []) heavyPair) (λ j. j)
 unfolding isSet
-placed-where-booked = record { on-allowed = own-bench; one-to-a-bench = λ e f le lf he hf same. same }
+placed-where-booked = record { on-allowed = own-bench; one-to-a-bench = λ e f le lf he hf same. omega arith }
   where
     own-bench : (j : ℕ) → j < 2 → heavy (bookedDay (bay 2 4 7 5) (4 ∷ 4 ∷ []) heavyPair) j ≡ true
         → placeable (bookedDay (bay 2 4 7 5) (4 ∷ 4 ∷ []) heavyPair) j j ≡ true

@@ -10,7 +10,7 @@ use native.Mathlib.Omega.{arith}
 use mathlib.Core.Path.{_≡_, refl, sym, ap, _∙_}
 use mathlib.Core.Logic.{_≢_, inl, inr}
 use mathlib.Core.List.{List, [], _∷_, _++_}
-use lib.ListN.{length, getD, drop}
+use lib.ListN.{length, getD}
 use borrow.Author.Tests.{eq-eqb, ne-eqb, le-leb}
 use Rattle.fields.specs.declared.sheet.Head.{Head}
 use Rattle.fields.specs.Contents.{Contents}
@@ -55,7 +55,7 @@ module _ (h : Head) (booked booked′ ms bs : List ℕ) (same : bookings booked 
 
   same-output : (w : Written) (out : List ℕ) → output w one out ≡ output w other out
   unfolding output
-  same-output (Length n) out = ap (λ (s : List ℕ). s ++ drop n out) same-bytes
+  same-output (Length n) out = cc same-bytes
   same-output (Refusal f) out = refl
 
   pub output-bookings : (room : ℕ) (out : List ℕ)

@@ -41,6 +41,7 @@ pub fn read(s: &[u8]) -> Reading
             Frame::Booking(b) => {
                 let bench = b.bench;
                 sheet.booked[bench] = b.minutes;
+                // Also where it books 0 minutes.
                 had = sets::add(had, bench, true);
             }
             Frame::Job(j) => {
