@@ -1,6 +1,7 @@
 -- Only the first 64 bookings matter to the writer, but for the first of the others that is not 0.
---     writer-bookings     the writer knows a table of bookings by its bookings above 0
---     zeros-behind        zeros behind a table change nothing that it finds, returns or gives
+--     bookings-zeros      zeros behind a table bring no booking (passed on from bookings BookingLaws)
+--     writer-bookings, output-bookings    the writer knows a table of bookings by its bookings above 0: it returns the
+--                         same for tables with the same, and leaves the same in its output
 --     first-far           the first entry of a table above 0 is for a bench that the head lacks: fault 14, its number
 --     far-refused         an entry past the 64th that is the first of them above 0: 7, 8 and 14 of the entries before
 --                         it, or 14 with its number
@@ -22,6 +23,7 @@ use Rattle.fields.specs.Format.{bookedFrom, bookings, sheetBytes}
 use Rattle.fields.specs.Tests.{firstFault, headFaults, bookedFaults}
 use Rattle.bookings.proofs.BookingLaws.{bookedFrom-append, bookedFaults-append, firstFault-after}
 use Rattle.bookings.proofs.BookingLaws.{firstFault-found}
+pub use Rattle.bookings.proofs.BookingLaws.{bookings-zeros}
 use Rattle.frame.specs.Writing.{contentsOf, andThen, openingVerdict, writerVerdict, fitted, writeSheet}
 use Rattle.frame.specs.Writing.{output}
 use Rattle.frame.proofs.WriterLaws.{head-sound, write-accepted, write-refused}

@@ -4,7 +4,8 @@
 --     first-test, first-test-holds    firstFault gives the fault of the first test that holds, and back
 --     none-holds, none-holds-passes   it gives none where no test holds, and back
 --     faultsAt-numbers        the tests at a frame have the numbers 3 to 6, then by its kind 7 and 8, 9 to 11, or 14 and 15
---     in-frame-number         a fault found by them has one of these numbers, and the frame's first byte for its place
+--     InFrame at f, in-frame-number   a fault found by them has one of these numbers, and the frame's first byte for
+--                             its place
 -- Of 12, passed on: lowest-hyper-edge, hyper-edge-lowest, none-hyper-edge, hyper-edge-none (fields HyperEdgeLaws)
 -- Of the places that reading comes to:
 --     reached-length          the bytes before the place and those left are all of the sheet

@@ -18,6 +18,7 @@
 -- What is returned:
 --     refused, no-room, all-written       the check refuses, the output is too short, or the sheet is written
 --     head-ready, bookings-ready, few-jobs, minutes-ready     where the check accepts, all numbers fit their fields
+--     few-benches, bookings-few   and there are at most 64 benches, and as many bookings
 use Prim.Native.Nat.{ℕ, _+_, _-_, _*_, _^_, _≤_, _<_}
 use native.Mathlib.Nat.{zero-add, add-zero}
 use native.Mathlib.Numerals.{add-one}
