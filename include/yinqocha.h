@@ -116,7 +116,7 @@ extern "C" {
 
 /* Writing and planning: a table or an output that the call fills is too short (0). Writing: the
  * sheet does not fit. Planning: there are fewer places than jobs, fewer loads than benches, or
- * fewer than two numbers for the answer. */
+ * fewer than three numbers for the answer. */
 #define YINQOCHA_NO_ROOM 13u
 /* Comparing: a list is no assignment, it does not give each job one bench that it allows (0 for the
  * first list, 1 for the second). */
@@ -249,12 +249,12 @@ uint64_t yinqocha_write(uint64_t benches, uint64_t p, uint64_t q, uint64_t targe
  *   places    a table: entry j is the bench of job j. Written for a plan only.
  *   loads     a table: entry b is the load of bench b in minutes, its booking included. Written for
  *             a plan only.
- *   answer    a table of two entries:
+ *   answer    a table of three entries:
  *
- *                       first entry         second entry
- *             plan      the largest load    the moves made
- *             long      the lowest such job 0
- *             none      the blocking set    the moves made
+ *                       first entry          second entry    third entry
+ *             plan      the largest load     the moves made  the fullest bench
+ *             long      the lowest such job  0               0
+ *             none      the blocking set     the moves made  0
  *
  *   result    YINQOCHA_PLAN, YINQOCHA_LONG or YINQOCHA_NONE
  *
@@ -263,15 +263,18 @@ uint64_t yinqocha_write(uint64_t benches, uint64_t p, uint64_t q, uint64_t targe
  * times the planner put a light job on another bench on its way to the answer, at most benches *
  * light jobs that allow two or more; they say nothing of how good a plan is.
  *
+ * The fullest bench is the one whose load is the largest load, the lowest of them if several are
+ * as full; where every load is 0, it is bench 0.
+ *
  * Every table must have its room whatever the answer will be: places one entry for each job, loads
- * one for each bench, answer two. Later bytes of a table keep their contents, and after long and
+ * one for each bench, answer three. Later bytes of a table keep their contents, and after long and
  * none all of places and loads does.
  *
  * Faults: 1, then 2 to 11, 14 and 15 frame by frame, then 12, then 13. After a fault all three
  * tables keep their contents. YINQOCHA_MAX_JOBS places and YINQOCHA_MAX_BENCHES loads always have
  * room.
  *
- * Example: four jobs of 2 minutes on bench 0 or 1, bench 0 booked for 2 minutes, three targets.
+ * Example: four jobs of 2 minutes on bench 0 or 1, the benches booked for 2 and 3, three targets.
  *
  *     #include "yinqocha.h"
  *
@@ -281,10 +284,10 @@ uint64_t yinqocha_write(uint64_t benches, uint64_t p, uint64_t q, uint64_t targe
  *     static int plan(uint64_t target)
  *     {
  *         const uint64_t both = YINQOCHA_BENCH(0) | YINQOCHA_BENCH(1);
- *         const uint64_t booked[] = { 2 };
+ *         const uint64_t booked[] = { 2, 3 };
  *         const uint64_t minutes[] = { 2, 2, 2, 2 };
  *         const uint64_t allowed[] = { both, both, both, both };
- *         uint8_t sheet[YINQOCHA_SHEET_BYTES(1, 4)];
+ *         uint8_t sheet[YINQOCHA_SHEET_BYTES(2, 4)];
  *         uint64_t places[4], loads[2], answer[YINQOCHA_ANSWER_ENTRIES];
  *
  *         uint64_t word = yinqocha_write(2, 4, 7, target, booked, sizeof booked,
@@ -311,7 +314,8 @@ uint64_t yinqocha_write(uint64_t benches, uint64_t p, uint64_t q, uint64_t targe
  *             printf(", %" PRIu64 " moves\n", answer[1]);
  *             break;
  *         case YINQOCHA_PLAN:
- *             printf("largest load %" PRIu64 ", %" PRIu64 " moves\n", answer[0], answer[1]);
+ *             printf("largest load %" PRIu64 ", %" PRIu64 " moves, fullest bench %" PRIu64 "\n",
+ *                    answer[0], answer[1], answer[2]);
  *             for (unsigned j = 0; j < 4; j++)
  *                 printf("job %u on bench %" PRIu64 "\n", j, places[j]);
  *             for (unsigned b = 0; b < 2; b++)
@@ -330,20 +334,20 @@ uint64_t yinqocha_write(uint64_t benches, uint64_t p, uint64_t q, uint64_t targe
  *
  *     target 1: job 0 is too long
  *     target 3: blocking benches 0 1, 0 moves
- *     target 4: largest load 6, 2 moves
+ *     target 4: largest load 7, 2 moves, fullest bench 1
  *     job 0 on bench 1
  *     job 1 on bench 1
  *     job 2 on bench 0
  *     job 3 on bench 0
  *     bench 0 has 6 minutes
- *     bench 1 has 4 minutes
+ *     bench 1 has 7 minutes
  */
 #define YINQOCHA_PLAN 1u
 #define YINQOCHA_LONG 2u
 #define YINQOCHA_NONE 3u
 
 /* The entries of an answer table. */
-#define YINQOCHA_ANSWER_ENTRIES 2u
+#define YINQOCHA_ANSWER_ENTRIES 3u
 
 uint64_t yinqocha_plan(const uint8_t *sheet, size_t sheet_len,
                        void *places, size_t places_len,

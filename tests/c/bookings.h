@@ -67,24 +67,24 @@ static void booked_plans(void)
     for (size_t j = 0; j < 4; j++)
         fields.minutes[j] = 2;
     fields.booked[0] = 2;
-    require(plan_fields(&fields, 32, 16, 16) == YINQOCHA_PLAN, "bench 0 booked: a plan");
+    require(plan_fields(&fields, 32, 16, ANSWER_BYTES) == YINQOCHA_PLAN, "bench 0 booked: a plan");
     require(table_entry(&places, 0) == 1 && table_entry(&places, 1) == 1, "bench 0 booked: moved");
     require(table_entry(&places, 2) == 0 && table_entry(&places, 3) == 0, "bench 0 booked: left");
     require(table_entry(&loads, 0) == 6 && table_entry(&loads, 1) == 4, "bench 0 booked: loads");
-    require(table_entry(&answer, 0) == 6, "bench 0 booked: largest load");
-    require(table_entry(&answer, 1) == 2, "bench 0 booked: moves");
+    require_answer(6, 2, 0, "bench 0 booked: largest load, moves, fullest bench");
     require_entries(&loads, 2, "bench 0 booked: behind the loads");
     fields.booked[0] = 0;
     fields.booked[1] = 7;
     fields.jobs = 1;
-    require(plan_fields(&fields, 8, 16, 16) == YINQOCHA_PLAN, "7 booked of 4: a plan");
+    require(plan_fields(&fields, 8, 16, ANSWER_BYTES) == YINQOCHA_PLAN, "7 booked of 4: a plan");
     require(table_entry(&loads, 0) == 2 && table_entry(&loads, 1) == 7, "7 booked of 4: loads");
-    require(table_entry(&answer, 0) == 7, "7 booked of 4: largest load");
+    require_answer(7, 0, 1, "7 booked of 4: largest load, moves, fullest bench");
     fields.booked[1] = 8;
-    require(plan_fields(&fields, 8, 16, 16) == YINQOCHA_NONE, "8 booked of 4: none");
-    require(table_entry(&answer, 0) == YINQOCHA_BENCH(1), "8 booked of 4: bench 1");
+    require(plan_fields(&fields, 8, 16, ANSWER_BYTES) == YINQOCHA_NONE, "8 booked of 4: none");
+    require_answer(YINQOCHA_BENCH(1), 0, 0, "8 booked of 4: bench 1");
     fields.minutes[0] = 5;
-    require(plan_fields(&fields, 8, 16, 16) == YINQOCHA_LONG, "8 booked and a job of 5: long");
+    require(plan_fields(&fields, 8, 16, ANSWER_BYTES) == YINQOCHA_LONG, "a job of 5 of 4: long");
+    require_answer(0, 0, 0, "a job of 5 of 4: job 0");
     printf("door: booked minutes are in the loads and in the answer\n");
 }
 

@@ -2,13 +2,14 @@
  * The C door, from C. Writing: example 12's bytes, each fault of the writer, empty buffers, and
  * outputs that fit exactly or lack one byte. Planning: sheets that were written, with each of the
  * three answers, and tables that fit exactly or lack one byte. Comparing: plans, and lists that are
- * none. bookings.h has the checks of booked benches, door.h what all checks use. From the
- * repository root, after `rt staticlib yinqocha`:
+ * none. bookings.h has the checks of booked benches, answers.h those of the answer table, door.h
+ * what all checks use. From the repository root, after `rt staticlib yinqocha`:
  *
  *     gcc -std=c11 -Wall -Wextra -Werror -Iinclude tests/c/door.c \
  *         target/staticlib/libyinqocha.a -o target/door
  */
 
+#include "answers.h"
 #include "bookings.h"
 #include "door.h"
 #include "yinqocha.h"
@@ -119,19 +120,17 @@ static void plans(void)
     for (size_t j = 0; j < 4; j++)
         fields.minutes[j] = 2;
     const uint64_t benches[] = { 1, 0, 0, 0 };
-    require(plan_fields(&fields, 32, 16, 16) == YINQOCHA_PLAN, "example 8: a plan");
+    require(plan_fields(&fields, 32, 16, ANSWER_BYTES) == YINQOCHA_PLAN, "example 8: a plan");
     for (size_t j = 0; j < 4; j++)
         require(table_entry(&places, j) == benches[j], "example 8: places");
     require(table_entry(&loads, 0) == 6 && table_entry(&loads, 1) == 2, "example 8: loads");
-    require(table_entry(&answer, 0) == 6, "example 8: largest load");
-    require(table_entry(&answer, 1) == 1, "example 8: moves");
+    require_answer(6, 1, 0, "example 8: largest load, moves, fullest bench");
     require_entries(&places, 4, "example 8: behind the places");
     require_entries(&loads, 2, "example 8: behind the loads");
-    require_entries(&answer, YINQOCHA_ANSWER_ENTRIES, "example 8: behind the answer");
     require(plan_fields(&fields, 47, 31, 4096) == YINQOCHA_PLAN, "longer tables: a plan");
     require_entries(&places, 4, "longer tables: later places");
     require_entries(&loads, 2, "longer tables: later loads");
-    require_entries(&answer, YINQOCHA_ANSWER_ENTRIES, "longer tables: behind the answer");
+    require_answer(6, 1, 0, "longer tables: the answer");
     printf("door: a plan has its places, loads and numbers, later bytes are untouched\n");
 }
 
@@ -140,41 +139,31 @@ static void long_and_none(void)
     struct fields fields = example_5(3);
     fields.target = 8;
     fields.minutes[1] = 9;
-    require(plan_fields(&fields, 24, 16, 16) == YINQOCHA_LONG, "long");
-    require(table_entry(&answer, 0) == 1 && table_entry(&answer, 1) == 0, "long: job 1, and 0");
+    require(plan_fields(&fields, 24, 16, ANSWER_BYTES) == YINQOCHA_LONG, "long");
+    require_answer(1, 0, 0, "long: job 1, 0 and 0");
     require_entries(&places, 0, "long: places");
     require_entries(&loads, 0, "long: loads");
-    require_entries(&answer, YINQOCHA_ANSWER_ENTRIES, "long: behind the answer");
     fields.minutes[1] = 5;
-    require(plan_fields(&fields, 24, 16, 16) == YINQOCHA_NONE, "example 4: none");
+    require(plan_fields(&fields, 24, 16, ANSWER_BYTES) == YINQOCHA_NONE, "example 4: none");
     uint64_t set = table_entry(&answer, 0);
     require(set == (YINQOCHA_BENCH(0) | YINQOCHA_BENCH(1)), "example 4: benches 0 and 1");
     require(YINQOCHA_HAS_BENCH(set, 1) && !YINQOCHA_HAS_BENCH(set, 2), "example 4: bench by bench");
-    require(table_entry(&answer, 1) == 0, "example 4: moves");
+    require_answer(set, 0, 0, "example 4: the set, 0 moves, and 0");
     require_entries(&places, 0, "example 4: places");
     require_entries(&loads, 0, "example 4: loads");
-    require_entries(&answer, YINQOCHA_ANSWER_ENTRIES, "example 4: behind the answer");
-    printf("door: long and none have their two numbers, places and loads are untouched\n");
-}
-
-static void require_plan_fault(uint64_t word, uint32_t number, uint32_t place, const char *what)
-{
-    require(YINQOCHA_FAULT(word) == number, what);
-    require(YINQOCHA_VALUE(word) == place, what);
-    require_entries(&places, 0, what);
-    require_entries(&loads, 0, what);
-    require_entries(&answer, 0, what);
+    printf("door: long and none have their three numbers, places and loads are untouched\n");
 }
 
 static void plan_faults(void)
 {
     struct fields fields = example_5(3);
-    require(plan_fields(&fields, 24, 16, 16) == YINQOCHA_PLAN, "tables that fit exactly");
-    require_plan_fault(plan_fields(&fields, 23, 16, 16), YINQOCHA_NO_ROOM, 0, "places too short");
-    require_plan_fault(plan_fields(&fields, 24, 15, 16), YINQOCHA_NO_ROOM, 0, "loads too short");
-    require_plan_fault(plan_fields(&fields, 24, 16, 15), YINQOCHA_NO_ROOM, 0, "answer too short");
+    require(plan_fields(&fields, 24, 16, 24) == YINQOCHA_PLAN, "tables that fit exactly");
+    require_plan_fault(plan_fields(&fields, 23, 16, 24), YINQOCHA_NO_ROOM, 0, "places too short");
+    require_plan_fault(plan_fields(&fields, 24, 15, 24), YINQOCHA_NO_ROOM, 0, "loads too short");
+    require_plan_fault(plan_fields(&fields, 24, 16, 23), YINQOCHA_NO_ROOM, 0, "answer too short");
+    require_plan_fault(plan_fields(&fields, 24, 16, 16), YINQOCHA_NO_ROOM, 0, "two entries");
     fields.target = 4;
-    require_plan_fault(plan_fields(&fields, 24, 16, 8), YINQOCHA_NO_ROOM, 0, "before long");
+    require_plan_fault(plan_fields(&fields, 24, 16, 16), YINQOCHA_NO_ROOM, 0, "before long");
     uint64_t word = yinqocha_plan(example_12, sizeof example_12 - 1, table_start(&places), 0,
                                   table_start(&loads), 0, table_start(&answer), 0);
     require_plan_fault(word, YINQOCHA_SHEET_CUT, sizeof example_12 - 3, "a sheet cut off");
@@ -206,7 +195,7 @@ static void require_list_fault(uint64_t word, uint32_t place, const char *what)
 static void comparisons(void)
 {
     struct fields fields = example_5(3);
-    require(plan_fields(&fields, 24, 16, 16) == YINQOCHA_PLAN, "example 5: a plan");
+    require(plan_fields(&fields, 24, 16, ANSWER_BYTES) == YINQOCHA_PLAN, "example 5: a plan");
     const uint64_t planned[] = { table_entry(&places, 0), table_entry(&places, 1),
                                  table_entry(&places, 2), 0 };
     static const uint64_t all_on_0[] = { 0, 0, 0 }, last_on_1[] = { 0, 0, 1 };
@@ -239,6 +228,7 @@ int main(void)
     plan_faults();
     comparisons();
     bookings();
+    answer_tables();
     printf("door: all checks hold\n");
     return EXIT_SUCCESS;
 }

@@ -91,6 +91,9 @@ struct table {
 
 static struct table places, loads, answer;
 
+/* The bytes of an answer table. */
+#define ANSWER_BYTES (8 * YINQOCHA_ANSWER_ENTRIES)
+
 static uint8_t *table_start(struct table *table)
 {
     return table->bytes + GUARD;
@@ -112,6 +115,15 @@ static void require_entries(const struct table *table, size_t entries, const cha
             require(table->bytes[i] == FILL, what);
 }
 
+/* The answer table has these entries, and nothing behind them was written. */
+static void require_answer(uint64_t first, uint64_t second, uint64_t third, const char *what)
+{
+    require(table_entry(&answer, 0) == first, what);
+    require(table_entry(&answer, 1) == second, what);
+    require(table_entry(&answer, 2) == third, what);
+    require_entries(&answer, YINQOCHA_ANSWER_ENTRIES, what);
+}
+
 /* The sheet of the fields is written, and planned with tables of these lengths in bytes. */
 static uint64_t plan_fields(const struct fields *fields, size_t places_len, size_t loads_len,
                             size_t answer_len)
@@ -125,6 +137,15 @@ static uint64_t plan_fields(const struct fields *fields, size_t places_len, size
                                   table_start(&loads), loads_len, table_start(&answer), answer_len);
     require_untouched_after(length, "the sheet's guards");
     return word;
+}
+
+static void require_plan_fault(uint64_t word, uint32_t number, uint32_t place, const char *what)
+{
+    require(YINQOCHA_FAULT(word) == number, what);
+    require(YINQOCHA_VALUE(word) == place, what);
+    require_entries(&places, 0, what);
+    require_entries(&loads, 0, what);
+    require_entries(&answer, 0, what);
 }
 
 #endif /* DOOR_H */

@@ -3,10 +3,12 @@
 --     one-move          example 8 reaches a state by a move, so that the theorems about such states are not empty
 --     errors-shut-out   for every row of the second table the answer is not that of a run with the error
 --     bookings-hold     for every row of the third table the answer is that of the day with its bookings
+--     fullest-named     for every row of the fourth table the answer names the fullest bench
 use mathlib.Core.Path.{_≡_, refl}
 use mathlib.Core.List.{[], _∷_, map}
 use Rattle.bits.specs.Bits.{isSet}
 use Rattle.sums.specs.Members.{members}
+use Rattle.sums.specs.Sum.{fullest}
 use Rattle.closure.specs.Closure.{grow, closure, reach}
 use Rattle.fields.specs.Tests.{bookedFaults, hyperEdgeVerdict}
 use Rattle.fields.specs.Format.{bookedFrom}
@@ -23,10 +25,12 @@ use Rattle.algorithm.specs.Run.{ownMinutes, nextState, answerAt, turns, 
 use Rattle.algorithm.specs.States.{Reached, at-start, by-move}
 use Rattle.algorithm.specs.Answer.{planContents}
 use Rattle.day.specs.SmallSheets.{dayWith, bay, both}
-use Rattle.algorithm.specs.Examples.{examples, errorExamples, bookedExamples}
+use Rattle.algorithm.specs.Examples.{examples, errorExamples, bookedExamples, fullestExamples}
 
 pub examples-hold : map (λ e. planContents (e .contents)) examples ≡ map (λ e. e .reply) examples
-unfolding examples isSet grow closure reach hyperEdgeVerdict bookedFrom bookedFaults jobsVerdict openingVerdict writerVerdict lowest highest longJob rockLoad inner outer conflictSet construct activate openRound rounds explore follow settleFrom crowdedBench oneCycle peel start ownMinutes answerAt turns run members setOf
+unfolding examples fullest isSet grow closure reach hyperEdgeVerdict bookedFrom bookedFaults jobsVerdict
+    openingVerdict writerVerdict lowest highest longJob rockLoad inner outer conflictSet construct activate openRound
+    rounds explore follow settleFrom crowdedBench oneCycle peel start ownMinutes answerAt turns run members setOf
 examples-hold = refl
 
 abbrev day8 : Day
@@ -37,9 +41,19 @@ unfolding isSet grow closure reach lowest highest longJob rockLoad inner outer c
 one-move = by-move (at-start refl refl) refl
 
 pub errors-shut-out : map (λ e. planContents (e .contents)) errorExamples ≡ map (λ e. e .reply) errorExamples
-unfolding errorExamples isSet grow closure reach hyperEdgeVerdict bookedFrom bookedFaults jobsVerdict openingVerdict writerVerdict lowest highest longJob rockLoad inner outer conflictSet construct activate openRound rounds explore follow settleFrom crowdedBench oneCycle peel start ownMinutes answerAt turns run members setOf
+unfolding errorExamples fullest isSet grow closure reach hyperEdgeVerdict bookedFrom bookedFaults jobsVerdict
+    openingVerdict writerVerdict lowest highest longJob rockLoad inner outer conflictSet construct activate openRound
+    rounds explore follow settleFrom crowdedBench oneCycle peel start ownMinutes answerAt turns run members setOf
 errors-shut-out = refl
 
 pub bookings-hold : map (λ e. planContents (e .contents)) bookedExamples ≡ map (λ e. e .reply) bookedExamples
-unfolding bookedExamples isSet grow closure reach hyperEdgeVerdict bookedFrom bookedFaults jobsVerdict openingVerdict writerVerdict lowest highest longJob rockLoad inner outer conflictSet construct activate openRound rounds explore follow settleFrom crowdedBench oneCycle peel start ownMinutes answerAt turns run members setOf
+unfolding bookedExamples fullest isSet grow closure reach hyperEdgeVerdict bookedFrom bookedFaults jobsVerdict
+    openingVerdict writerVerdict lowest highest longJob rockLoad inner outer conflictSet construct activate openRound
+    rounds explore follow settleFrom crowdedBench oneCycle peel start ownMinutes answerAt turns run members setOf
 bookings-hold = refl
+
+pub fullest-named : map (λ e. planContents (e .contents)) fullestExamples ≡ map (λ e. e .reply) fullestExamples
+unfolding fullestExamples fullest isSet grow closure reach hyperEdgeVerdict bookedFrom bookedFaults jobsVerdict
+    openingVerdict writerVerdict lowest highest longJob rockLoad inner outer conflictSet construct activate openRound
+    rounds explore follow settleFrom crowdedBench oneCycle peel start ownMinutes answerAt turns run members setOf
+fullest-named = refl

@@ -1,4 +1,5 @@
 -- The planner's reply (document 01, "The three answers"): to a day, to the contents of a sheet, to its bytes.
+--     planShown d ps moves    the plan with the places ps, as a reply: their loads, the largest, and the fullest bench
 --     shown d o               an outcome of the run as a reply, the benches of a set rising
 --     answerTo d              the reply to a day
 --     planContents c          the reply to the contents c, with the faults 7 to 12 and 14
@@ -15,13 +16,17 @@ use Rattle.fields.specs.declared.fault.Fault.the-variants.{Table}
 use Rattle.fields.specs.declared.fault.Verdict.the-variants.{Accepted, Refused}
 use Rattle.frame.specs.Reading.{accepted, refused, readSheet}
 use Rattle.frame.specs.Writing.{writerVerdict}
-use Rattle.day.specs.Day.{Day, dayOf, loadsOf, largestOf}
+use Rattle.day.specs.Day.{Day, dayOf, loadsOf, largestOf, fullestOf}
 use Rattle.answers.specs.Answers.{Reply, planReply, longReply, noneReply, faultReply}
 use Rattle.algorithm.specs.Run.{Outcome, planned, long, blocked, run}
 
+abbrev pub planShown : Day → List ℕ → ℕ → Reply
+planShown d places moves =
+    planReply (record { largest = largestOf d places; moves = moves; fullest = fullestOf d places })
+    places (loadsOf d places)
+
 abbrev pub shown : Day → Outcome → Reply
-shown d (planned places moves) =
-    planReply (record { largest = largestOf d places; moves = moves }) places (loadsOf d places)
+shown d (planned places moves) = planShown d places moves
 shown d (long j) = longReply j
 shown d (blocked set moves) = noneReply (members (d .benches) set) moves
 

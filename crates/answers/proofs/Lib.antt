@@ -1,2 +1,3 @@
 pub mod SetLaws
 pub mod FilledLaws
+pub mod CaseExamples

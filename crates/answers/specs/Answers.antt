@@ -36,7 +36,7 @@ pub record Reply : Type 0 where
   pub loads : List ℕ
 
 -- "Plan: the largest load, and the moves made. Entry j of the first table is job j's bench, entry b of the second is
--- bench b's load"
+-- bench b's load"; by request S-2 it carries the fullest bench too.
 abbrev pub planReply : PlanAnswer → List ℕ → List ℕ → Reply
 planReply p places loads = record { answer = Plan p; places = places; loads = loads }
 
@@ -61,11 +61,11 @@ pub record Case : Type 0 where
   pub number : ℕ
   pub values : List ℕ
 
--- 1 plan, 2 long, 3 none; a fault has its own number and its place.
+-- 1 plan, 2 long, 3 none, each with three values; a fault has its own number and its place.
 abbrev pub caseOf : Answer → Case
-caseOf (Plan p) = record { number = 1; values = p .largest ∷ p .moves ∷ [] }
-caseOf (Long l) = record { number = 2; values = l .job ∷ 0 ∷ [] }
-caseOf (None n) = record { number = 3; values = n .set ∷ n .moves ∷ [] }
+caseOf (Plan p) = record { number = 1; values = p .largest ∷ p .moves ∷ p .fullest ∷ [] }
+caseOf (Long l) = record { number = 2; values = l .job ∷ 0 ∷ 0 ∷ [] }
+caseOf (None n) = record { number = 3; values = n .set ∷ n .moves ∷ 0 ∷ [] }
 caseOf (Faulty f) = record { number = numberOf f; values = placeOf f ∷ [] }
 
 -- ── tables ──

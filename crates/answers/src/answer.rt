@@ -1,10 +1,11 @@
 // The answers of the planner.
 use fields::Fault;
 
-// A plan: its largest load, and the moves made.
+// A plan: its largest load, the moves made, and the lowest bench that has the largest load.
 pub struct PlanAnswer {
     pub largest: u64,
     pub moves: u64,
+    pub fullest: u64,
 }
 
 // The lowest job with more minutes than the target.

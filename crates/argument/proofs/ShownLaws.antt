@@ -1,6 +1,7 @@
 -- What the planner shows of an outcome: loads, largest load and the list of benches.
 --     blocking-cong        sets with the same benches block alike
---     plan-shown           the loads shown of an assignment within the bound are its loads, and the largest is the greatest of them
+--     plan-shown           the loads shown of an assignment within the bound are its loads, the largest is the greatest
+--                          of them, and the fullest bench the lowest that has it
 --     none-shown           the benches shown of a blocking set rise, are the day's, and block
 use Prim.Native.Nat.{ℕ, _*_, _≤_, _<_}
 use mathlib.Core.Path.{_≡_, sym, ap, _∙_}
@@ -16,9 +17,9 @@ use Rattle.sums.proofs.SumLaws.{sum-cong}
 use Rattle.sums.proofs.CountLaws.{count-cong}
 use Rattle.sums.proofs.SearchLaws.{all-elim, all-cong}
 use Rattle.sums.proofs.TableLaws.{length-table, getD-table}
-use Rattle.sums.proofs.LargestLaws.{largest-bound, largest-at}
+use Rattle.sums.proofs.LargestLaws.{largest-bound, largest-at, fullest-is}
 use Rattle.sums.proofs.MembersLaws.{length-members, member-below, members-rise}
-use Rattle.day.specs.Day.{Day, heavy, light, placeIn, loadOf, loadsOf, largestOf, withinBound, moveBound}
+use Rattle.day.specs.Day.{Day, heavy, light, placeIn, loadOf, loadsOf, largestOf, fullestOf, withinBound, moveBound}
 use Rattle.demand.specs.Demand.{Assignment, keepsBound, Placement, keptInside, liesInside, Blocking}
 use Rattle.answers.specs.Answers.{oneOf}
 use Rattle.answers.proofs.SetLaws.{oneOf-members}
@@ -65,8 +66,10 @@ module _ (d : Day) (allowed-below : (j v : ℕ) → d .allows j v ≡ true → v
 
 pub plan-shown : (d : Day) (places : List ℕ) (moves : ℕ) → 0 < d .benches → length places ≡ d .jobs → Assignment d (placeIn places)
     → keepsBound d (placeIn places) ≡ true → moves ≤ moveBound d
-    → SoundPlan d (record { largest = largestOf d places; moves = moves }) places (loadsOf d places)
+    → SoundPlan d (record { largest = largestOf d places; moves = moves; fullest = fullestOf d places })
+    places (loadsOf d places)
 plan-shown d places moves some sized assigned keeps few =
+    let F = fullest-is (d .benches) (loadOf d (placeIn places)) some .0 in
     record {
       one-to-a-job = sized;
       assignment = assigned;
@@ -74,6 +77,10 @@ plan-shown d places moves some sized assigned keeps few =
       its-loads = its-load;
       greatest = λ v l. rw (its-load v l) (largest-bound (d .benches) (loadOf d (placeIn places)) v l);
       one-of-them = let (v, l, e) = largest-at (d .benches) (loadOf d (placeIn places)) some in (v, l, its-load v l ∙ e);
+      fullest-bench = F .one-of-them;
+      fullest-load = its-load (fullestOf d places) (F .one-of-them) ∙ F .has-largest;
+      lower-less = λ v l.
+          omega (arith, its-load v (omega (arith, F .one-of-them)), F .lower-less v l, F .has-largest);
       within-bound = λ v l. rw (its-load v l) (all-elim (d .benches) (λ v. withinBound d (loadOf d (placeIn places) v)) keeps v l);
       few-moves = few;
     }

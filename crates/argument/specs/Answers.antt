@@ -31,6 +31,10 @@ pub record SoundPlan (d : Day) (p : PlanAnswer) (places loads : List ℕ) : Type
   pub its-loads : (v : ℕ) → v < d .benches → getD loads v 0 ≡ loadOf d (placeIn places) v
   pub greatest : (v : ℕ) → v < d .benches → getD loads v 0 ≤ p .largest
   pub one-of-them : (v : ℕ) × (v < d .benches) × (getD loads v 0 ≡ p .largest)
+  -- Request S-2: "the fullest bench, the lowest on a tie".
+  pub fullest-bench : p .fullest < d .benches
+  pub fullest-load : getD loads (p .fullest) 0 ≡ p .largest
+  pub lower-less : (v : ℕ) → v < p .fullest → getD loads v 0 < p .largest
   pub within-bound : (v : ℕ) → v < d .benches → withinBound d (getD loads v 0) ≡ true
   pub few-moves : p .moves ≤ moveBound d
 

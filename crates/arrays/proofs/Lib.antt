@@ -2,4 +2,3 @@ pub mod ArrayLaws
 pub mod CountRun
 pub mod FilledLaws
 pub mod NumberLaws
-pub mod LoadLaws

@@ -1,19 +1,14 @@
--- Laws of sums and products that stop, and of the higher of two numbers.
+-- Laws of sums and products that stop.
 --     plus-one, plus-fits            sums that do not stop
 --     times-fits, times-exact        products of small numbers
---     largest-more                   the greatest of one number more
-use Prim.Native.Nat.{ℕ, suc, _+_, _<_, _^_, _*_, _≤_, max}
-use mathlib.Core.Path.{_≡_, _∙_}
+use Prim.Native.Nat.{ℕ, suc, _+_, _<_, _^_, _*_, _≤_}
+use mathlib.Core.Path.{_≡_}
 use native.Mathlib.Omega.{arith}
-use Rattle.arrays.specs.Arrays.{plusOf, timesOf, higherOf}
+use Rattle.arrays.specs.Arrays.{plusOf, timesOf}
 use native.Mathlib.Nat.{mul-le-mul}
 use lib.Dec.{ltb}
 use borrow.Author.Tests.{lt-ltb, le-ltb}
 use Rattle.bools.proofs.BoolLaws.{and-false-right}
-use native.Mathlib.Numerals.{add-one}
-use mathlib.Core.Logic.{inl, inr}
-use Rattle.bools.proofs.OrderLaws.{lt-or-le}
-use Rattle.sums.specs.Sum.{largest}
 
 pub plus-one : (u : ℕ) → u < 2 ^ 63 → plusOf u 1 ≡ suc u
 plus-one u h = omega arith
@@ -37,20 +32,3 @@ times-wide a b h = rw (le-ltb a 1048576 h)
 
 pub times-far : (a b : ℕ) → 1073741824 ≤ b → timesOf a b ≡ 0
 times-far a b h = rw (and-false-right (ltb a 1048576) (le-ltb b 1073741824 h))
-
--- ── one law for each way in which the functions return ──
-
-pub higher-second : (a b : ℕ) → a < b → b ≡ higherOf a b
-higher-second a b h = rw (lt-ltb a b h)
-
-pub higher-first : (a b : ℕ) → b ≤ a → a ≡ higherOf a b
-higher-first a b h = rw (le-ltb a b h)
-
-higher-max : (a b : ℕ) → higherOf a b ≡ max a b
-higher-max a b = elim (lt-or-le a b) [
-  | inl h ↦ rw (lt-ltb a b h) (omega arith)
-  | inr h ↦ rw (le-ltb a b h) (omega arith)
-]
-
-pub largest-more : (f : ℕ → ℕ) (v : ℕ) {most l next : ℕ} → most ≡ largest v f → l ≡ f v → next ≡ higherOf most l → next ≡ largest (v + 1) f
-largest-more f v {most} {l} e a b = rw add-one (b ∙ higher-max most l ∙ cc)

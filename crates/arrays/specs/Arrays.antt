@@ -2,7 +2,6 @@
 --     plusOf a b            a + b, and the greatest number where that does not fit
 --     timesOf a b           a × b for a below 2^20 and b below 2^30, and else 0
 --     lowerOf counts u v    the lower of v and u where u counts, else v
---     higherOf a b          the higher of two numbers
 --     filled n f xs         xs with f i at each place i below n
 use Prim.Native.Nat.{ℕ, zero, suc, _+_, _*_, min}
 use mathlib.Core.Bool.{Bool, cond, _&&_}
@@ -21,9 +20,6 @@ timesOf a b = cond (ltb a 1048576 && ltb b 1073741824) (a * b) 0
 
 abbrev pub lowerOf : Bool → ℕ → ℕ → ℕ
 lowerOf counts u v = cond (counts && ltb u v) u v
-
-abbrev pub higherOf : ℕ → ℕ → ℕ
-higherOf a b = cond (ltb a b) b a
 
 -- ── lists ──
 

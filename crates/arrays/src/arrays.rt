@@ -5,8 +5,8 @@ ghost use Prim.Native.Nat.{ℕ, _+_, _-_, _%_, _<_, _≤_, min};
 ghost use mathlib.Core.Bool.{false, cond};
 ghost use lib.ListN.{getD, set, length};
 ghost use lib.Dec.{ltb};
-ghost use Rattle.sums.specs.Sum.{on, count, largest};
-ghost use Rattle.arrays.specs.Arrays.{timesOf, filled, plusOf, lowerOf, higherOf};
+ghost use Rattle.sums.specs.Sum.{on, count};
+ghost use Rattle.arrays.specs.Arrays.{timesOf, filled, plusOf, lowerOf};
 
 // Entry i, and 0 past the end.
 pub fn at(t: &[usize], i: usize) -> usize
@@ -205,24 +205,4 @@ pub fn to_bytes(n: usize, from: &[usize], to: &mut [u8])
         put_byte(to, i, at(from, i));
         i += 1;
     }
-}
-
-// The higher of two numbers.
-fn higher(a: usize, b: usize) -> usize
-    ensures { λ r. ⌜ r ≡ higherOf a b ⌝ }
-{
-    if a < b { b } else { a }
-}
-
-// The greatest of the first entries.
-pub fn greatest(benches: usize, load: &[usize]) -> usize
-    ensures { λ r. ⌜ r ≡ largest benches (λ v. getD (now (load .entry)) v 0) ⌝ }
-{
-    let mut most = 0;
-    let mut v = 0;
-    while v < benches {
-        most = higher(most, at(load, v));
-        v += 1;
-    }
-    most
 }

@@ -1,7 +1,6 @@
 // Arrays read and written at any index, and numbers that stop at the greatest. None of these asks anything of its
 // caller.
 mod arrays;
-mod loads;
 
 pub use arrays::at;
 pub use arrays::byte;
@@ -9,7 +8,6 @@ pub use arrays::count;
 pub use arrays::entry;
 pub use arrays::exceeds;
 pub use arrays::from_bytes;
-pub use arrays::greatest;
 pub use arrays::holds;
 pub use arrays::least;
 pub use arrays::lower;
@@ -24,4 +22,3 @@ pub use arrays::times;
 pub use arrays::to_bytes;
 pub use arrays::where_marked;
 pub use arrays::widen;
-pub use loads::own_loads;

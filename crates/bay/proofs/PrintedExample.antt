@@ -4,6 +4,7 @@ use mathlib.Core.Path.{_≡_, refl}
 use mathlib.Core.List.{List, [], _∷_}
 use Rattle.bits.specs.Bits.{bit, bits, isSet}
 use Rattle.sums.specs.Members.{members}
+use Rattle.sums.specs.Sum.{fullest}
 use Rattle.closure.specs.Closure.{grow, closure, reach}
 use Rattle.fields.specs.Tests.{hyperEdgeVerdict}
 use Rattle.frame.specs.Reading.{frameFaults, after, readFrom, readSheet}
@@ -26,10 +27,11 @@ sheet =
     ∷ 18 ∷ 0 ∷ 11 ∷ 0 ∷ 0 ∷ 88 ∷ 0 ∷ 0 ∷ 0 ∷ 0 ∷ 0 ∷ 0 ∷ 0 ∷ 0
     ∷ 19 ∷ 0 ∷ 0 ∷ []
 
--- "For example 2 it prints exactly two lines, `plan 5 0` (largest load, moves) and `0 0`"
-pub example-2 : printedLines sheet ≡ 112 ∷ 108 ∷ 97 ∷ 110 ∷ 32 ∷ 53 ∷ 32 ∷ 48 ∷ 10 ∷ 48 ∷ 32 ∷ 48 ∷ 10 ∷ []
+-- "For example 2 it prints exactly two lines", `plan 5 0 0` (largest load, moves, fullest bench) and `0 0`.
+pub example-2 : printedLines sheet ≡
+    112 ∷ 108 ∷ 97 ∷ 110 ∷ 32 ∷ 53 ∷ 32 ∷ 48 ∷ 32 ∷ 48 ∷ 10 ∷ 48 ∷ 32 ∷ 48 ∷ 10 ∷ []
 unfolding printedLines linesOf jobLines line spaced digits digitsWithin
-    answerFor readSheet readFrom frameFaults after hyperEdgeVerdict bit bits isSet members grow closure reach
+    fullest answerFor readSheet readFrom frameFaults after hyperEdgeVerdict bit bits isSet members grow closure reach
     lowest highest longJob rockLoad inner outer conflictSet construct activate openRound rounds explore
     follow settleFrom crowdedBench oneCycle peel start ownMinutes answerAt turns run
 example-2 = refl

@@ -104,10 +104,11 @@ module _ (c : Contents) (S : SoundSheet c) where
       omega (arith, below, S .head .at-most-64-benches)
 
   answer-size : {a : Reply} → SoundAnswer day a → length (textOf a) ≤ 32768
-  answer-size (plan-sound {places = places} {loads = loads} p) =
+  answer-size (plan-sound {p = plan} {places = places} {loads = loads} p) =
       let (v, l, e) = p .one-of-them in
       let largest = subst (λ (n : ℕ). n < 10 ^ 20) e (load-small (getD loads v 0) (p .within-bound v l)) in
-      text-size _ places (largest, moves-small _ (p .few-moves))
+      let fullest : plan .fullest < 10 ^ 20 = omega (arith, p .fullest-bench, S .head .at-most-64-benches) in
+      text-size _ places (largest, moves-small _ (p .few-moves), fullest)
       (omega (arith, p .one-to-a-job, S .at-most-512-jobs)) (places-small p)
   answer-size (long-sound l) =
       text-size _ [] (omega (arith, l .is-long .is-job, S .at-most-512-jobs)) (omega arith)

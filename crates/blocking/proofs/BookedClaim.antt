@@ -17,6 +17,7 @@ use native.Mathlib.Omega.{arith}
 use Rattle.bools.proofs.BoolLaws.{clash}
 use Rattle.bits.specs.Bits.{isSet}
 use Rattle.sums.specs.Members.{members}
+use Rattle.sums.specs.Sum.{fullest}
 use Rattle.closure.specs.Closure.{grow, closure, reach}
 use Rattle.fields.specs.Contents.{Contents}
 use Rattle.fields.specs.Format.{bookedFrom, sheetBytes}
@@ -51,14 +52,15 @@ abbrev bytes8 : List ℕ
 bytes8 = sheetBytes booked8
 
 abbrev bookedReply : Reply
-bookedReply = planReply (planOf 6 2) (1 ∷ 1 ∷ 0 ∷ 0 ∷ []) (6 ∷ 4 ∷ [])
+bookedReply = planReply (planOf 6 2 0) (1 ∷ 1 ∷ 0 ∷ 0 ∷ []) (6 ∷ 4 ∷ [])
 
 pub read-booked : readSheet bytes8 ≡ accepted booked8
 unfolding isSet hyperEdgeVerdict bookedFrom bookedFaults jobsVerdict openingVerdict writerVerdict
 read-booked = write-read-computed booked8 refl refl refl
 
 run-booked : answerTo (dayOf booked8) ≡ bookedReply
-unfolding isSet grow closure reach lowest highest longJob rockLoad inner outer conflictSet construct activate openRound rounds explore follow settleFrom crowdedBench oneCycle peel start ownMinutes answerAt turns run members
+unfolding fullest isSet grow closure reach lowest highest longJob rockLoad inner outer conflictSet construct activate
+    openRound rounds explore follow settleFrom crowdedBench oneCycle peel start ownMinutes answerAt turns run members
 run-booked = refl
 
 pub answer-booked : (np nl : ℕ) → shortTables booked8 np nl ≡ false → answerFor bytes8 np nl ≡ bookedReply
@@ -77,17 +79,17 @@ answerable = record { sheet-accepted = read-booked; place-to-a-job = omega arith
 abbrev Claimed : Answer → List ℕ → List ℕ → Type 0
 Claimed r places′ loads′ = PlannerClaim bytes8 fourPlaces twoLoads r places′ loads′
 
-pub booked-claimed : Claimed (Plan (planOf 6 2)) (1 ∷ 1 ∷ 0 ∷ 0 ∷ []) (6 ∷ 4 ∷ [])
+pub booked-claimed : Claimed (Plan (planOf 6 2 0)) (1 ∷ 1 ∷ 0 ∷ 0 ∷ []) (6 ∷ 4 ∷ [])
 booked-claimed = rw (answer-booked 4 2 refl) at (planner-claim bytes8 fourPlaces twoLoads)
 
-pub loads-without-bookings : Claimed (Plan (planOf 4 2)) (1 ∷ 1 ∷ 0 ∷ 0 ∷ []) (4 ∷ 4 ∷ []) → ⊥
+pub loads-without-bookings : Claimed (Plan (planOf 4 2 0)) (1 ∷ 1 ∷ 0 ∷ 0 ∷ []) (4 ∷ 4 ∷ []) → ⊥
 loads-without-bookings c =
-    omega (arith, c .plan-right booked8 answerable (planOf 4 2) refl .its-loads 0 (omega arith))
+    omega (arith, c .plan-right booked8 answerable (planOf 4 2 0) refl .its-loads 0 (omega arith))
 
 -- 21 × 8 = 168 is above 39 × 4 = 156.
-pub bound-without-bookings : Claimed (Plan (planOf 8 1)) (1 ∷ 0 ∷ 0 ∷ 0 ∷ []) (8 ∷ 2 ∷ []) → ⊥
+pub bound-without-bookings : Claimed (Plan (planOf 8 1 0)) (1 ∷ 0 ∷ 0 ∷ 0 ∷ []) (8 ∷ 2 ∷ []) → ⊥
 bound-without-bookings c =
-    clash (c .plan-right booked8 answerable (planOf 8 1) refl .within-bound 0 (omega arith)) refl
+    clash (c .plan-right booked8 answerable (planOf 8 1 0) refl .within-bound 0 (omega arith)) refl
 
 -- ── a booking alone ──
 
@@ -112,9 +114,9 @@ answer-only-booked = rw (only-read, answerFor) only-run
 only-answerable : Answerable onlyBytes [] (9 ∷ []) onlyBooked
 only-answerable = record { sheet-accepted = only-read; place-to-a-job = omega arith; load-to-a-bench = omega arith }
 
-pub booked-bench-planned : PlannerClaim onlyBytes [] (9 ∷ []) (Plan (planOf 0 0)) [] (0 ∷ []) → ⊥
+pub booked-bench-planned : PlannerClaim onlyBytes [] (9 ∷ []) (Plan (planOf 0 0 0)) [] (0 ∷ []) → ⊥
 booked-bench-planned c =
-    omega (arith, c .plan-right onlyBooked only-answerable (planOf 0 0) refl .its-loads 0 (omega arith))
+    omega (arith, c .plan-right onlyBooked only-answerable (planOf 0 0 0) refl .its-loads 0 (omega arith))
 
 pub booked-rival : (a : ℕ → ℕ) → Assignment (dayOf onlyBooked) a → SomeOver (dayOf onlyBooked) a
 booked-rival a each = (0, omega arith, omega arith)

@@ -7,7 +7,7 @@ use Prim.Native.Nat.{ℕ, _+_, _≤_, _<_}
 use mathlib.Core.Path.{_≡_, refl, sym, ap, subst, _∙_}
 use mathlib.Core.Logic.{_⊎_, inl, inr}
 use mathlib.Core.Bool.{true, false}
-use mathlib.Core.List.{List, _++_}
+use mathlib.Core.List.{List}
 use native.Mathlib.Omega.{arith}
 use lib.ListN.{length, getD, drop, length-append, length-drop, List·getD-append}
 use lib.Seq.{drop-append-seam}
@@ -15,7 +15,6 @@ use lib.Dec.{eqb, ltb}
 use borrow.Author.Tests.{lt-ltb, le-ltb, eqb-true}
 use Rattle.bools.proofs.BoolLaws.{clash, or-left, or-right, or-false}
 use Rattle.bools.proofs.OrderLaws.{lt-or-le}
-use Rattle.sums.specs.Sum.{on, sum}
 use Rattle.sums.proofs.SumLaws.{sum-cong}
 use Rattle.bits.proofs.SetBits.{isSet-past}
 use Rattle.sums.proofs.SearchLaws.{any-elim}
@@ -26,7 +25,7 @@ use Rattle.frame.specs.Reading.{accepted, refused, readSheet}
 use Rattle.frame.proofs.AcceptedLaws.{accepted-sound}
 use Rattle.frame.proofs.Stored.{read-cases, not-both-read, same-read}
 use Rattle.day.specs.Day.{Day, dayOf, placeIn, loadOf}
-use Rattle.demand.specs.Demand.{LongJob, EachFits, SoundLong}
+use Rattle.demand.specs.Demand.{SoundLong}
 use Rattle.answers.specs.declared.answer.Answer.{Answer}
 use Rattle.answers.specs.declared.answer.Answer.the-variants.{Plan, Long, None, Fault as Faulty}
 use Rattle.answers.specs.declared.answer.PlanAnswer.{PlanAnswer}
@@ -42,7 +41,7 @@ use Rattle.argument.specs.Answers.{isPlan, isLong, WholeClaim}
 use Rattle.argument.proofs.ShownLaws.{blocking-cong}
 use Rattle.answers.proofs.SetLaws.{setOf-lt, isSet-setOf}
 use Rattle.argument.proofs.Theorems.{whole-claim}
-use Rattle.blocking.specs.Claim.{SheetRefused, ShortFor, TablesShort, Answerable, CanAnswer, OneCase}
+use Rattle.blocking.specs.Claim.{SheetRefused, TablesShort, Answerable, CanAnswer, OneCase}
 use Rattle.blocking.specs.Claim.{Untouched, OneOfThree, a-plan, a-long, a-none, PlanInTables, inSet, NamedSet, PlannerClaim}
 
 -- ── the three kinds of calls ──
@@ -117,6 +116,9 @@ module _ (d : Day) where
         within-bound = λ v l. rw (load v l) (sound .within-bound v l);
         greatest = λ v l. rw (load v l) (sound .greatest v l);
         one-of-them = let (v, l, e) = sound .one-of-them in (v, l, load v l ∙ e);
+        fullest-bench = omega (arith, sound .fullest-bench);
+        fullest-load = omega (arith, load (p .fullest) (sound .fullest-bench), sound .fullest-load);
+        lower-less = λ v l. omega (arith, load v (omega (arith, sound .fullest-bench)), sound .lower-less v l);
         few-moves = sound .few-moves;
         later-places-kept = rw (← sound .one-to-a-job) (drop-append-seam ps (drop (length ps) places));
         later-loads-kept = rw (← sound .one-to-a-bench) (drop-append-seam ls (drop (length ls) loads));

@@ -16,6 +16,7 @@ use native.Mathlib.Omega.{arith}
 use lib.ListN.{length}
 use Rattle.bits.specs.Bits.{isSet}
 use Rattle.sums.specs.Members.{members}
+use Rattle.sums.specs.Sum.{fullest}
 use Rattle.closure.specs.Closure.{grow, closure, reach}
 use Rattle.fields.specs.Contents.{Contents}
 use Rattle.fields.specs.Tests.{bookedFaults, hyperEdgeVerdict}
@@ -46,9 +47,9 @@ contents8 = sheet (bay 2 4 7 4) (both 2 ∷ both 2 ∷ both 2 ∷ both 2 ∷ [])
 abbrev pub sheet8 : List ℕ
 sheet8 = sheetBytes contents8
 
--- Largest load 6, one move.
+-- Largest load 6, one move; bench 0 is the fullest.
 abbrev pub plan8 : PlanAnswer
-plan8 = record { largest = 6; moves = 1 }
+plan8 = record { largest = 6; moves = 1; fullest = 0 }
 
 abbrev pub reply8 : Reply
 reply8 = planReply plan8 (1 ∷ 0 ∷ 0 ∷ 0 ∷ []) (6 ∷ 2 ∷ [])
@@ -68,7 +69,8 @@ pub answerable-8 : Answerable sheet8 places loads contents8
 answerable-8 = record { sheet-accepted = read-8; place-to-a-job = omega arith; load-to-a-bench = omega arith }
 
 pub run-8 : answerTo (dayOf contents8) ≡ reply8
-unfolding isSet grow closure reach lowest highest longJob rockLoad inner outer conflictSet construct activate openRound rounds explore follow settleFrom crowdedBench oneCycle peel start ownMinutes answerAt turns run members
+unfolding fullest isSet grow closure reach lowest highest longJob rockLoad inner outer conflictSet construct activate
+    openRound rounds explore follow settleFrom crowdedBench oneCycle peel start ownMinutes answerAt turns run members
 run-8 = refl
 
 pub answer-8 : (np nl : ℕ) → shortTables contents8 np nl ≡ false → answerFor sheet8 np nl ≡ reply8

@@ -3,6 +3,8 @@
 --     right-claimed           the right answer is claimed
 --     load-not-its-own        a load that is not that of the places
 --     largest-too-small, largest-too-large    a largest load that is not the greatest of them
+--     fullest-has-less, fullest-lacking       as the fullest bench 1, which has less, and bench 2, which the head lacks
+--     higher-of-a-tie         loads 4 and 4, and bench 1 as the fullest
 --     load-above-bound        every job on its lowest bench: loads 8 and 0
 --     bench-lacking           a bench that the head lacks
 --     too-many-moves          9 moves; 2 benches × 4 light jobs are 8
@@ -52,14 +54,14 @@ use Rattle.answers.specs.declared.answer.Answer.the-variants.{Plan, Long, None,
 use Rattle.answers.specs.declared.answer.PlanAnswer.{PlanAnswer}
 use Rattle.answers.specs.declared.answer.LongAnswer.{LongAnswer}
 use Rattle.answers.specs.declared.answer.NoneAnswer.{NoneAnswer}
-use Rattle.blocking.specs.Claim.{Answerable, PlannerClaim}
+use Rattle.blocking.specs.Claim.{Answerable, PlanInTables, PlannerClaim}
 use Rattle.blocking.proofs.Claim.{planner-claim, no-fault}
 use Rattle.blocking.proofs.ClaimExamples.{contents8, sheet8, plan8, read-8, answer-8, exactPlaces, exactLoads, answerable-exact}
 use Rattle.blocking.proofs.ClaimExamples.{places, loads, answerable-8}
 
 -- The three answers, by their values.
-abbrev pub planOf : ℕ → ℕ → PlanAnswer
-planOf largest moves = record { largest = largest; moves = moves }
+abbrev pub planOf : ℕ → ℕ → ℕ → PlanAnswer
+planOf largest moves fullest = record { largest = largest; moves = moves; fullest = fullest }
 
 abbrev longOf : ℕ → LongAnswer
 longOf j = record { job = j }
@@ -85,40 +87,54 @@ rightLoads = 6 ∷ 2 ∷ []
 pub right-claimed : Claimed (Plan plan8) rightPlaces rightLoads
 right-claimed = rw (answer-8 4 2 refl) at (planner-claim sheet8 exactPlaces exactLoads)
 
-pub load-not-its-own : Claimed (Plan (planOf 6 1)) rightPlaces (6 ∷ 3 ∷ []) → ⊥
-load-not-its-own c = omega (arith, c .plan-right contents8 answerable-exact (planOf 6 1) refl .its-loads 1 (omega arith))
+-- What the claim says of this plan.
+planned : {p : PlanAnswer} {places′ loads′ : List ℕ} → Claimed (Plan p) places′ loads′
+    → PlanInTables (dayOf contents8) p exactPlaces exactLoads places′ loads′
+planned {p = p} c = c .plan-right contents8 answerable-exact p refl
 
-pub largest-too-small : Claimed (Plan (planOf 5 1)) rightPlaces rightLoads → ⊥
-largest-too-small c = omega (arith, c .plan-right contents8 answerable-exact (planOf 5 1) refl .greatest 0 (omega arith))
+pub load-not-its-own : Claimed (Plan (planOf 6 1 0)) rightPlaces (6 ∷ 3 ∷ []) → ⊥
+load-not-its-own c = omega (arith, planned c .its-loads 1 (omega arith))
 
-pub largest-too-large : Claimed (Plan (planOf 7 1)) rightPlaces rightLoads → ⊥
-largest-too-large c = let (v, l, e) = c .plan-right contents8 answerable-exact (planOf 7 1) refl .one-of-them in omega (arith, e, at-most v l)
+pub largest-too-small : Claimed (Plan (planOf 5 1 0)) rightPlaces rightLoads → ⊥
+largest-too-small c = omega (arith, planned c .greatest 0 (omega arith))
+
+pub largest-too-large : Claimed (Plan (planOf 7 1 0)) rightPlaces rightLoads → ⊥
+largest-too-large c = let (v, l, e) = planned c .one-of-them in omega (arith, e, at-most v l)
   where
     at-most : (v : ℕ) → v < 2 → getD rightLoads v 0 ≤ 6
     at-most zero l = omega arith
     at-most (suc zero) l = omega arith
     at-most (suc (suc v)) l = absurd (omega arith)
 
-pub load-above-bound : Claimed (Plan (planOf 8 0)) (0 ∷ 0 ∷ 0 ∷ 0 ∷ []) (8 ∷ 0 ∷ []) → ⊥
-load-above-bound c = clash (c .plan-right contents8 answerable-exact (planOf 8 0) refl .within-bound 0 (omega arith)) refl
+pub fullest-has-less : Claimed (Plan (planOf 6 1 1)) rightPlaces rightLoads → ⊥
+fullest-has-less c = omega (arith, planned c .fullest-load)
 
-pub bench-lacking : Claimed (Plan (planOf 4 0)) (0 ∷ 0 ∷ 2 ∷ 2 ∷ []) (4 ∷ 0 ∷ []) → ⊥
+pub fullest-lacking : Claimed (Plan (planOf 6 1 2)) rightPlaces rightLoads → ⊥
+fullest-lacking c = omega (arith, planned c .fullest-bench)
+
+pub higher-of-a-tie : Claimed (Plan (planOf 4 2 1)) (1 ∷ 1 ∷ 0 ∷ 0 ∷ []) (4 ∷ 4 ∷ []) → ⊥
+higher-of-a-tie c = omega (arith, planned c .lower-less 0 (omega arith))
+
+pub load-above-bound : Claimed (Plan (planOf 8 0 0)) (0 ∷ 0 ∷ 0 ∷ 0 ∷ []) (8 ∷ 0 ∷ []) → ⊥
+load-above-bound c = clash (planned c .within-bound 0 (omega arith)) refl
+
+pub bench-lacking : Claimed (Plan (planOf 4 0 0)) (0 ∷ 0 ∷ 2 ∷ 2 ∷ []) (4 ∷ 0 ∷ []) → ⊥
 unfolding isSet
-bench-lacking c = clash (c .plan-right contents8 answerable-exact (planOf 4 0) refl .assignment .on-allowed 2 (omega arith)) refl
+bench-lacking c = clash (planned c .assignment .on-allowed 2 (omega arith)) refl
 
-pub too-many-moves : Claimed (Plan (planOf 6 9)) rightPlaces rightLoads → ⊥
+pub too-many-moves : Claimed (Plan (planOf 6 9 0)) rightPlaces rightLoads → ⊥
 unfolding isSet
-too-many-moves c = omega (arith, c .plan-right contents8 answerable-exact (planOf 6 9) refl .few-moves)
+too-many-moves c = omega (arith, planned c .few-moves)
 
-pub tables-untouched : Claimed (Plan (planOf 6 1)) exactPlaces exactLoads → ⊥
+pub tables-untouched : Claimed (Plan (planOf 6 1 0)) exactPlaces exactLoads → ⊥
 unfolding isSet
-tables-untouched c = clash (c .plan-right contents8 answerable-exact (planOf 6 1) refl .assignment .on-allowed 0 (omega arith)) refl
+tables-untouched c = clash (planned c .assignment .on-allowed 0 (omega arith)) refl
 
-pub places-grown : Claimed (Plan (planOf 6 1)) (1 ∷ 0 ∷ 0 ∷ 0 ∷ 9 ∷ []) rightLoads → ⊥
-places-grown c = omega (arith, c .plan-right contents8 answerable-exact (planOf 6 1) refl .as-many-places)
+pub places-grown : Claimed (Plan (planOf 6 1 0)) (1 ∷ 0 ∷ 0 ∷ 0 ∷ 9 ∷ []) rightLoads → ⊥
+places-grown c = omega (arith, planned c .as-many-places)
 
-pub loads-grown : Claimed (Plan (planOf 6 1)) rightPlaces (6 ∷ 2 ∷ 9 ∷ []) → ⊥
-loads-grown c = omega (arith, c .plan-right contents8 answerable-exact (planOf 6 1) refl .as-many-loads)
+pub loads-grown : Claimed (Plan (planOf 6 1 0)) rightPlaces (6 ∷ 2 ∷ 9 ∷ []) → ⊥
+loads-grown c = omega (arith, planned c .as-many-loads)
 
 pub long-for-none-long : Claimed (Long (longOf 0)) exactPlaces exactLoads → ⊥
 long-for-none-long c = clash (c .long-right contents8 answerable-exact (longOf 0) refl .0 .is-long .longer) refl
@@ -162,13 +178,17 @@ fault-for-an-answer f c = no-fault (c .one-of-three contents8 answerable-exact) 
 -- ── longer tables ──
 
 abbrev ClaimedLonger : List ℕ → List ℕ → Type 0
-ClaimedLonger places′ loads′ = PlannerClaim sheet8 places loads (Plan (planOf 6 1)) places′ loads′
+ClaimedLonger places′ loads′ = PlannerClaim sheet8 places loads (Plan (planOf 6 1 0)) places′ loads′
+
+longer-planned : {places′ loads′ : List ℕ} → ClaimedLonger places′ loads′
+    → PlanInTables (dayOf contents8) (planOf 6 1 0) places loads places′ loads′
+longer-planned c = c .plan-right contents8 answerable-8 (planOf 6 1 0) refl
 
 pub later-place-changed : ClaimedLonger (1 ∷ 0 ∷ 0 ∷ 0 ∷ 8 ∷ []) (6 ∷ 2 ∷ 9 ∷ []) → ⊥
-later-place-changed c = omega (arith, first-entry (c .plan-right contents8 answerable-8 (planOf 6 1) refl .later-places-kept))
+later-place-changed c = omega (arith, first-entry (longer-planned c .later-places-kept))
 
 pub later-load-changed : ClaimedLonger (1 ∷ 0 ∷ 0 ∷ 0 ∷ 9 ∷ []) (6 ∷ 2 ∷ 8 ∷ []) → ⊥
-later-load-changed c = omega (arith, first-entry (c .plan-right contents8 answerable-8 (planOf 6 1) refl .later-loads-kept))
+later-load-changed c = omega (arith, first-entry (longer-planned c .later-loads-kept))
 
 -- ── two long jobs ──
 

@@ -81,6 +81,10 @@ pub record PlanInTables (d : Day) (p : PlanAnswer) (places loads places′ loads
   pub within-bound : (v : ℕ) → v < d .benches → withinBound d (getD loads′ v 0) ≡ true
   pub greatest : (v : ℕ) → v < d .benches → getD loads′ v 0 ≤ p .largest
   pub one-of-them : (v : ℕ) × (v < d .benches) × (getD loads′ v 0 ≡ p .largest)
+  -- Request S-2: the fullest bench is a bench of the head, has the largest load, and every lower bench has less.
+  pub fullest-bench : p .fullest < d .benches
+  pub fullest-load : getD loads′ (p .fullest) 0 ≡ p .largest
+  pub lower-less : (v : ℕ) → v < p .fullest → getD loads′ v 0 < p .largest
   pub few-moves : p .moves ≤ moveBound d
   pub later-places-kept : drop (d .jobs) places′ ≡ drop (d .jobs) places
   pub later-loads-kept : drop (d .benches) loads′ ≡ drop (d .benches) loads

@@ -38,9 +38,9 @@ use Rattle.day.specs.Day.{Day, dayOf, placeIn, loadOf}
 use Rattle.comparison.specs.declared.compared.Compared.{Compared}
 use Rattle.comparison.specs.declared.compared.Compared.the-variants.{Same, Different, Fault as ComparedFault}
 use Rattle.comparison.specs.Comparison.{givesEach, sameLoads, comparedOf, comparePlans}
-use Rattle.arrays.specs.Loads.{amountOn}
+use Rattle.loads.specs.Loads.{minutesOn}
 use Rattle.arrays.specs.Arrays.{filled}
-use Rattle.comparison.specs.CompareArrays.{fitsAt, givesIn, minutesOn, loadIn, LoadsFit, sameIn}
+use Rattle.comparison.specs.CompareArrays.{fitsAt, givesIn, loadIn, LoadsFit, sameIn}
 use Rattle.comparison.proofs.ComparedCases.{first-faulty, second-faulty, all-same, not-same}
 use Rattle.arrays.proofs.FilledLaws.{getD-filled}
 
@@ -75,11 +75,11 @@ module _ (k jobs : ℕ) (minutes list : List ℕ) (room : jobs ≤ k) {amount pl
     (ea : amount ≡ filled jobs (λ i. getD minutes i 0) (replicate {A = ℕ} k 0))
     (ep : place ≡ filled jobs (λ i. getD list i 0) (replicate {A = ℕ} k 0)) where
   abbrev added : ℕ → ℕ
-  added v = sum jobs (amountOn amount (replicate k false) place v)
+  added v = sum jobs (minutesOn amount place v)
 
-  amounts-are : (v : ℕ) → added v ≡ loadIn jobs minutes list v
-  amounts-are v =
-      sum-cong jobs (amountOn amount (replicate k false) place v) (minutesOn minutes list v)
+  minutes-are : (v : ℕ) → added v ≡ loadIn jobs minutes list v
+  minutes-are v =
+      sum-cong jobs (minutesOn amount place v) (minutesOn minutes list v)
       (λ j h.
       let wide : j < length (replicate {A = ℕ} k 0) = omega (arith, length-replicate {A = ℕ} k 0) in
       let a : getD amount j 0 ≡ getD minutes j 0 =
@@ -88,7 +88,7 @@ module _ (k jobs : ℕ) (minutes list : List ℕ) (room : jobs ≤ k) {amount pl
       let p : getD place j 0 ≡ getD list j 0 =
       ap (λ (x : List ℕ). getD x j 0) ep
       ∙ getD-filled (λ i. getD list i 0) jobs (replicate {A = ℕ} k 0) j 0 h wide in
-      rw (getD-replicate k j false false (omega arith), a, p))
+      rw (a, p))
 
   pub listed-loads : (m : ℕ) (load : List ℕ)
       → ((u : ℕ) → u < length (replicate {A = ℕ} m 0)
@@ -96,7 +96,7 @@ module _ (k jobs : ℕ) (minutes list : List ℕ) (room : jobs ≤ k) {amount pl
       → getD load u 0 ≡ getD {A = ℕ} (replicate {A = ℕ} m 0) u 0 + added u)
       → (v : ℕ) → v < m → loadIn jobs minutes list v < 2 ^ 63 → getD load v 0 ≡ loadIn jobs minutes list v
   listed-loads m load own v h fits =
-      let same = amounts-are v in
+      let same = minutes-are v in
       let none : getD {A = ℕ} (replicate {A = ℕ} m 0) v 0 ≡ 0 = getD-replicate {A = ℕ} m v 0 0 h in
       own v (omega (arith, length-replicate {A = ℕ} m 0)) (omega (arith, same, none)) ∙ omega (arith, same, none)
 

@@ -1,7 +1,6 @@
 -- The comparison of plans in arrays.
 --     fitsAt allowed list j     the list puts job j on a bench of its set
 --     givesIn jobs allowed list     the list gives each job one bench of its set
---     minutesOn minutes list v j    what job j puts on bench v
 --     loadIn jobs minutes list v    the load of bench v
 --     LoadsFit jobs minutes     every load of every list fits a number of the program
 --     Loads jobs minutes list loads     the array holds the loads of the list
@@ -12,19 +11,16 @@ use mathlib.Core.Bool.{Bool, _&&_}
 use mathlib.Core.List.{List}
 use lib.ListN.{length, getD}
 use lib.Dec.{eqb}
-use Rattle.sums.specs.Sum.{on, sum}
+use Rattle.sums.specs.Sum.{sum}
 use Rattle.sums.specs.Search.{all}
 use Rattle.bits.specs.Bits.{isSet}
+use Rattle.loads.specs.Loads.{minutesOn}
 
 abbrev pub fitsAt : List ℕ → List ℕ → ℕ → Bool
 fitsAt allowed list j = isSet 64 (getD allowed j 0) (getD list j 0)
 
 abbrev pub givesIn : ℕ → List ℕ → List ℕ → Bool
 givesIn jobs allowed list = eqb (length list) jobs && all jobs (fitsAt allowed list)
-
--- The minutes of job j where the list puts it on bench v.
-abbrev pub minutesOn : List ℕ → List ℕ → ℕ → ℕ → ℕ
-minutesOn minutes list v j = on (eqb (getD list j 0) v) (getD minutes j 0)
 
 abbrev pub loadIn : ℕ → List ℕ → List ℕ → ℕ → ℕ
 loadIn jobs minutes list v = sum jobs (minutesOn minutes list v)

@@ -51,13 +51,12 @@ fn gives_each<'a>(jobs: usize, allowed: &'a [u64], list: &'a [u64]) -> bool
 fn list_loads<'a>(jobs: usize, minutes: &'a [u64], list: &'a [u64]) -> [usize; 64]
     ensures { λ r. ⌜ (jobs ≤ 512 → Loads jobs (now (minutes .entry)) (now (list .entry)) r) ⌝ }
 {
-    let nothing = [false; 512];
     let mut amount = [0usize; 512];
     let mut place = [0usize; 512];
     let mut load = [0usize; 64];
     arrays::narrow(jobs, minutes, &mut amount);
     arrays::narrow(jobs, list, &mut place);
-    arrays::own_loads(jobs, &amount, &nothing, &place, &mut load);
+    loads::sum_benches(jobs, 64, &amount, &place, &mut load);
     load
 }
 

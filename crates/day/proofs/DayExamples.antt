@@ -3,6 +3,8 @@
 --     heavy-at-limit, heavy-above         q × minutes = p × T is light, more is heavy
 --     long-above, not-long-at-target      a job above T
 --     load-of-three, booked-load          a load; booked minutes are part of it
+--     fullest-of-a-tie, fullest-booked, fullest-of-fewer-jobs, fullest-of-no-loads, fullest-last
+--                                         the fullest bench
 --     booked-of-sheet                     the booked minutes of a sheet: its entries, and 0 past them
 --     booked-light, booked-not-long, booked-moves     heavy, long and the bound of moves do not know bookings
 --     bound-within, bound-above, load-at-bound    the demand's bound
@@ -12,8 +14,9 @@ use mathlib.Core.Path.{_≡_, refl}
 use mathlib.Core.Bool.{true, false}
 use mathlib.Core.List.{[], _∷_}
 use Rattle.bits.specs.Bits.{isSet}
-use Rattle.day.specs.Day.{Day, heavy, loadOf, withinBound, tooLong, moveBound}
-use Rattle.day.specs.SmallSheets.{dayWith, bookedDay, bay, first, both, three, last}
+use Rattle.sums.specs.Sum.{fullest}
+use Rattle.day.specs.Day.{Day, heavy, loadOf, fullestOf, withinBound, tooLong, moveBound}
+use Rattle.day.specs.SmallSheets.{dayWith, bookedDay, bay, first, second, both, three, last}
 
 -- ── jobs ──
 
@@ -82,6 +85,30 @@ booked-load = (refl, refl)
 
 pub booked-of-sheet : (three-booked .booked 0 ≡ 3) × (three-booked .booked 1 ≡ 0) × (three-booked .booked 64 ≡ 0)
 booked-of-sheet = (refl, refl, refl)
+
+-- Request S-2: "the fullest bench, the lowest on a tie". Benches 1 and 2 have 4 each, bench 0 has 3.
+pub fullest-of-a-tie : fullestOf (bookedDay (bay 3 4 7 9) (3 ∷ 4 ∷ 4 ∷ []) []) [] ≡ 1
+unfolding fullest
+fullest-of-a-tie = refl
+
+-- Booked minutes count: bench 0 has a job of 5, bench 1 is booked for 6.
+pub fullest-booked : fullestOf (bookedDay (bay 2 4 7 9) (0 ∷ 6 ∷ []) (first 5 ∷ [])) (0 ∷ []) ≡ 1
+unfolding fullest
+fullest-booked = refl
+
+-- Minutes count, not jobs: bench 0 has two jobs of 1, bench 1 has one of 4.
+pub fullest-of-fewer-jobs : fullestOf (dayWith (bay 2 4 7 9) (first 1 ∷ first 1 ∷ second 4 ∷ [])) (0 ∷ 0 ∷ 1 ∷ []) ≡ 1
+unfolding fullest
+fullest-of-fewer-jobs = refl
+
+pub fullest-of-no-loads : fullestOf (dayWith (bay 3 4 7 9) []) [] ≡ 0
+unfolding fullest
+fullest-of-no-loads = refl
+
+-- The last of 64 benches.
+pub fullest-last : fullestOf (dayWith (bay 64 4 7 5) (first 4 ∷ last 5 ∷ [])) (0 ∷ 63 ∷ []) ≡ 63
+unfolding fullest
+fullest-last = refl
 
 -- Booked minutes "are never a heavy job": 7 × 4 is not above 4 × 7, whatever is booked on the job's bench.
 pub booked-light : heavy (bookedDay (bay 1 4 7 7) (9 ∷ []) (first 4 ∷ [])) 0 ≡ false

@@ -9,6 +9,7 @@
 --     placeIn places      the bench that a table of places has for each job
 --     loadOf d a v        the load of bench v under the assignment a
 --     loadsOf, largestOf  the loads of a table of places, bench by bench; the greatest of them
+--     fullestOf d places  the lowest bench that has the greatest load
 --     scale, bound        3q and (5q + p) × T
 --     withinBound d n     the load n is within the demand's bound
 --     tooLong, longJob    a job longer than T; the lowest such job, and the number of jobs where there is none
@@ -18,7 +19,7 @@ use mathlib.Core.Bool.{Bool, not, _&&_}
 use mathlib.Core.List.{List}
 use lib.ListN.{length, getD}
 use lib.Dec.{eqb, leb, ltb}
-use Rattle.sums.specs.Sum.{on, sum, count, largest}
+use Rattle.sums.specs.Sum.{on, sum, count, largest, fullest}
 use Rattle.sums.specs.Search.{least}
 use Rattle.sums.specs.Table.{table}
 use Rattle.fields.specs.Contents.{Contents, bookedAt}
@@ -83,6 +84,10 @@ loadsOf d places = table (d .benches) (loadOf d (placeIn places))
 -- "the largest load is the greatest of them"
 abbrev pub largestOf : Day → List ℕ → ℕ
 largestOf d places = largest (d .benches) (loadOf d (placeIn places))
+
+-- Request S-2: "the fullest bench, the lowest on a tie"
+abbrev pub fullestOf : Day → List ℕ → ℕ
+fullestOf d places = fullest (d .benches) (loadOf d (placeIn places))
 
 -- "Every comparison is multiplied out by 3q and exact."
 abbrev pub scale : Day → ℕ

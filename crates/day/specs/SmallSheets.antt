@@ -3,7 +3,7 @@
 --     bookedSheet h bs js     the same with the bookings bs: entry b for bench b
 --     dayWith h js, bookedDay h bs js     the days of these contents
 --     bay m p q t         a head: benches, share and target
---     first, second       a job on bench 0, on bench 1
+--     first, second, third    a job on bench 0, on bench 1, on bench 2
 --     both, outside, three    a job on benches 0 and 1, on benches 0 and 2, on all three of these
 --     last                a job on bench 63
 use Prim.Native.Nat.{ℕ, _+_, _-_, _^_}
@@ -34,6 +34,9 @@ first n = record { minutes = n; allowed = 2 ^ 63 }
 
 abbrev pub second : ℕ → Job
 second n = record { minutes = n; allowed = 2 ^ 62 }
+
+abbrev pub third : ℕ → Job
+third n = record { minutes = n; allowed = 2 ^ 61 }
 
 abbrev pub both : ℕ → Job
 both n = record { minutes = n; allowed = 2 ^ 63 + 2 ^ 62 }

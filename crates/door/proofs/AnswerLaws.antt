@@ -58,7 +58,7 @@ pub record Roomy (s : List ℕ) (np nl na : ℕ) : Type 0 where
   pub sound-sheet : SoundSheet contents
   pub jobs-fit : length (contents .jobs) ≤ np
   pub benches-fit : contents .head .benches ≤ nl
-  pub numbers-fit : 2 ≤ na
+  pub numbers-fit : 3 ≤ na
   pub sound-answer : SoundAnswer (dayOf contents) (doorAnswer s np nl na)
 
 module _ (s : List ℕ) (np nl na : ℕ) where
@@ -67,7 +67,7 @@ module _ (s : List ℕ) (np nl na : ℕ) where
   door-refused f e = rw (e, doorAnswer)
 
   pub door-read : (c : Contents) → readSheet s ≡ accepted c
-      → doorAnswer s np nl na ≡ replyOn c (shortTables c np nl || ltb na 2)
+      → doorAnswer s np nl na ≡ replyOn c (shortTables c np nl || ltb na 3)
   unfolding doorAnswer
   door-read c e = rw (e, doorAnswer)
 
@@ -75,10 +75,10 @@ module _ (s : List ℕ) (np nl na : ℕ) where
   fault-or-room = elim (read-cases (readSheet s)) [
     | inl (f, e) ↦ inl (record { fault = f; near = read-place s f e; replies = door-refused f e })
     | inr (c, e) ↦
-        elim (split (shortTables c np nl || ltb na 2)) [
+        elim (split (shortTables c np nl || ltb na 3)) [
           | inl b ↦ inl (record { fault = Table 0; near = omega arith; replies = door-read c e ∙ ap (replyOn c) b })
           | inr b ↦
-              let tables : shortTables c np nl ≡ false = or-false-left (shortTables c np nl) (ltb na 2) b in
+              let tables : shortTables c np nl ≡ false = or-false-left (shortTables c np nl) (ltb na 3) b in
               let few-places : Bool = ltb np (length (c .jobs)) in
               let few-loads : Bool = ltb nl (c .head .benches) in
               let sound = accepted-sound s c e in
@@ -88,7 +88,7 @@ module _ (s : List ℕ) (np nl na : ℕ) where
                 sound-sheet = sound;
                 jobs-fit = ltb-false np (length (c .jobs)) (or-false-left few-places few-loads tables);
                 benches-fit = ltb-false nl (c .head .benches) (or-false-right few-places few-loads tables);
-                numbers-fit = ltb-false na 2 (or-false-right (shortTables c np nl) (ltb na 2) b);
+                numbers-fit = ltb-false na 3 (or-false-right (shortTables c np nl) (ltb na 3) b);
                 sound-answer = subst (SoundAnswer (dayOf c)) (sym (door-read c e ∙ ap (replyOn c) b)) given;
               })
         ]

@@ -54,7 +54,7 @@ module _ (s places loads numbers : List ℕ) where
     | inl p ↦ inl (c, e, inl (omega arith))
     | inr p ↦ elim (lt-or-le (length loads) (8 * c .head .benches)) [
       | inl l ↦ inl (c, e, inr (inl (omega arith)))
-      | inr l ↦ elim (lt-or-le (length numbers) 16) [
+      | inr l ↦ elim (lt-or-le (length numbers) 24) [
         | inl n ↦ inl (c, e, inr (inr (omega arith)))
         | inr n ↦ inr (
           c,
@@ -62,7 +62,7 @@ module _ (s places loads numbers : List ℕ) where
             sheet-accepted = e;
             place-to-a-job = omega arith;
             load-to-a-bench = omega arith;
-            two-numbers = omega arith;
+            three-numbers = omega arith;
           },
         )
       ]
@@ -75,7 +75,7 @@ module _ (s places loads numbers : List ℕ) where
       elim short [
         | inl l ↦ omega (arith, t .place-to-a-job, ap (λ (x : Contents). length (x .jobs)) same)
         | inr (inl l) ↦ omega (arith, t .load-to-a-bench, ap (λ (x : Contents). x .head .benches) same)
-        | inr (inr l) ↦ omega (arith, t .two-numbers)
+        | inr (inr l) ↦ omega (arith, t .three-numbers)
       ]
 
   pub one-case : OneCase (SheetRefused s) (TablesShort s places loads numbers) (CanAnswer s places loads numbers)
@@ -88,6 +88,10 @@ module _ (s places loads numbers : List ℕ) where
 
 -- ── the three answers, with the tables after them ──
 
+-- The three numbers of a plan.
+abbrev planNumbers : PlanAnswer → List ℕ
+planNumbers p = answerNumbers (Plan p)
+
 module _ (d : Day) (places loads numbers : List ℕ) where
   three : {a : Reply} → SoundAnswer d a
       → (planWord (a .answer) ≡ 1) ⊎ ((planWord (a .answer) ≡ 2) ⊎ (planWord (a .answer) ≡ 3))
@@ -98,7 +102,7 @@ module _ (d : Day) (places loads numbers : List ℕ) where
   plan-bytes : 8 * d .jobs ≤ length places → 8 * d .benches ≤ length loads → (p : PlanAnswer) (ps ls : List ℕ)
       → ReplyFits (planReply p ps ls) → SoundPlan d p ps ls
       → PlanInBytes d places loads
-      (putNumbers ps places) (putNumbers ls loads) (putNumbers (p .largest ∷ p .moves ∷ []) numbers)
+      (putNumbers ps places) (putNumbers ls loads) (putNumbers (planNumbers p) numbers)
   plan-bytes lp ll p ps ls fits right =
       record {
         assignment = record { on-allowed = λ j l. rw (place j l) (right .assignment .on-allowed j l) };
@@ -106,6 +110,11 @@ module _ (d : Day) (places loads numbers : List ℕ) where
         within-bound = λ v l. rw (load v l) (right .within-bound v l);
         greatest = λ v l. rw (load v l, first) (right .greatest v l);
         one-of-them = let (v, l, e) = right .one-of-them in (v, l, load v l ∙ e ∙ sym first);
+        fullest-bench = omega (arith, third, right .fullest-bench);
+        fullest-load = rw third (omega (arith, first, load (p .fullest) (right .fullest-bench), right .fullest-load));
+        lower-less = λ v l.
+            let below : v < p .fullest = omega (arith, third, l) in
+            omega (arith, first, load v (omega (arith, right .fullest-bench)), right .lower-less v below);
         few-moves = rw second (right .few-moves);
         later-places-kept = later-kept ps places (d .jobs) (right .one-to-a-job);
         later-loads-kept = later-kept ls loads (d .benches) (right .one-to-a-bench);
@@ -119,11 +128,14 @@ module _ (d : Day) (places loads numbers : List ℕ) where
       load : (v : ℕ) → v < d .benches → entryOf (putNumbers ls loads) v ≡ getD ls v 0
       load v l = entry-put ls loads v (fits .loads-fit) (omega (arith, right .one-to-a-bench))
 
-      first : entryOf (putNumbers (p .largest ∷ p .moves ∷ []) numbers) 0 ≡ p .largest
-      first = entry-put (p .largest ∷ p .moves ∷ []) numbers 0 (fits .numbers-fit) (omega arith)
+      first : entryOf (putNumbers (planNumbers p) numbers) 0 ≡ p .largest
+      first = entry-put (planNumbers p) numbers 0 (fits .numbers-fit) (omega arith)
 
-      second : entryOf (putNumbers (p .largest ∷ p .moves ∷ []) numbers) 1 ≡ p .moves
-      second = entry-put (p .largest ∷ p .moves ∷ []) numbers 1 (fits .numbers-fit) (omega arith)
+      second : entryOf (putNumbers (planNumbers p) numbers) 1 ≡ p .moves
+      second = entry-put (planNumbers p) numbers 1 (fits .numbers-fit) (omega arith)
+
+      third : entryOf (putNumbers (planNumbers p) numbers) 2 ≡ p .fullest
+      third = entry-put (planNumbers p) numbers 2 (fits .numbers-fit) (omega arith)
 
       same-load : (v : ℕ) → loadOf d (entryOf (putNumbers ps places)) v ≡ loadOf d (placeIn ps) v
       same-load v = ap (λ (k : ℕ). d .booked v + k) (sum-cong (d .jobs) _ _ (λ j l. rw (place j l)))
@@ -151,8 +163,8 @@ module _ (d : Day) (places loads numbers : List ℕ) where
       × Untouched places loads (placesThen a) (loadsThen a)
   long-after fits (plan-sound right) e = absurd (omega arith)
   long-after fits (long-sound {j = j} right) e =
-      let first = entry-put (j ∷ 0 ∷ []) numbers 0 (fits .numbers-fit) (omega arith) in
-      let second = entry-put (j ∷ 0 ∷ []) numbers 1 (fits .numbers-fit) (omega arith) in
+      let first = entry-put (j ∷ 0 ∷ 0 ∷ []) numbers 0 (fits .numbers-fit) (omega arith) in
+      let second = entry-put (j ∷ 0 ∷ 0 ∷ []) numbers 1 (fits .numbers-fit) (omega arith) in
       (subst (SoundLong d) (sym first) right, second, nothing-put)
   long-after fits (none-sound right) e = absurd (omega arith)
 
@@ -162,20 +174,30 @@ module _ (d : Day) (places loads numbers : List ℕ) where
   none-after day-ok few fits (plan-sound right) e = absurd (omega arith)
   none-after day-ok few fits (long-sound right) e = absurd (omega arith)
   none-after day-ok few fits (none-sound {benches = bs} {moves = moves} right) e =
-      let first = entry-put (setOf bs ∷ moves ∷ []) numbers 0 (fits .numbers-fit) (omega arith) in
-      let second = entry-put (setOf bs ∷ moves ∷ []) numbers 1 (fits .numbers-fit) (omega arith) in
+      let first = entry-put (setOf bs ∷ moves ∷ 0 ∷ []) numbers 0 (fits .numbers-fit) (omega arith) in
+      let second = entry-put (setOf bs ∷ moves ∷ 0 ∷ []) numbers 1 (fits .numbers-fit) (omega arith) in
       (rw (first, second) (named-set d day-ok few bs moves right), nothing-put)
 
-  pair-kept : 16 ≤ length numbers → (a b : ℕ)
-      → (drop 16 (putNumbers (a ∷ b ∷ []) numbers) ≡ drop 16 numbers)
-      × (length (putNumbers (a ∷ b ∷ []) numbers) ≡ length numbers)
-  pair-kept room a b = (later-kept (a ∷ b ∷ []) numbers 2 refl, length-putNumbers (a ∷ b ∷ []) numbers (omega arith))
+  -- The third number of a long and of a none.
+  third-after : {a : Reply} → ReplyFits a → SoundAnswer d a → (planWord (a .answer) ≡ 2) ⊎ (planWord (a .answer) ≡ 3)
+      → entryOf (numbersThen a) 2 ≡ 0
+  third-after fits (plan-sound right) e = elim e [ inl p ↦ absurd (omega arith) | inr p ↦ absurd (omega arith) ]
+  third-after fits (long-sound {j = j} right) e =
+      entry-put (j ∷ 0 ∷ 0 ∷ []) numbers 2 (fits .numbers-fit) (omega arith)
+  third-after fits (none-sound {benches = bs} {moves = moves} right) e =
+      entry-put (setOf bs ∷ moves ∷ 0 ∷ []) numbers 2 (fits .numbers-fit) (omega arith)
 
-  numbers-after : 16 ≤ length numbers → {a : Reply} → SoundAnswer d a
-      → (drop 16 (numbersThen a) ≡ drop 16 numbers) × (length (numbersThen a) ≡ length numbers)
-  numbers-after room (plan-sound {p = p} right) = pair-kept room (p .largest) (p .moves)
-  numbers-after room (long-sound {j = j} right) = pair-kept room j 0
-  numbers-after room (none-sound {benches = bs} {moves = moves} right) = pair-kept room (setOf bs) moves
+  three-kept : 24 ≤ length numbers → (a b e : ℕ)
+      → (drop 24 (putNumbers (a ∷ b ∷ e ∷ []) numbers) ≡ drop 24 numbers)
+      × (length (putNumbers (a ∷ b ∷ e ∷ []) numbers) ≡ length numbers)
+  three-kept room a b e =
+      (later-kept (a ∷ b ∷ e ∷ []) numbers 3 refl, length-putNumbers (a ∷ b ∷ e ∷ []) numbers (omega arith))
+
+  numbers-after : 24 ≤ length numbers → {a : Reply} → SoundAnswer d a
+      → (drop 24 (numbersThen a) ≡ drop 24 numbers) × (length (numbersThen a) ≡ length numbers)
+  numbers-after room (plan-sound {p = p} right) = three-kept room (p .largest) (p .moves) (p .fullest)
+  numbers-after room (long-sound {j = j} right) = three-kept room j 0 0
+  numbers-after room (none-sound {benches = bs} {moves = moves} right) = three-kept room (setOf bs) moves 0
 
 plan-word : (a : Answer) → isPlan a ≡ true → planWord a ≡ 1
 plan-word (Plan p) e = refl
@@ -229,12 +251,12 @@ module _ (s places loads numbers : List ℕ) where
   reply-short c e short =
       let few-places : Bool = ltb (roomOf places) (length (c .jobs)) in
       let few-loads : Bool = ltb (roomOf loads) (c .head .benches) in
-      let few-numbers : Bool = ltb (roomOf numbers) 2 in
+      let few-numbers : Bool = ltb (roomOf numbers) 3 in
       let tested : ((few-places || few-loads) || few-numbers) ≡ true = elim short [
         | inl l ↦ or-left few-numbers (or-left few-loads (lt-ltb (roomOf places) (length (c .jobs)) (omega arith)))
         | inr (inl l) ↦
             or-left few-numbers (or-right few-places (lt-ltb (roomOf loads) (c .head .benches) (omega arith)))
-        | inr (inr l) ↦ or-right (few-places || few-loads) (lt-ltb (roomOf numbers) 2 (omega arith))
+        | inr (inr l) ↦ or-right (few-places || few-loads) (lt-ltb (roomOf numbers) 3 (omega arith))
       ] in
       door-read s (roomOf places) (roomOf loads) (roomOf numbers) c e ∙ ap (replyOn c) tested
 
@@ -247,12 +269,12 @@ module _ (s places loads numbers : List ℕ) where
 
     whole : WholeClaim (dayOf c) reply
     whole =
-        let enough : (shortTables c (roomOf places) (roomOf loads) || ltb (roomOf numbers) 2) ≡ false =
+        let enough : (shortTables c (roomOf places) (roomOf loads) || ltb (roomOf numbers) 3) ≡ false =
         or-false
         (or-false
         (le-ltb (roomOf places) (length (c .jobs)) (omega (arith, t .place-to-a-job)))
         (le-ltb (roomOf loads) (c .head .benches) (omega (arith, t .load-to-a-bench))))
-        (le-ltb (roomOf numbers) 2 (omega (arith, t .two-numbers))) in
+        (le-ltb (roomOf numbers) 3 (omega (arith, t .three-numbers))) in
         let read = door-read s (roomOf places) (roomOf loads) (roomOf numbers) c (t .sheet-accepted) in
         subst (WholeClaim (dayOf c)) (sym (read ∙ ap (replyOn c) enough)) (whole-claim (dayOf c) day-accepted)
 
@@ -276,7 +298,9 @@ module _ (s places loads numbers : List ℕ) where
         none-fits = λ c t e. whole c t .else-fits (no-long (reply .answer) (inr e));
         none-right = λ c t.
             none-after (dayOf c) places loads numbers (day-accepted c t) (few-benches c t) fits (whole c t .sound);
-        later-numbers-kept = λ c t. numbers-after (dayOf c) places loads numbers (t .two-numbers) (whole c t .sound);
+        no-fullest = λ c t other.
+            omega (arith, third-after (dayOf c) places loads numbers fits (whole c t .sound) other);
+        later-numbers-kept = λ c t. numbers-after (dayOf c) places loads numbers (t .three-numbers) (whole c t .sound);
         rival-planned = λ c t a x keeps. plan-word (reply .answer) (whole c t .rival-planned a x keeps);
         over-after-long = λ c t e. whole c t .else-over (no-plan (reply .answer) (omega arith));
         over-after-none = λ c t e. whole c t .else-over (no-plan (reply .answer) (omega arith));

@@ -1,7 +1,7 @@
 -- What a caller of planning reads: the entries of the tables are the answer's numbers, none of them cut to its 8 bytes.
 --     ReplyFits, reply-fits     the numbers of every reply have at most 8 bytes
 --     entries-read              so after a call the entries of the three tables are the reply's places and loads, and
---                               the answer's two numbers
+--                               the answer's three numbers
 --     isFault                   the answer is a fault
 --     plan-word-value           the word of a plan, of long and of none is below 2 ^ 32
 --     plan-word-fault           the word of a fault has its number and its place
@@ -40,10 +40,11 @@ use Rattle.door.proofs.AnswerLaws.{fault-or-room}
 
 -- ── the numbers of a reply ──
 
-two-fit : {a b : ℕ} → a < 2 ^ 64 → b < 2 ^ 64 → Fit (a ∷ b ∷ [])
-two-fit p q zero l = p
-two-fit p q (suc zero) l = q
-two-fit p q (suc (suc i)) l = absurd (omega arith)
+three-fit : {a b e : ℕ} → a < 2 ^ 64 → b < 2 ^ 64 → e < 2 ^ 64 → Fit (a ∷ b ∷ e ∷ [])
+three-fit p q r zero l = p
+three-fit p q r (suc zero) l = q
+three-fit p q r (suc (suc zero)) l = r
+three-fit p q r (suc (suc (suc i))) l = absurd (omega arith)
 
 none-fit : Fit []
 none-fit i l = absurd (omega arith)
@@ -95,17 +96,20 @@ module _ (c : Contents) (sound : SoundSheet c) where
       record {
         places-fit = place-fits p ps ls right;
         loads-fit = load-fits p ps ls right;
-        numbers-fit = two-fit (largest-fits p ps ls right) (moves-fit (p .moves) (right .few-moves));
+        numbers-fit =
+            three-fit (largest-fits p ps ls right) (moves-fit (p .moves) (right .few-moves))
+            (omega (arith, right .fullest-bench, sound .head .at-most-64-benches));
       }
   sound-fits (long-sound {j = j} right) =
       let job = right .is-long .is-job in
-      let numbers : Fit (j ∷ 0 ∷ []) = two-fit (omega (arith, sound .at-most-512-jobs)) (omega arith) in
+      let numbers : Fit (j ∷ 0 ∷ 0 ∷ []) =
+      three-fit (omega (arith, sound .at-most-512-jobs)) (omega arith) (omega arith) in
       record { places-fit = none-fit; loads-fit = none-fit; numbers-fit = numbers }
   sound-fits (none-sound {benches = bs} {moves = moves} right) =
       let below : (i : ℕ) → i < length bs → getD bs i 0 < 64 =
       λ i l. omega (arith, right .of-the-day i l, sound .head .at-most-64-benches) in
       let set-fits = setOf-lt 0 bs (right .rising) (λ i l. omega arith) below in
-      let numbers = two-fit set-fits (moves-fit moves (right .few-moves)) in
+      let numbers = three-fit {e = 0} set-fits (moves-fit moves (right .few-moves)) (omega arith) in
       record { places-fit = none-fit; loads-fit = none-fit; numbers-fit = numbers }
 
 -- ── the three answers and the faults ──

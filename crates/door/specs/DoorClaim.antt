@@ -28,22 +28,22 @@ use Rattle.tables.specs.Words.{faultWord}
 
 -- ── the three kinds of calls ──
 
--- Fault 13: "there are fewer places than jobs, fewer loads than benches, or fewer than two numbers for the answer."
+-- Fault 13: "there are fewer places than jobs, fewer loads than benches, or fewer than three numbers for the answer."
 abbrev pub NoRoomFor : Contents → List ℕ → List ℕ → List ℕ → Type 0
 NoRoomFor c places loads numbers =
-    (length places < 8 * length (c .jobs)) ⊎ ((length loads < 8 * c .head .benches) ⊎ (length numbers < 16))
+    (length places < 8 * length (c .jobs)) ⊎ ((length loads < 8 * c .head .benches) ⊎ (length numbers < 24))
 
 abbrev pub TablesShort : List ℕ → List ℕ → List ℕ → List ℕ → Type 0
 TablesShort s places loads numbers =
     (c : Contents) × (readSheet s ≡ accepted c) × NoRoomFor c places loads numbers
 
 -- "Every table must have its room whatever the answer will be: places one entry for each job, loads one for each bench,
--- answer two."
+-- answer three."
 pub record RoomFor (s places loads numbers : List ℕ) (c : Contents) : Type 0 where
   pub sheet-accepted : readSheet s ≡ accepted c
   pub place-to-a-job : 8 * length (c .jobs) ≤ length places
   pub load-to-a-bench : 8 * c .head .benches ≤ length loads
-  pub two-numbers : 16 ≤ length numbers
+  pub three-numbers : 24 ≤ length numbers
 
 abbrev pub CanAnswer : List ℕ → List ℕ → List ℕ → List ℕ → Type 0
 CanAnswer s places loads numbers = (c : Contents) × RoomFor s places loads numbers c
@@ -57,13 +57,17 @@ pub record AllKept (places loads numbers places′ loads′ numbers′ : List �
 
 -- "Entry j is the bench of job j. Entry b is the load of bench b in minutes. Later bytes of a table keep their
 -- contents."
--- The answer's two entries are the largest load and the moves made.
+-- The answer's three entries are the largest load, the moves made, and the fullest bench: the lowest that has the
+-- largest load.
 pub record PlanInBytes (d : Day) (places loads places′ loads′ numbers′ : List ℕ) : Type 0 where
   pub assignment : Assignment d (entryOf places′)
   pub its-loads : (v : ℕ) → v < d .benches → entryOf loads′ v ≡ loadOf d (entryOf places′) v
   pub within-bound : (v : ℕ) → v < d .benches → withinBound d (entryOf loads′ v) ≡ true
   pub greatest : (v : ℕ) → v < d .benches → entryOf loads′ v ≤ entryOf numbers′ 0
   pub one-of-them : (v : ℕ) × (v < d .benches) × (entryOf loads′ v ≡ entryOf numbers′ 0)
+  pub fullest-bench : entryOf numbers′ 2 < d .benches
+  pub fullest-load : entryOf loads′ (entryOf numbers′ 2) ≡ entryOf numbers′ 0
+  pub lower-less : (v : ℕ) → v < entryOf numbers′ 2 → entryOf loads′ v < entryOf numbers′ 0
   pub few-moves : entryOf numbers′ 1 ≤ moveBound d
   pub later-places-kept : drop (8 * d .jobs) places′ ≡ drop (8 * d .jobs) places
   pub later-loads-kept : drop (8 * d .benches) loads′ ≡ drop (8 * d .benches) loads
@@ -97,9 +101,12 @@ pub record DoorClaim (s places loads numbers : List ℕ) (r : ℕ) (places′ lo
   pub none-right : (c : Contents) → RoomFor s places loads numbers c
       → r ≡ 3 → NamedSet (dayOf c) (record { set = entryOf numbers′ 0; moves = entryOf numbers′ 1 })
       × Untouched places loads places′ loads′
-  -- The answer's table keeps what is after its two entries.
+  -- Only a plan has a fullest bench: the third entry is 0 after long and after none.
+  pub no-fullest : (c : Contents) → RoomFor s places loads numbers c
+      → (r ≡ 2) ⊎ (r ≡ 3) → entryOf numbers′ 2 ≡ 0
+  -- The answer's table keeps what is after its three entries.
   pub later-numbers-kept : (c : Contents) → RoomFor s places loads numbers c
-      → (drop 16 numbers′ ≡ drop 16 numbers) × (length numbers′ ≡ length numbers)
+      → (drop 24 numbers′ ≡ drop 24 numbers) × (length numbers′ ≡ length numbers)
   -- If any assignment at all keeps every bench within T, a plan is given.
   pub rival-planned : (c : Contents) → RoomFor s places loads numbers c
       → (a : ℕ → ℕ) → Assignment (dayOf c) a → keepsTarget (dayOf c) a ≡ true → r ≡ 1

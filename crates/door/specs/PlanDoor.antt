@@ -21,12 +21,12 @@ use Rattle.comparison.specs.declared.compared.Compared.the-variants.{Same, Diff
 use Rattle.tables.specs.Tables.{putNumbers}
 use Rattle.tables.specs.Words.{faultWord}
 
--- Fault 13, after the faults of the sheet: a table is shorter than the jobs, the benches or an answer's two numbers.
+-- Fault 13, after the faults of the sheet: a table is shorter than the jobs, the benches or an answer's three numbers.
 unfoldable pub doorAnswer : List ℕ → ℕ → ℕ → ℕ → Reply
 doorAnswer s np nl na =
     elim (readSheet s) [
       | refused f ↦ faultReply f
-      | accepted c ↦ cond (shortTables c np nl || ltb na 2) (faultReply (Table 0)) (answerTo (dayOf c))
+      | accepted c ↦ cond (shortTables c np nl || ltb na 3) (faultReply (Table 0)) (answerTo (dayOf c))
     ]
 
 abbrev pub planWord : Answer → ℕ

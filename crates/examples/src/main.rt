@@ -19,7 +19,7 @@ fn main() {
         \x12\x00\x0B\x00\x00\x5C\x00\x00\x00\x00\x00\x00\x00\x00\
         \x13\x00\x00",
     );
-    io::write_all(1, b", expected plan 15 0;0 0;1 0;2 0\n");
+    io::write_all(1, b", expected plan 15 0 0;0 0;1 0;2 0\n");
 
     io::write_all(1, b"12 with a foreign frame: ");
     show_answer(
@@ -30,7 +30,7 @@ fn main() {
         \x12\x00\x0B\x00\x00\x5C\x00\x00\x00\x00\x00\x00\x00\x00\
         \x13\x00\x00",
     );
-    io::write_all(1, b", expected plan 15 0;0 0;1 0;2 0\n");
+    io::write_all(1, b", expected plan 15 0 0;0 0;1 0;2 0\n");
 
     show_written();
 }

@@ -1,5 +1,6 @@
 -- The lines of the bay examples of document 01, byte for byte.
---     example-2, example-3, example-4     `plan 5 0` and `0 0`; `long 0`; `none 0 0 1`
+--     example-2, example-3, example-4     `plan 5 0 0` and `0 0`; `long 0`; `none 0 0 1`
+--     three-numbers                       `plan 7 2 1`: largest load, moves and fullest bench, in this order
 --     example-11                          `fault 2 0`
 --     three-digits                        `480`
 use Prim.Native.Nat.{_*_, _^_}
@@ -11,10 +12,15 @@ use Rattle.fields.specs.declared.fault.Fault.the-variants.{Truncated}
 use Rattle.answers.specs.declared.answer.Answer.the-variants.{Plan, Long, None, Fault}
 use Rattle.lines.specs.Lines.{digitsWithin, digits, spaced, line, jobLines, linesOf}
 
-pub example-2 : linesOf (Plan (record { largest = 5; moves = 0 })) (0 ∷ [])
-    ≡ 112 ∷ 108 ∷ 97 ∷ 110 ∷ 32 ∷ 53 ∷ 32 ∷ 48 ∷ 10 ∷ 48 ∷ 32 ∷ 48 ∷ 10 ∷ []
+pub example-2 : linesOf (Plan (record { largest = 5; moves = 0; fullest = 0 })) (0 ∷ [])
+    ≡ 112 ∷ 108 ∷ 97 ∷ 110 ∷ 32 ∷ 53 ∷ 32 ∷ 48 ∷ 32 ∷ 48 ∷ 10 ∷ 48 ∷ 32 ∷ 48 ∷ 10 ∷ []
 unfolding linesOf jobLines line spaced digits digitsWithin
 example-2 = refl
+
+pub three-numbers : linesOf (Plan (record { largest = 7; moves = 2; fullest = 1 })) []
+    ≡ 112 ∷ 108 ∷ 97 ∷ 110 ∷ 32 ∷ 55 ∷ 32 ∷ 50 ∷ 32 ∷ 49 ∷ 10 ∷ []
+unfolding linesOf jobLines line spaced digits digitsWithin
+three-numbers = refl
 
 pub example-3 : linesOf (Long (record { job = 0 })) [] ≡ 108 ∷ 111 ∷ 110 ∷ 103 ∷ 32 ∷ 48 ∷ 10 ∷ []
 unfolding linesOf line spaced digits digitsWithin

@@ -98,11 +98,11 @@ bench-out set b n =
 
 module _ {answer : Answer} (places : List ℕ) {out one two : List ℕ} {a b : ℕ} {after : List ℕ} {r : ℕ} where
   pub plan-text : {g : PlanAnswer} → answer ≡ Plan g → Puts out 0 (planLetters ++ space ∷ []) one a
-      → Puts one a (line (digits (g .largest) ∷ digits (g .moves) ∷ [])) two b
+      → Puts one a (line (digits (g .largest) ∷ digits (g .moves) ∷ digits (g .fullest) ∷ [])) two b
       → Puts two b (jobLines (length places) places) after r → Front out (linesOf answer places) after r
   unfolding linesOf
   plan-text {g} e p q s =
-      let first = line-word planLetters (digits (g .largest)) (digits (g .moves) ∷ []) in
+      let first = line-word planLetters (digits (g .largest)) (digits (g .moves) ∷ digits (g .fullest) ∷ []) in
       puts-text
       (puts-as (ap (λ (l : List ℕ). l ++ jobLines (length places) places) first ∙ rw e) (puts-then (puts-then p q) s))
 

@@ -82,7 +82,7 @@ benches-size f (suc n) h = elim (split (f n)) [
 
 -- All numbers that an answer shows, but for those of benches.
 abbrev pub Narrow : Answer → Type 0
-Narrow (Plan a) = (a .largest < 10 ^ 20) × (a .moves < 10 ^ 20)
+Narrow (Plan a) = (a .largest < 10 ^ 20) × (a .moves < 10 ^ 20) × (a .fullest < 10 ^ 20)
 Narrow (Long a) = a .job < 10 ^ 20
 Narrow (None a) = a .moves < 10 ^ 20
 Narrow (Fault f) = (numberOf f < 10 ^ 20) × (placeOf f < 10 ^ 20)
@@ -90,18 +90,21 @@ Narrow (Fault f) = (numberOf f < 10 ^ 20) × (placeOf f < 10 ^ 20)
 pub text-size : (a : Answer) (places : List ℕ) → Narrow a → length places ≤ 512
     → ((j : ℕ) → j < length places → getD places j 0 < 10 ^ 20) → length (linesOf a places) ≤ 32768
 unfolding linesOf
-text-size (Plan a) places (l, m) h narrow =
+text-size (Plan a) places (l, m, f) h narrow =
     let largest = digits (a .largest) in
     let moves = digits (a .moves) in
+    let fullest = digits (a .fullest) in
     omega (
       arith,
-      length-append (line (planLetters ∷ largest ∷ moves ∷ [])) (jobLines (length places) places),
+      length-append (line (planLetters ∷ largest ∷ moves ∷ fullest ∷ [])) (jobLines (length places) places),
       jobs-size (length places) places h narrow,
-      length-line planLetters (largest ∷ moves ∷ []),
-      length-spaced largest (moves ∷ []),
-      length-one moves,
+      length-line planLetters (largest ∷ moves ∷ fullest ∷ []),
+      length-spaced largest (moves ∷ fullest ∷ []),
+      length-spaced moves (fullest ∷ []),
+      length-one fullest,
       length-digits 19 (a .largest) l,
       length-digits 19 (a .moves) m,
+      length-digits 19 (a .fullest) f,
     )
 text-size (Long a) places l h narrow =
     omega (arith, length-two longLetters (digits (a .job)), length-digits 19 (a .job) l)

@@ -58,11 +58,12 @@ noneLetters = 110 ∷ 111 ∷ 110 ∷ 101 ∷ []
 abbrev pub faultLetters : List ℕ
 faultLetters = 102 ∷ 97 ∷ 117 ∷ 108 ∷ 116 ∷ []
 
--- "`plan 5 0` (largest load, moves) .. Else one line: `long` and the job; `none`, the moves and the benches rising;
--- `fault`, number and place."
+-- "A plan's line prints it after the moves, so example 2 begins `plan 5 0 0`" (request S-2). "Else one line: `long`
+-- and the job; `none`, the moves and the benches rising; `fault`, number and place."
 unfoldable pub linesOf : Answer → List ℕ → List ℕ
 linesOf (Plan a) places =
-    line (planLetters ∷ digits (a .largest) ∷ digits (a .moves) ∷ []) ++ jobLines (length places) places
+    line (planLetters ∷ digits (a .largest) ∷ digits (a .moves) ∷ digits (a .fullest) ∷ [])
+    ++ jobLines (length places) places
 linesOf (Long a) places = line (longLetters ∷ digits (a .job) ∷ [])
 linesOf (None a) places =
     line (noneLetters ∷ digits (a .moves) ∷ map digits (members 64 (isSet 64 (a .set))))

@@ -17,7 +17,7 @@ pub fn text(answer: Answer, places: &[u64], out: &mut [u8]) -> usize
     match answer {
         Answer::Plan(a) => {
             let mut end = buffer::bytes(out, 0, b"plan ");
-            end = pair(out, end, a.largest, a.moves);
+            end = triple(out, end, a.largest, a.moves, a.fullest);
             jobs(out, end, places)
         }
         Answer::Long(a) => {
@@ -45,6 +45,15 @@ fn pair(out: &mut [u8], at: usize, x: u64, y: u64) -> usize
     let mut end = decimal::number(out, at, x);
     end = word(out, end, y);
     end_line(out, end)
+}
+
+// Puts a line of three numbers.
+fn triple(out: &mut [u8], at: usize, x: u64, y: u64, z: u64) -> usize
+    ensures { λ r. ⌜ Puts (now (out .entry)) at (line (digits x ∷ digits y ∷ digits z ∷ [])) (now (out .exit)) r ⌝ }
+{
+    let mut end = decimal::number(out, at, x);
+    end = buffer::byte(out, end, b' ');
+    pair(out, end, y, z)
 }
 
 // Puts a space and a number.

@@ -29,15 +29,15 @@ use Rattle.frame.specs.Tables.{Tables}
 use Rattle.frame.proofs.AcceptedLaws.{accepted-sound}
 use Rattle.frame.proofs.SheetTables.{tables-of}
 use Rattle.frame.proofs.Stored.{verdict-refused, verdict-accepted}
-use Rattle.day.specs.Day.{Day, dayOf, loadsOf, largestOf}
+use Rattle.day.specs.Day.{Day, dayOf}
 use Rattle.answers.specs.declared.answer.Answer.the-variants.{Long, None, Fault as Faulty}
 use Rattle.answers.specs.declared.answer.LongAnswer.{LongAnswer}
 use Rattle.answers.specs.declared.answer.NoneAnswer.{NoneAnswer}
 use Rattle.answers.specs.declared.answer.Filled.{Filled}
 use Rattle.sums.specs.Members.{members}
-use Rattle.answers.specs.Answers.{setOf, Reply, planReply, faultReply, Answered}
+use Rattle.answers.specs.Answers.{setOf, Reply, faultReply, Answered}
 use Rattle.algorithm.specs.Run.{Outcome, planned, long, blocked, run}
-use Rattle.algorithm.specs.Answer.{shown, answerTo, shortTables, answerFor}
+use Rattle.algorithm.specs.Answer.{planShown, shown, answerTo, shortTables, answerFor}
 use Rattle.algorithm.proofs.SheetDay.{accepted-day}
 use Rattle.arrays.specs.Arrays.{filled}
 use Rattle.arrays.proofs.FilledLaws.{getD-filled}
@@ -71,12 +71,10 @@ module _ (d : Day) where
 
   plan-shown : (o : Outcome) (p : PlanMoves) → DecidedPlan p ≡ decisionOf d o
       → shown d o
-      ≡ planReply (record { largest = largestOf d (placesIn o); moves = p .moves })
-      (placesIn o) (loadsOf d (placesIn o))
+      ≡ planShown d (placesIn o) (p .moves)
   plan-shown (planned ps moves) p e =
       let same : p ≡ record { moves = moves } = cc in
-      ap (λ (m : PlanMoves). planReply (record { largest = largestOf d ps; moves = m .moves }) ps (loadsOf d ps))
-      (sym same)
+      ap (λ (m : PlanMoves). planShown d ps (m .moves)) (sym same)
   plan-shown (long j) p e = clash {b = true} refl cc
   plan-shown (blocked set moves) p e = clash {b = true} refl cc
 
@@ -90,9 +88,7 @@ module _ (d : Day) where
 
   pub decided-plan : (p : PlanMoves) → DecidedPlan p ≡ decisionOf d (run d)
       → {r : Filled} {places loads places′ loads′ : List ℕ}
-      → Answered
-      (planReply (record { largest = largestOf d (placesIn (run d)); moves = p .moves })
-      (placesIn (run d)) (loadsOf d (placesIn (run d)))) r places loads places′ loads′
+      → Answered (planShown d (placesIn (run d)) (p .moves)) r places loads places′ loads′
       → Answered (answerTo d) r places loads places′ loads′
   decided-plan p e {r} {places} {loads} {places′} {loads′} =
       subst (λ (a : Reply). Answered a r places loads places′ loads′) (sym (plan-shown (run d) p e))

@@ -12,16 +12,19 @@ use lib.ListN.{length, getD, drop, length-append, length-drop, List·getD-append
 use lib.Dec.{eqb}
 use lib.Seq.{ext-getD, getD-append-add, getD-drop}
 use Rattle.bools.proofs.OrderLaws.{lt-or-le}
-use Rattle.sums.specs.Sum.{on, sum, largest}
+use Rattle.sums.specs.Sum.{on, sum}
 use Rattle.sums.specs.Table.{table}
 use Rattle.sums.proofs.SumLaws.{sum-cong, sum-bound}
-use Rattle.sums.proofs.LargestLaws.{largest-cong}
+use Rattle.sums.proofs.LargestLaws.{largest-cong, fullest-cong}
 use Rattle.sums.proofs.TableLaws.{length-table, getD-table, table-cong, table-getD}
-use Rattle.day.specs.Day.{Day, placeIn, loadOf, loadsOf, largestOf}
+use Rattle.day.specs.Day.{Day, placeIn, loadOf, largestOf, fullestOf}
 use Rattle.answers.specs.declared.answer.Answer.the-variants.{Plan}
-use Rattle.answers.specs.Answers.{planReply, Answered}
+use Rattle.answers.specs.Answers.{Answered}
+use Rattle.algorithm.specs.Answer.{planShown}
 use Rattle.arrays.specs.Arrays.{filled}
-use Rattle.arrays.specs.Loads.{amountOn}
+use Rattle.loads.specs.declared.bench_sum.BenchSum.{BenchSum}
+use Rattle.loads.specs.BenchSum.{sumOf}
+use Rattle.loads.specs.Loads.{minutesOn}
 use Rattle.arrays.proofs.FilledLaws.{length-filled, getD-filled, filled-rest}
 use Rattle.planning.specs.Places.{Places}
 
@@ -47,21 +50,20 @@ filled-front n f xs room =
 
 -- ── a plan ──
 
--- What a table shows of the jobs of a day, put on the benches of another table; no job is left out.
+-- What a table shows of the jobs of a day, put on the benches of another table.
 module _ (d : Day) (jobs benches : ℕ) (minutes booked place ps : List ℕ)
     (P : Places d jobs benches minutes booked place ps)
-    (bench : List ℕ) (copied : (j : ℕ) → j < d .jobs → getD bench j 0 ≡ getD place j 0) (nothing : List Bool)
-    (none : (j : ℕ) → j < d .jobs → getD nothing j false ≡ false) where
+    (bench : List ℕ) (copied : (j : ℕ) → j < d .jobs → getD bench j 0 ≡ getD place j 0) where
   bench-is : (j : ℕ) → j < d .jobs → getD bench j 0 ≡ placeIn ps j
   bench-is j h = copied j h ∙ P .places-are j h
 
   same-load : (v : ℕ) → v < d .benches
-      → getD booked v 0 + sum jobs (amountOn minutes nothing bench v) ≡ loadOf d (placeIn ps) v
+      → getD booked v 0 + sum jobs (minutesOn minutes bench v) ≡ loadOf d (placeIn ps) v
   same-load v l =
       ap₂ (λ (a b : ℕ). a + b) (P .booked-are v l)
-      (ap (λ (k : ℕ). sum k (amountOn minutes nothing bench v)) (P .fields .jobs-are)
-      ∙ sum-cong (d .jobs) (amountOn minutes nothing bench v) (λ j. on (eqb (placeIn ps j) v) (d .minutes j))
-      (λ j h. rw (none j h, bench-is j h, P .fields .minutes-are j h)))
+      (ap (λ (k : ℕ). sum k (minutesOn minutes bench v)) (P .fields .jobs-are)
+      ∙ sum-cong (d .jobs) (minutesOn minutes bench v) (λ j. on (eqb (placeIn ps j) v) (d .minutes j))
+      (λ j h. rw (bench-is j h, P .fields .minutes-are j h)))
 
   small-load : (v : ℕ) → loadOf d (placeIn ps) v < 2 ^ 63
   small-load v =
@@ -76,25 +78,33 @@ module _ (d : Day) (jobs benches : ℕ) (minutes booked place ps : List ℕ)
       part false x h = omega arith
 
   -- The loads, which begin with the booked minutes, and the tables filled with them.
-  pub plan-written : (moves : ℕ) (load places loads : List ℕ) {places′ loads′ : List ℕ} {most : ℕ}
-      → ((v : ℕ) → v < 64 → getD booked v 0 + sum jobs (amountOn minutes nothing bench v) < 2 ^ 63
-      → getD load v 0 ≡ getD booked v 0 + sum jobs (amountOn minutes nothing bench v))
+  pub plan-written : (moves : ℕ) (load places loads : List ℕ) {places′ loads′ : List ℕ} {s : BenchSum}
+      → ((v : ℕ) → v < 64 → getD booked v 0 + sum jobs (minutesOn minutes bench v) < 2 ^ 63
+      → getD load v 0 ≡ getD booked v 0 + sum jobs (minutesOn minutes bench v))
       → d .jobs ≤ length places → d .benches ≤ length loads
       → places′ ≡ filled jobs (λ i. getD bench i 0) places → loads′ ≡ filled benches (λ i. getD load i 0) loads
-      → most ≡ largest benches (λ v. getD load v 0)
-      → Answered (planReply (record { largest = largestOf d ps; moves = moves }) ps (loadsOf d ps))
-      (record { answer = Plan (record { largest = most; moves = moves }); places = jobs; loads = benches })
+      → s ≡ sumOf benches load
+      → Answered (planShown d ps moves)
+      (record {
+        answer = Plan (record { largest = s .largest; moves = moves; fullest = s .fullest });
+        places = jobs;
+        loads = benches;
+      })
       places loads places′ loads′
-  plan-written moves load places loads {places′} {loads′} {most} sums rp rl ep el em =
+  plan-written moves load places loads {places′} {loads′} {s} sums rp rl ep el es =
       let load-is : (v : ℕ) → v < d .benches → getD load v 0 ≡ loadOf d (placeIn ps) v =
       λ v h.
       sums v (omega (arith, P .fields .bounded .few-benches)) (omega (arith, same-load v h, small-load v))
       ∙ same-load v h in
-      let largest-is : most ≡ largestOf d ps =
-      em ∙ ap (λ (k : ℕ). largest k (λ v. getD load v 0)) (P .benches-are)
+      let sum-is : s ≡ sumOf (d .benches) load = es ∙ ap (λ (k : ℕ). sumOf k load) (P .benches-are) in
+      let largest-is : s .largest ≡ largestOf d ps =
+      ap (λ (x : BenchSum). x .largest) sum-is
       ∙ largest-cong (d .benches) (λ v. getD load v 0) (loadOf d (placeIn ps)) load-is in
+      let fullest-is : s .fullest ≡ fullestOf d ps =
+      ap (λ (x : BenchSum). x .fullest) sum-is
+      ∙ fullest-cong (d .benches) (λ v. getD load v 0) (loadOf d (placeIn ps)) load-is in
       record {
-        answer = ap (λ (k : ℕ). Plan (record { largest = k; moves = moves })) largest-is;
+        answer = ap₂ (λ (k v : ℕ). Plan (record { largest = k; moves = moves; fullest = v })) largest-is fullest-is;
         places-written = P .fields .jobs-are ∙ sym (P .one-to-a-job);
         loads-written = P .benches-are ∙ sym (length-table (d .benches) (loadOf d (placeIn ps)));
         new-places =

@@ -5,8 +5,9 @@ use answers::PlanAnswer;
 ghost use Prim.Native.Nat.{ℕ, _≤_};
 ghost use mathlib.Core.List.{List};
 ghost use lib.ListN.{length};
-ghost use Rattle.day.specs.Day.{Day, loadsOf, largestOf};
-ghost use Rattle.answers.specs.Answers.{planReply, Answered};
+ghost use Rattle.day.specs.Day.{Day};
+ghost use Rattle.answers.specs.Answers.{Answered};
+ghost use Rattle.algorithm.specs.Answer.{planShown};
 ghost use Rattle.planning.specs.Places.{Places};
 
 // The plan with these places: both tables, and the answer.
@@ -24,19 +25,23 @@ pub fn write_plan<'a>(
         → Places d jobs benches (now (minutes .entry)) booked (now (place .entry)) ps
         → jobs ≤ length (now (place .entry))
         → d .jobs ≤ length (now (places .entry)) → d .benches ≤ length (now (loads .entry))
-        → Answered (planReply (record { largest = largestOf d ps; moves = moves }) ps (loadsOf d ps)) r
+        → Answered (planShown d ps moves) r
         (now (places .entry)) (now (loads .entry)) (now (places .exit)) (now (loads .exit))) ⌝ }
 {
     let mut bench = [0usize; 512];
     arrays::from_bytes(jobs, place, &mut bench);
-    let nothing = [false; 512];
     let mut load = booked;
-    arrays::own_loads(jobs, minutes, &nothing, &bench, &mut load);
+    let sum = loads::sum_benches(jobs, benches, minutes, &bench, &mut load);
     arrays::widen(jobs, &bench, places);
     arrays::widen(benches, &load, loads);
-    let largest = arrays::greatest(benches, &load) as u64;
+    let largest = sum.largest as u64;
+    let fullest = sum.fullest as u64;
     Filled {
-        answer: Answer::Plan(PlanAnswer { largest, moves }),
+        answer: Answer::Plan(PlanAnswer {
+            largest,
+            moves,
+            fullest,
+        }),
         places: jobs,
         loads: benches,
     }

@@ -22,7 +22,7 @@ use Rattle.algorithm.specs.SoundDay.{SoundDay, Uncrowded}
 use Rattle.algorithm.specs.Run.{boardOf, ownMinutes}
 use Rattle.rocks.specs.BoardArrays.{rocksOf, rockAt, Rocks, Owned, Pebbles}
 use Rattle.rock_graph.specs.Graph.{lows, highs, weights as weightsIn, Tabled}
-use Rattle.arrays.specs.Loads.{amountOn}
+use Rattle.loads.specs.Loads.{amountOn}
 use Rattle.run.specs.Held.{isLeft, leftJob, Ready, Held}
 use Rattle.algorithm.proofs.Graph.{inside}
 use Rattle.algorithm.proofs.RockGraph.{rocks, rocks-sparse}

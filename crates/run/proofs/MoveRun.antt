@@ -31,7 +31,7 @@ use Rattle.rocks.specs.declared.rocks.Limits.{Limits}
 use Rattle.rocks.specs.BoardArrays.{Owned}
 use Rattle.explore.specs.ExploreArrays.{Reaches}
 use Rattle.run.specs.Held.{Ready, Held}
-use Rattle.arrays.specs.Loads.{amountOn}
+use Rattle.loads.specs.Loads.{amountOn}
 use Rattle.run.proofs.HeldLaws.{own-sum, same-left, held-rocks, held-owned}
 use Rattle.push.proofs.KeptRun.{shifted-load}
 

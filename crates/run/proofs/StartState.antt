@@ -21,7 +21,7 @@ use Rattle.algorithm.specs.Start.{start}
 use Rattle.algorithm.specs.States.{at-start}
 use Rattle.algorithm.specs.Run.{boardOf}
 use Rattle.algorithm.proofs.RockGraph.{uncrowded-test}
-use Rattle.arrays.specs.Loads.{amountOn}
+use Rattle.loads.specs.Loads.{amountOn}
 use Rattle.rocks.specs.declared.rocks.Limits.{Limits}
 use Rattle.rocks.specs.BoardArrays.{Owned, Pebbles}
 use Rattle.start.specs.StartArrays.{Fields, Placed}

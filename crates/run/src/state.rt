@@ -51,7 +51,7 @@ impl State {
         start::place_lowest(n.jobs, allowed, &mut place);
         start::peel(n, job, low, high, balance, &mut left, &mut place);
         let mut own = burden;
-        arrays::own_loads(n.jobs, amount, &left, &place, &mut own);
+        loads::own_loads(n.jobs, amount, &left, &place, &mut own);
         let mut reach = [0usize; 64];
         explore::fill_reach(n, pebble, allowed, &place, &mut reach);
         let mut places = [0u8; 512];

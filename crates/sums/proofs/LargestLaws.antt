@@ -4,23 +4,21 @@
 --     largest-at      largest n f is some f i, if n is not 0
 --     largest-cong    functions equal below n have the same largest
 --     largest-mono    a function that is at most another below n has a largest that is at most the other's
---     argmax-lt       argmax n f is below n, if n is not 0
---     argmax-largest  f takes its greatest value there
---     argmax-bound    f i is at most f there, for i below n
---     argmax-before   f is smaller before it
---     argmax-found    argmax n f is i, if f i is greatest and f is smaller before i
---     argmax-cong     functions equal below n have the same argmax
+--     fullest-is      at fullest n f, if n is not 0, f takes its greatest value and is smaller before; nowhere else
+--     fullest-cong    functions equal below n have the same fullest
+--     fullest-above, fullest-kept     the fullest of one value more, which is above all before it, or is not
 use Prim.Native.Nat.{ℕ, zero, suc, _≤_, _<_, max}
-use mathlib.Core.Path.{_≡_, refl, ap₂}
+use mathlib.Core.Path.{_≡_, refl, sym, ap₂}
+use mathlib.Core.Bool.{Bool}
 use mathlib.Core.Logic.{inl, inr}
 use lib.Dec.{eqb}
 use native.Mathlib.Omega.{arith}
 use borrow.Author.Tests.{eqb-true, eq-eqb}
 use Rattle.bools.proofs.BoolLaws.{tests}
 use Rattle.bools.proofs.OrderLaws.{lt-or-le, last-or-below}
-use Rattle.sums.specs.Sum.{largest}
-use Rattle.sums.specs.Argmax.{argmax}
-use Rattle.sums.proofs.SearchLaws.{least-found, least-le, least-holds, least-before, least-bound, least-cong}
+use Rattle.sums.specs.Sum.{largest, fullest, Fullest}
+use Rattle.sums.specs.Search.{least}
+use Rattle.sums.proofs.SearchLaws.{least-found, least-holds, least-before, least-bound, least-cong}
 
 pub largest-bound : (n : ℕ) (f : ℕ → ℕ) (i : ℕ) → i < n → f i ≤ largest n f
 largest-bound zero f i h = absurd (omega arith)
@@ -48,33 +46,58 @@ largest-cong (suc n) f g e = ap₂ max (largest-cong n f g (λ i h. e i (omega a
 pub largest-mono : (n : ℕ) (f g : ℕ → ℕ) → ((i : ℕ) → i < n → f i ≤ g i) → largest n f ≤ largest n g
 largest-mono n f g h = largest-le n f (largest n g) (λ i l. omega (arith, h i l, largest-bound n g i l))
 
--- ── argmax ──
+-- ── where it is taken ──
 
-pub argmax-lt : (n : ℕ) (f : ℕ → ℕ) → 0 < n → argmax n f < n
-unfolding argmax
-argmax-lt n f h = let r = largest-at n f h in
-    omega (arith, least-bound n (λ i. eqb (f i) (largest n f)) (r .0) (eq-eqb _ _ (r .2)))
+fullest-there : (n : ℕ) (f : ℕ → ℕ) → 0 < n → Fullest n f (fullest n f)
+unfolding fullest
+fullest-there n f some =
+    let test : ℕ → Bool = λ i. eqb (f i) (largest n f) in
+    let r = largest-at n f some in
+    let below : least n test < n = omega (arith, least-bound n test (r .0) (eq-eqb _ _ (r .2))) in
+    let there : f (least n test) ≡ largest n f = eqb-true _ _ (least-holds n test below) in
+    record {
+      one-of-them = below;
+      has-largest = there;
+      lower-less = λ k l. let d = least-before n test k l in omega (tests, largest-bound n f k (omega arith), there);
+    }
 
-pub argmax-largest : (n : ℕ) (f : ℕ → ℕ) → 0 < n → f (argmax n f) ≡ largest n f
-unfolding argmax
-argmax-largest n f h = eqb-true _ _ (least-holds n (λ i. eqb (f i) (largest n f)) (argmax-lt n f h))
+fullest-only : (n : ℕ) (f : ℕ → ℕ) (i : ℕ) → Fullest n f i → i ≡ fullest n f
+unfolding fullest
+fullest-only n f i F =
+    sym (least-found n (λ k. eqb (f k) (largest n f)) i (F .one-of-them) (eq-eqb _ _ (F .has-largest))
+    (λ k l. omega (tests, F .lower-less k l, F .has-largest)))
 
-pub argmax-bound : (n : ℕ) (f : ℕ → ℕ) (i : ℕ) → i < n → f i ≤ f (argmax n f)
-argmax-bound n f i h = rw (argmax-largest n f (omega arith)) (largest-bound n f i h)
+pub fullest-is : (n : ℕ) (f : ℕ → ℕ) → 0 < n
+    → Fullest n f (fullest n f) × ((i : ℕ) → Fullest n f i → i ≡ fullest n f)
+fullest-is n f some = (fullest-there n f some, fullest-only n f)
 
-pub argmax-before : (n : ℕ) (f : ℕ → ℕ) (k : ℕ) → k < argmax n f → f k < f (argmax n f)
-unfolding argmax
-argmax-before n f k h =
-    let l : k < n = omega (arith, least-le n (λ i. eqb (f i) (largest n f))) in
-    let d = least-before n (λ i. eqb (f i) (largest n f)) k h in
-    omega (tests, largest-bound n f k l, argmax-largest n f (omega arith))
+pub fullest-cong : (n : ℕ) (f g : ℕ → ℕ) → ((i : ℕ) → i < n → f i ≡ g i) → fullest n f ≡ fullest n g
+unfolding fullest
+fullest-cong n f g e =
+    least-cong n (λ i. eqb (f i) (largest n f)) (λ i. eqb (g i) (largest n g))
+    (λ i h. ap₂ eqb (e i h) (largest-cong n f g e))
 
-pub argmax-found : (n : ℕ) (f : ℕ → ℕ) (i : ℕ) → i < n → ((k : ℕ) → k < n → f k ≤ f i) → ((k : ℕ) → k < i → f k < f i) → argmax n f ≡ i
-unfolding argmax
-argmax-found n f i h top before =
-    let e : f i ≡ largest n f = omega (arith, largest-bound n f i h, largest-le n f (f i) top) in
-    least-found n (λ k. eqb (f k) (largest n f)) i h (omega tests) (λ k l. omega (tests, before k l))
+-- One value more takes its place only if it is above all before it.
+pub fullest-above : (n : ℕ) (f : ℕ → ℕ) → largest n f < f n → fullest (suc n) f ≡ n
+fullest-above n f above =
+    sym (fullest-is (suc n) f (omega arith) .1 n (record {
+      one-of-them = omega arith;
+      has-largest = omega arith;
+      lower-less = λ k l. omega (arith, largest-bound n f k l);
+    }))
 
-pub argmax-cong : (n : ℕ) (f g : ℕ → ℕ) → ((i : ℕ) → i < n → f i ≡ g i) → argmax n f ≡ argmax n g
-unfolding argmax
-argmax-cong n f g e = least-cong n (λ i. eqb (f i) (largest n f)) (λ i. eqb (g i) (largest n g)) (λ i h. ap₂ eqb (e i h) (largest-cong n f g e))
+pub fullest-kept : (n : ℕ) (f : ℕ → ℕ) → f n ≤ largest n f → fullest (suc n) f ≡ fullest n f
+unfolding fullest
+fullest-kept zero f small =
+    sym (fullest-is 1 f (omega arith) .1 0 (record {
+      one-of-them = omega arith;
+      has-largest = omega arith;
+      lower-less = λ k l. absurd (omega arith);
+    }))
+fullest-kept (suc n) f small =
+    let F = fullest-is (suc n) f (omega arith) .0 in
+    sym (fullest-is (suc (suc n)) f (omega arith) .1 (fullest (suc n) f) (record {
+      one-of-them = omega (arith, F .one-of-them);
+      has-largest = omega (arith, F .has-largest);
+      lower-less = F .lower-less;
+    }))

@@ -1,5 +1,4 @@
 pub mod Sum
 pub mod Search
 pub mod Table
-pub mod Argmax
 pub mod Members

@@ -5,16 +5,16 @@
 -- The same for as many numbers as there is room for:
 --     fitting-all           all of them, where there is room for all
 --     fitting-nothing, fitting-more    no number; and one more
---     pair-put              two numbers
+--     three-put             three numbers
 use Prim.Native.Nat.{ℕ, _+_, _*_, _≤_}
 use native.Mathlib.Omega.{arith}
-use mathlib.Core.Path.{_≡_, refl, sym, ap, ap₂, _∙_}
+use mathlib.Core.Path.{_≡_, refl, sym, ap, _∙_}
 use mathlib.Core.Logic.{inl, inr}
 use mathlib.Core.List.{List, [], _∷_, _++_}
 use lib.ListN.{length, take, drop, length-append, length-take, length-drop}
 use lib.Seq.{take-all, take-append-le, drop-drop, take-at, drop-at}
 use Rattle.bools.proofs.OrderLaws.{lt-or-le}
-use Rattle.bits.specs.Little.{littleOf, littleAll}
+use Rattle.bits.specs.Little.{littleAll}
 use Rattle.bits.proofs.LittleLaws.{length-littleAll, littleAll-append, littleAll-one}
 use Rattle.tables.specs.Tables.{putEntry, roomOf, putNumbers, putFitting}
 use Rattle.tables.proofs.TableSteps.{put-none, put-some}
@@ -68,8 +68,9 @@ fitting-more ns t v = elim (lt-or-le (length ns) (roomOf t)) [
       ∙ ap (λ (xs : List ℕ). putNumbers xs t) (sym (take-append-le (roomOf t) ns (v ∷ []) h))
 ]
 
-pub pair-put : (t : List ℕ) (a b : ℕ) {one two : List ℕ} → one ≡ putEntry t 0 a → two ≡ putEntry one 1 b
-    → two ≡ putFitting (a ∷ b ∷ []) t
-pair-put t a b first second =
+pub three-put : (t : List ℕ) (a b e : ℕ) {one two three : List ℕ} → one ≡ putEntry t 0 a → two ≡ putEntry one 1 b
+    → three ≡ putEntry two 2 e → three ≡ putFitting (a ∷ b ∷ e ∷ []) t
+three-put t a b e first second third =
     let begun = first ∙ ap (λ (xs : List ℕ). putEntry xs 0 a) (sym (fitting-nothing t)) ∙ fitting-more [] t a in
-    second ∙ ap (λ (xs : List ℕ). putEntry xs 1 b) begun ∙ fitting-more (a ∷ []) t b
+    let more = second ∙ ap (λ (xs : List ℕ). putEntry xs 1 b) begun ∙ fitting-more (a ∷ []) t b in
+    third ∙ ap (λ (xs : List ℕ). putEntry xs 2 e) more ∙ fitting-more (a ∷ b ∷ []) t e

@@ -24,10 +24,11 @@ pub fn put_front(from: &[u64], t: &mut [u8])
     }
 }
 
-// Two numbers, to the front of a table, as many as it has room for.
-pub fn put_pair(t: &mut [u8], a: u64, b: u64)
-    ensures { λ _. ⌜ now (t .exit) ≡ putFitting (a ∷ b ∷ []) (now (t .entry)) ⌝ }
+// Three numbers, to the front of a table, as many as it has room for.
+pub fn put_three(t: &mut [u8], first: u64, second: u64, third: u64)
+    ensures { λ _. ⌜ now (t .exit) ≡ putFitting (first ∷ second ∷ third ∷ []) (now (t .entry)) ⌝ }
 {
-    table::put(t, 0, a);
-    table::put(t, 1, b);
+    table::put(t, 0, first);
+    table::put(t, 1, second);
+    table::put(t, 2, third);
 }

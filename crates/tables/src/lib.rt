@@ -4,7 +4,7 @@ mod table;
 mod words;
 
 pub use front::put_front;
-pub use front::put_pair;
+pub use front::put_three;
 pub use front::room;
 pub use table::entries;
 pub use table::first_from;

@@ -2,7 +2,7 @@
 -- The arrays that the planner gets:
 --     front-length          the length of an array's front
 --     still-inside          what lies inside an array does so after a call that got its front
---     loads-room            the room for loads that is handed on: none where the answer's two numbers do not fit
+--     loads-room            the room for loads that is handed on: none where the answer's three numbers do not fit
 --     answer-capped         with room for at most 512 places and 64 loads the reply is the same, and fault 13 without
 --                           room for loads
 -- What the planner leaves in them:
@@ -52,11 +52,11 @@ still-inside n xs front h e inside =
     omega (arith, length-append front (drop n xs), length-take-le n xs h, length-drop n xs)
 
 pub loads-room : (loads numbers : List ℕ) {n : ℕ}
-    → ((length numbers < 16) × (n ≡ 0)) ⊎ ((16 ≤ length numbers) × (n ≡ min (length loads / 8) 64))
-    → n ≡ cond (ltb (roomOf numbers) 2) 0 (min (roomOf loads) 64)
+    → ((length numbers < 24) × (n ≡ 0)) ⊎ ((24 ≤ length numbers) × (n ≡ min (length loads / 8) 64))
+    → n ≡ cond (ltb (roomOf numbers) 3) 0 (min (roomOf loads) 64)
 loads-room loads numbers came = elim came [
-  | inl a ↦ rw (lt-ltb (roomOf numbers) 2 (omega arith)) (a .1)
-  | inr a ↦ rw (le-ltb (roomOf numbers) 2 (omega arith)) (a .1)
+  | inl a ↦ rw (lt-ltb (roomOf numbers) 3 (omega arith)) (a .1)
+  | inr a ↦ rw (le-ltb (roomOf numbers) 3 (omega arith)) (a .1)
 ]
 
 -- ── the reply ──
@@ -69,13 +69,13 @@ ltb-min m k n h = elim (lt-or-le m n) [
 
 -- An accepted sheet has at most 512 jobs, and 1 to 64 benches.
 short-capped : (s : List ℕ) (c : Contents) → readSheet s ≡ accepted c → (np nl na : ℕ)
-    → shortTables c (min np 512) (cond (ltb na 2) 0 (min nl 64)) ≡ (shortTables c np nl || ltb na 2)
+    → shortTables c (min np 512) (cond (ltb na 3) 0 (min nl 64)) ≡ (shortTables c np nl || ltb na 3)
 short-capped s c e np nl na =
     let sound = accepted-sound s c e in
     let jobs : ℕ = length (c .jobs) in
     let benches : ℕ = c .head .benches in
     let jobs-short : ltb (min np 512) jobs ≡ ltb np jobs = ltb-min np 512 jobs (sound .at-most-512-jobs) in
-    elim (split (ltb na 2)) [
+    elim (split (ltb na 3)) [
       | inl a ↦
           let benches-short : ltb 0 benches ≡ true = lt-ltb 0 benches (sound .head .some-bench) in
           ap (λ (b : Bool). ltb (min np 512) jobs || ltb (cond b 0 (min nl 64)) benches) a
@@ -89,9 +89,9 @@ short-capped s c e np nl na =
     ]
 
 pub answer-capped : (s : List ℕ) (np nl na : ℕ)
-    → answerFor s (min np 512) (cond (ltb na 2) 0 (min nl 64)) ≡ doorAnswer s np nl na
+    → answerFor s (min np 512) (cond (ltb na 3) 0 (min nl 64)) ≡ doorAnswer s np nl na
 answer-capped s np nl na =
-    let loads-handed : ℕ = cond (ltb na 2) 0 (min nl 64) in
+    let loads-handed : ℕ = cond (ltb na 3) 0 (min nl 64) in
     elim (read-cases (readSheet s)) [
       | inl (f, e) ↦ answer-refused s (min np 512) loads-handed f e ∙ sym (door-refused s np nl na f e)
       | inr (c, e) ↦
@@ -100,11 +100,11 @@ answer-capped s np nl na =
           ∙ sym (door-read s np nl na c e)
     ]
 
-at-most-two : (a : Answer) → length (answerNumbers a) ≤ 2
-at-most-two (Plan p) = omega arith
-at-most-two (Long j) = omega arith
-at-most-two (None n) = omega arith
-at-most-two (Faulty f) = omega arith
+at-most-three : (a : Answer) → length (answerNumbers a) ≤ 3
+at-most-three (Plan p) = omega arith
+at-most-three (Long j) = omega arith
+at-most-three (None n) = omega arith
+at-most-three (Faulty f) = omega arith
 
 -- ── what the planner leaves in the arrays ──
 
@@ -117,7 +117,7 @@ front-taken ns lent rest {k = k} e count =
     ∙ take-at ns (lent ++ rest) k (sym count)
 
 module _ (s places loads numbers : List ℕ) {np nl : ℕ}
-    (ep : np ≡ min (roomOf places) 512) (el : nl ≡ cond (ltb (roomOf numbers) 2) 0 (min (roomOf loads) 64))
+    (ep : np ≡ min (roomOf places) 512) (el : nl ≡ cond (ltb (roomOf numbers) 3) 0 (min (roomOf loads) 64))
     {r : Filled} {p₀ l₀ p l : List ℕ} (answered : Answered (answerFor s np nl) r p₀ l₀ p l) where
   abbrev door : Reply
   door = doorAnswer s (roomOf places) (roomOf loads) (roomOf numbers)
@@ -180,20 +180,20 @@ module _ (s places loads numbers : List ℕ) {np nl : ℕ}
           new-numbers = put ∙ ap (λ (x : Answer). putNumbers (answerNumbers x) numbers) is;
         }
 
-    -- No fault: then there is room for two numbers.
-    numbers-room : {a : Answer} → r .answer ≡ a → isFault a ≡ false → 16 ≤ length numbers
+    -- No fault: then there is room for three numbers.
+    numbers-room : {a : Answer} → r .answer ≡ a → isFault a ≡ false → 24 ≤ length numbers
     numbers-room e fine = elim (fault-or-room s (roomOf places) (roomOf loads) (roomOf numbers)) [
       | inl f ↦
           let faulty = ap (λ (a : Reply). a .answer) (f .replies) in
           clash (ap isFault faulty) (ap isFault (sym same-answer ∙ e) ∙ fine)
-      | inr room ↦ let two = room .numbers-fit in omega arith
+      | inr room ↦ let three = room .numbers-fit in omega arith
     ]
 
     pub answer-called : (a : Answer) {word : ℕ} {numbers′ : List ℕ} → r .answer ≡ a → isFault a ≡ false
         → word ≡ planWord a → numbers′ ≡ putFitting (answerNumbers a) numbers
         → Called door word places loads numbers places′ loads′ numbers′
     answer-called a e fine w put =
-        let two = at-most-two a in
+        let three = at-most-three a in
         called e w (put ∙ fitting-all (answerNumbers a) numbers (omega (arith, numbers-room e fine)))
 
     pub fault-called : {f : Fault} {word : ℕ} → r .answer ≡ Faulty f → word ≡ faultWord f

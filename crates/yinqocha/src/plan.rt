@@ -11,7 +11,7 @@ const LONG: u64 = 2;
 
 const NONE: u64 = 3;
 
-// Plans a sheet: the answer's word, its two numbers, and for a plan each job's bench and each bench's load.
+// Plans a sheet: the answer's word, its three numbers, and for a plan each job's bench and each bench's load.
 #[no_mangle]
 pub extern "C" fn yinqocha_plan(
     sheet: &[u8],
@@ -32,7 +32,7 @@ pub extern "C" fn yinqocha_plan(
     let mut l = [0u64; 64];
     let np = tables::room(places.len(), 512);
     // Without room for the loads every sheet that is read is fault 13.
-    let nl = if answer.len() < 16 {
+    let nl = if answer.len() < 24 {
         0
     } else {
         tables::room(loads.len(), 64)
@@ -45,15 +45,15 @@ pub extern "C" fn yinqocha_plan(
     let given = filled.answer;
     match given {
         Answer::Plan(a) => {
-            tables::put_pair(answer, a.largest, a.moves);
+            tables::put_three(answer, a.largest, a.moves, a.fullest);
             PLAN
         }
         Answer::Long(a) => {
-            tables::put_pair(answer, a.job, 0);
+            tables::put_three(answer, a.job, 0, 0);
             LONG
         }
         Answer::None(a) => {
-            tables::put_pair(answer, a.set, a.moves);
+            tables::put_three(answer, a.set, a.moves, 0);
             NONE
         }
         Answer::Fault(f) => tables::fault_word(f),

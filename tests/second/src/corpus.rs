@@ -6,12 +6,13 @@
 //! head: 2 benches, share 4/7, target 4
 //! booked: 3 on 1
 //! jobs: 2 on 0 1; 2 on 0 1; 2 on 0 1; 2 on 0 1
-//! without: plan 6 1; places 1 0 0 0; loads 6 2
-//! answer: plan 6 1; places 1 0 0 0; loads 6 5
+//! without: plan 6 1 0; places 1 0 0 0; loads 6 2
+//! answer: plan 6 1 0; places 1 0 0 0; loads 6 5
 //! ```
 //!
-//! The other answers are `none MOVES; benches B ...`, `long JOB` and `fault NUMBER PLACE`. Lines
-//! that start with # and empty lines say nothing.
+//! A plan has the largest load, the moves and the fullest bench. The other answers are
+//! `none MOVES; benches B ...`, `long JOB` and `fault NUMBER PLACE`. Lines that start with # and
+//! empty lines say nothing.
 
 use crate::codec::fault::Fault;
 use crate::codec::sheet::{Booked, Head, Job, NOTHING_BOOKED};
@@ -89,9 +90,9 @@ pub fn print_answer(answer: Result<Answer, Fault>) -> String {
         Err(Fault { number, place }) => format!("fault {number} {place}"),
         Ok(Answer::Long { job }) => format!("long {job}"),
         Ok(Answer::None { benches, moves }) => format!("none {moves}; benches{}", row(benches)),
-        Ok(Answer::Plan { largest, moves, places, loads }) => {
+        Ok(Answer::Plan { largest, moves, fullest, places, loads }) => {
             let (places, loads) = (row(places), row(loads));
-            format!("plan {largest} {moves}; places{places}; loads{loads}")
+            format!("plan {largest} {moves} {fullest}; places{places}; loads{loads}")
         }
     }
 }

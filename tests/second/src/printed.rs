@@ -8,16 +8,17 @@ use crate::planner::set::Set;
 
 /// The text of the bay program: "`plan 5 0` (largest load, moves) and `0 0` (job, bench; one line a
 /// job). Else one line: `long` and the job; `none`, the moves and the benches rising; `fault`,
-/// number and place."
+/// number and place." Of the fullest bench: "A plan's line prints it after the moves, so example 2
+/// begins `plan 5 0 0`".
 pub fn bay(planner: &mut Planner, sheet: &[u8]) -> String {
     match planner.plan(sheet, Rooms::FULL) {
         Err(fault) => fault_line(fault),
         Ok(Answer::Long { job }) => format!("long {job}\n"),
         Ok(Answer::None { benches, moves }) => format!("none {moves}{}\n", spaced(benches)),
-        Ok(Answer::Plan { largest, moves, places, .. }) => {
+        Ok(Answer::Plan { largest, moves, fullest, places, .. }) => {
             let line = |(job, bench)| format!("{job} {bench}\n");
             let lines: String = places.iter().enumerate().map(line).collect();
-            format!("plan {largest} {moves}\n{lines}")
+            format!("plan {largest} {moves} {fullest}\n{lines}")
         }
     }
 }
@@ -74,9 +75,10 @@ mod tests {
     }
 
     #[test]
-    fn the_bay_program_prints_the_lines_of_document_01() {
+    fn the_bay_program_prints_the_lines_of_the_papers() {
         let mut planner = Planner::new();
-        assert_eq!(bay(&mut planner, &example("example 2")), "plan 5 0\n0 0\n");
+        assert_eq!(bay(&mut planner, &example("example 2")), "plan 5 0 0\n0 0\n");
+        assert_eq!(bay(&mut planner, &example("example 7")), "plan 5 0 1\n0 1\n");
         assert_eq!(bay(&mut planner, &example("example 3")), "long 0\n");
         assert_eq!(bay(&mut planner, &example("example 4")), "none 0 0 1\n");
         assert_eq!(bay(&mut planner, &[]), "fault 2 0\n");

@@ -171,8 +171,8 @@ mod tests {
     use super::*;
     use crate::codec::door::Codec;
     use crate::codec::fault::Fault;
-    use crate::planner::algorithm::{Answer, Planner, Rooms};
-    use crate::planner::set::Set;
+    use crate::corpus::print_answer;
+    use crate::planner::algorithm::{Planner, Rooms};
 
     #[test]
     fn the_folder_has_these_bytes() {
@@ -193,17 +193,13 @@ mod tests {
 
     #[test]
     fn the_bay_samples_plan_as_they_are_described() {
-        let mut planner = Planner::new();
-        let Ok(Answer::Plan { largest, moves, .. }) = planner.plan(&bay(), Rooms::FULL) else {
-            panic!("no plan")
+        let plan = |sheet: &[u8]| print_answer(Planner::new().plan(sheet, Rooms::FULL));
+        let planned = |sheet: &[u8], front: &str, loads: &str| {
+            let answer = plan(sheet);
+            assert!(answer.starts_with(front) && answer.ends_with(loads), "{answer}");
         };
-        assert_eq!((largest, moves), (860, 6));
-        let benches = Set(bench_bit(0) | bench_bit(1));
-        assert_eq!(planner.plan(&none(), Rooms::FULL), Ok(Answer::None { benches, moves: 37 }));
-        let Ok(Answer::Plan { largest, moves, loads, .. }) = planner.plan(&booked(), Rooms::FULL)
-        else {
-            panic!("no plan")
-        };
-        assert_eq!((largest, moves, loads), (870, 11, &[870, 600, 365, 505, 350][..]));
+        planned(&bay(), "plan 860 6 0; places", "loads 860 485 365 360 320");
+        planned(&booked(), "plan 870 11 0; places", "loads 870 600 365 505 350");
+        assert_eq!(plan(&none()), "none 37; benches 0 1");
     }
 }

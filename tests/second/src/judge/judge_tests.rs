@@ -73,15 +73,16 @@ fn loads_without_their_booking_are_refused() {
     let mut codec = Codec::default();
     let bytes = booked(head(2, 5), &[(1, 4)], &[job(5, &[0, 1])]).draft().bytes();
     let sheet = codec.read(&bytes).expect("accepted");
-    let plan =
-        |largest, places, loads| judge(sheet, &Answer::Plan { largest, moves: 0, places, loads });
-    assert_eq!(plan(5, &[0], &[5, 4]), Ok(()));
-    assert_eq!(plan(9, &[1], &[0, 9]), Ok(()));
-    assert!(plan(5, &[0], &[5, 0]).is_err());
-    assert!(plan(5, &[1], &[0, 5]).is_err());
+    let plan = |largest, fullest, places, loads| {
+        judge(sheet, &Answer::Plan { largest, moves: 0, fullest, places, loads })
+    };
+    assert_eq!(plan(5, 0, &[0], &[5, 4]), Ok(()));
+    assert_eq!(plan(9, 1, &[1], &[0, 9]), Ok(()));
+    assert!(plan(5, 0, &[0], &[5, 0]).is_err());
+    assert!(plan(5, 1, &[1], &[0, 5]).is_err());
     let bytes = booked(head(2, 5), &[(1, 5)], &[job(5, &[0, 1])]).draft().bytes();
     let sheet = codec.read(&bytes).expect("accepted");
-    let above = Answer::Plan { largest: 10, moves: 0, places: &[1], loads: &[0, 10] };
+    let above = Answer::Plan { largest: 10, moves: 0, fullest: 1, places: &[1], loads: &[0, 10] };
     assert!(judge(sheet, &above).is_err());
 }
 
@@ -104,8 +105,9 @@ fn wrong_answers_are_refused() {
     let mut codec = Codec::default();
     let bytes = Draft::new(head(2, 5), &[job(5, &[0, 1]); 2]).bytes();
     let sheet = codec.read(&bytes).expect("accepted");
-    let plan =
-        |largest, places, loads| judge(sheet, &Answer::Plan { largest, moves: 0, places, loads });
+    let plan = |largest, places, loads| {
+        judge(sheet, &Answer::Plan { largest, moves: 0, fullest: 0, places, loads })
+    };
     assert_eq!(plan(5, &[1, 0], &[5, 5]), Ok(()));
     assert!(plan(6, &[1, 0], &[5, 5]).is_err());
     assert!(plan(10, &[0, 0], &[10, 0]).is_err());
@@ -113,6 +115,39 @@ fn wrong_answers_are_refused() {
     assert!(plan(5, &[1, 0], &[5, 4]).is_err());
     assert!(judge(sheet, &Answer::Long { job: 0 }).is_err());
     assert!(judge(sheet, &Answer::None { benches: Set::first(2), moves: 0 }).is_err());
+}
+
+#[test]
+fn another_fullest_bench_is_refused() {
+    let mut codec = Codec::default();
+    // Bench 0 has two jobs and 4 minutes, bench 2 a booking alone, as full as bench 1.
+    let jobs = [job(2, &[0]), job(2, &[0]), job(5, &[1]), job(1, &[3])];
+    let bytes = booked(head(4, 5), &[(2, 5)], &jobs).draft().bytes();
+    let sheet = codec.read(&bytes).expect("accepted");
+    let plan = |fullest| {
+        let (places, loads) = (&[0, 0, 1, 3], &[4, 5, 5, 1]);
+        judge(sheet, &Answer::Plan { largest: 5, moves: 0, fullest, places, loads })
+    };
+    assert_eq!(plan(1), Ok(()));
+    assert_eq!(plan(2), Err("a lower bench is as full as the fullest"));
+    for less in [0, 3] {
+        assert_eq!(plan(less), Err("the fullest bench has less than the largest load"));
+    }
+    for past in [4, 63, 64, usize::MAX] {
+        assert_eq!(plan(past), Err("the head lacks the fullest bench"));
+    }
+}
+
+#[test]
+fn with_nothing_to_do_bench_0_is_the_fullest() {
+    let mut codec = Codec::default();
+    let bytes = Draft::new(head(3, 9), &[]).bytes();
+    let sheet = codec.read(&bytes).expect("accepted");
+    let plan = |fullest| {
+        judge(sheet, &Answer::Plan { largest: 0, moves: 0, fullest, places: &[], loads: &[0; 3] })
+    };
+    assert_eq!(plan(0), Ok(()));
+    assert!(plan(1).is_err() && plan(2).is_err());
 }
 
 #[test]

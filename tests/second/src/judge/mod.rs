@@ -1,8 +1,9 @@
 //! What an answer must be, read from the sheet alone and found by search, never by the run.
 //!
-//! Of every sheet, whatever its size: a plan is an assignment with its loads within the bound, a
-//! none's set is blocking, long is the lowest job above T. Of a sheet with few assignments
-//! besides: where one of them keeps every bench within T, the answer is a plan.
+//! Of every sheet, whatever its size: a plan is an assignment with its loads within the bound and
+//! names the fullest bench, a none's set is blocking, long is the lowest job above T. Of a sheet
+//! with few assignments besides: where one of them keeps every bench within T, the answer is a
+//! plan.
 
 #[cfg(test)]
 mod judge_tests;
@@ -19,9 +20,10 @@ pub fn judge(sheet: &Sheet, answer: &Answer) -> Result<(), &'static str> {
     match *answer {
         Answer::Long { job } => require(long == Some(job), "not the lowest long job"),
         _ if long.is_some() => Err("a job is long"),
-        Answer::Plan { largest, moves, places, loads } => {
+        Answer::Plan { largest, moves, fullest, places, loads } => {
             judge_moves(sheet, moves)?;
-            judge_plan(sheet, largest, places, loads)
+            judge_loads(sheet, places, loads)?;
+            judge_fullest(largest, fullest, loads)
         }
         Answer::None { benches, moves } => {
             judge_moves(sheet, moves)?;
@@ -46,12 +48,8 @@ fn judge_moves(sheet: &Sheet, moves: u64) -> Result<(), &'static str> {
     require(moves <= most, "more moves than there can be")
 }
 
-fn judge_plan(
-    sheet: &Sheet,
-    largest: u64,
-    places: &[u64],
-    loads: &[u64],
-) -> Result<(), &'static str> {
+/// The places are an assignment, and these are its loads, one for each bench of the head.
+fn judge_loads(sheet: &Sheet, places: &[u64], loads: &[u64]) -> Result<(), &'static str> {
     let Head { benches, p, q, target } = sheet.head();
     require(is_assignment(sheet, places), "a job is not on an allowed bench")?;
     require(loads.len() == benches as usize, "not one load for each bench")?;
@@ -63,7 +61,16 @@ fn judge_plan(
         // "A load is within the demand's bound if 3q × load ≤ (5q + p) × T."
         require(3 * q * load <= (5 * q + p) * target, "a load is above the bound")?;
     }
-    require(loads.iter().max() == Some(&largest), "not the largest load")
+    Ok(())
+}
+
+/// No load is above the largest, the fullest bench has it, "the lowest on a tie".
+fn judge_fullest(largest: u64, fullest: usize, loads: &[u64]) -> Result<(), &'static str> {
+    require(loads.iter().max() == Some(&largest), "not the largest load")?;
+    require(fullest < loads.len(), "the head lacks the fullest bench")?;
+    require(loads[fullest] == largest, "the fullest bench has less than the largest load")?;
+    let lower = &loads[..fullest];
+    require(lower.iter().all(|&load| load < largest), "a lower bench is as full as the fullest")
 }
 
 /// Some assignment keeps every bench within T. Tries them all, but for those that a bench above T

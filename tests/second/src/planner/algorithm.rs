@@ -9,10 +9,11 @@ use crate::codec::door::Codec;
 use crate::codec::fault::{Fault, NO_ROOM};
 use crate::codec::sheet::{Sheet, MAX_JOBS};
 
-/// "The three answers". A plan's tables are lent by the planner.
+/// "The three answers"; "every answer with a largest load carries" the fullest bench. A plan's
+/// tables are lent by the planner.
 #[derive(Clone, Copy, Debug, PartialEq, Eq)]
 pub enum Answer<'a> {
-    Plan { largest: u64, moves: u64, places: &'a [u64], loads: &'a [u64] },
+    Plan { largest: u64, moves: u64, fullest: usize, places: &'a [u64], loads: &'a [u64] },
     Long { job: usize },
     None { benches: Set, moves: u64 },
 }
@@ -85,8 +86,8 @@ impl Planner {
             Ok(moves) => {
                 add_loads(sheet, places, loads);
                 let (places, loads) = (&places[..jobs], &loads[..benches]);
-                let largest = loads.iter().copied().max().unwrap_or(0);
-                Ok(Answer::Plan { largest, moves, places, loads })
+                let (fullest, largest) = fullest(loads);
+                Ok(Answer::Plan { largest, moves, fullest, places, loads })
             }
         }
     }
@@ -134,6 +135,17 @@ fn add_loads(sheet: &Sheet, places: &[u64], loads: &mut [u64; 64]) {
     for (job, &place) in sheet.jobs().iter().zip(places) {
         loads[place as usize] += job.minutes;
     }
+}
+
+/// "the fullest bench, the lowest on a tie", and its load, the largest.
+fn fullest(loads: &[u64]) -> (usize, u64) {
+    let mut fullest = (0, 0);
+    for (bench, &load) in loads.iter().enumerate() {
+        if load > fullest.1 {
+            fullest = (bench, load);
+        }
+    }
+    fullest
 }
 
 /// Algorithm 2 on a sheet with no job longer than T: the moves made, with the places of all jobs;

@@ -13,9 +13,9 @@ pub const NONE: u64 = 3;
 pub const DIFFERENT: u64 = 0;
 pub const SAME: u64 = 1;
 
-/// The entries of the answer table: largest load and moves of a plan; job and 0 of a long one;
-/// set of benches and moves of a none.
-pub const ANSWER_ENTRIES: usize = 2;
+/// The entries of the answer table: largest load, moves and fullest bench of a plan; job, 0 and 0
+/// of a long one; set of benches, moves and 0 of a none.
+pub const ANSWER_ENTRIES: usize = 3;
 
 /// The entries that a table has room for: a begun one is no room.
 fn room(table: &[u8]) -> usize {
@@ -44,15 +44,15 @@ pub fn plan(
     match planner.plan(sheet, rooms) {
         Err(fault) => word(Err(fault)),
         Ok(Answer::Long { job }) => {
-            put(answer, &[job as u64, 0]);
+            put(answer, &[job as u64, 0, 0]);
             LONG
         }
         Ok(Answer::None { benches, moves }) => {
-            put(answer, &[benches.0, moves]);
+            put(answer, &[benches.0, moves, 0]);
             NONE
         }
-        Ok(Answer::Plan { largest, moves, places: benches, loads: minutes }) => {
-            put(answer, &[largest, moves]);
+        Ok(Answer::Plan { largest, moves, fullest, places: benches, loads: minutes }) => {
+            put(answer, &[largest, moves, fullest as u64]);
             put(places, benches);
             put(loads, minutes);
             PLAN

@@ -27,19 +27,23 @@ fn table(entries: &[u64], more: usize) -> Vec<u8> {
 
 #[test]
 fn a_plan_fills_three_tables() {
-    let expected = [table(&[1, 0, 0, 0], 9), table(&[6, 2], 8), table(&[6, 1], 1)];
-    assert_eq!(plan(head(2, 4), &[job(2, &[0, 1]); 4], [41, 24, 17]), (PLAN, expected));
+    let expected = [table(&[1, 0, 0, 0], 9), table(&[6, 2], 8), table(&[6, 1, 0], 1)];
+    assert_eq!(plan(head(2, 4), &[job(2, &[0, 1]); 4], [41, 24, 25]), (PLAN, expected));
+    // The fullest bench is another than 0.
+    let jobs = [job(4, &[0]), job(9, &[2]), job(5, &[1]), job(4, &[1])];
+    let expected = [table(&[0, 2, 1, 1], 0), table(&[4, 9, 9], 0), table(&[9, 0, 1], 40)];
+    assert_eq!(plan(head(3, 9), &jobs, [32, 24, 64]), (PLAN, expected));
 }
 
 #[test]
 fn long_and_none_leave_places_and_loads() {
-    let (jobs, rooms) = ([job(5, &[0, 1]); 3], [24, 16, 16]);
+    let (jobs, rooms) = ([job(5, &[0, 1]); 3], [24, 16, 29]);
     let untouched = || (table(&[], 24), table(&[], 16));
     let (places, loads) = untouched();
-    let none = [places, loads, table(&[0b11 << 62, 0], 0)];
+    let none = [places, loads, table(&[0b11 << 62, 0, 0], 5)];
     assert_eq!(plan(head(2, 8), &jobs, rooms), (NONE, none));
     let (places, loads) = untouched();
-    let long = [places, loads, table(&[0, 0], 0)];
+    let long = [places, loads, table(&[0, 0, 0], 5)];
     assert_eq!(plan(head(2, 4), &jobs, rooms), (LONG, long));
 }
 
@@ -47,7 +51,7 @@ fn long_and_none_leave_places_and_loads() {
 fn a_begun_entry_is_no_room() {
     let no_room = word(Err(Fault::new(13, 0)));
     for target in [4, 8, 9] {
-        for rooms in [[23, 16, 16], [24, 15, 16], [24, 16, 15], [24, 16, 0]] {
+        for rooms in [[23, 16, 24], [24, 15, 24], [24, 16, 23], [24, 16, 16], [24, 16, 0]] {
             let untouched = rooms.map(|room| table(&[], room));
             let answer = plan(head(2, target), &[job(5, &[0, 1]); 3], rooms);
             assert_eq!(answer, (no_room, untouched));

@@ -12,7 +12,7 @@ use crate::samples::example_12;
 /// An answer that outlives the planner.
 #[derive(Debug, PartialEq, Eq)]
 pub enum Owned {
-    Plan { largest: u64, moves: u64, places: Vec<u64>, loads: Vec<u64> },
+    Plan { largest: u64, moves: u64, fullest: usize, places: Vec<u64>, loads: Vec<u64> },
     Long(usize),
     None { benches: Vec<usize>, moves: u64 },
     Fault(u32, usize),
@@ -23,8 +23,9 @@ pub fn answer(bytes: &[u8], rooms: Rooms) -> Owned {
         Err(Fault { number, place }) => Owned::Fault(number, place),
         Ok(Answer::Long { job }) => Owned::Long(job),
         Ok(Answer::None { benches, moves }) => Owned::None { benches: benches.collect(), moves },
-        Ok(Answer::Plan { largest, moves, places, loads }) => {
-            Owned::Plan { largest, moves, places: places.to_vec(), loads: loads.to_vec() }
+        Ok(Answer::Plan { largest, moves, fullest, places, loads }) => {
+            let (places, loads) = (places.to_vec(), loads.to_vec());
+            Owned::Plan { largest, moves, fullest, places, loads }
         }
     }
 }
@@ -55,14 +56,14 @@ pub fn plan_day(day: &Day) -> Owned {
     answer(&day.draft().bytes(), Rooms::FULL)
 }
 
-pub fn planned(largest: u64, moves: u64, places: &[u64], loads: &[u64]) -> Owned {
-    Owned::Plan { largest, moves, places: places.to_vec(), loads: loads.to_vec() }
+pub fn planned(largest: u64, moves: u64, fullest: usize, places: &[u64], loads: &[u64]) -> Owned {
+    Owned::Plan { largest, moves, fullest, places: places.to_vec(), loads: loads.to_vec() }
 }
 
 #[test]
 fn examples_1_to_3() {
-    assert_eq!(plan(head(1, 0), &[]), planned(0, 0, &[], &[0]));
-    assert_eq!(plan(head(1, 5), &[job(5, &[0])]), planned(5, 0, &[0], &[5]));
+    assert_eq!(plan(head(1, 0), &[]), planned(0, 0, 0, &[], &[0]));
+    assert_eq!(plan(head(1, 5), &[job(5, &[0])]), planned(5, 0, 0, &[0], &[5]));
     assert_eq!(plan(head(1, 4), &[job(5, &[0])]), Owned::Long(0));
 }
 
@@ -70,26 +71,26 @@ fn examples_1_to_3() {
 fn examples_4_and_5() {
     let jobs = [job(5, &[0, 1]); 3];
     assert_eq!(plan(head(2, 8), &jobs), Owned::None { benches: vec![0, 1], moves: 0 });
-    assert_eq!(plan(head(2, 9), &jobs), planned(15, 0, &[0, 0, 0], &[15, 0]));
+    assert_eq!(plan(head(2, 9), &jobs), planned(15, 0, 0, &[0, 0, 0], &[15, 0]));
 }
 
 #[test]
 fn examples_6_and_7() {
-    assert_eq!(plan(head(2, 5), &[job(5, &[0, 1]); 2]), planned(5, 0, &[1, 0], &[5, 5]));
-    assert_eq!(plan(head(2, 5), &[job(5, &[0, 1])]), planned(5, 0, &[1], &[0, 5]));
+    assert_eq!(plan(head(2, 5), &[job(5, &[0, 1]); 2]), planned(5, 0, 0, &[1, 0], &[5, 5]));
+    assert_eq!(plan(head(2, 5), &[job(5, &[0, 1])]), planned(5, 0, 1, &[1], &[0, 5]));
 }
 
 #[test]
 fn example_8() {
     let jobs = [job(2, &[0, 1]); 4];
-    assert_eq!(plan(head(2, 4), &jobs), planned(6, 1, &[1, 0, 0, 0], &[6, 2]));
+    assert_eq!(plan(head(2, 4), &jobs), planned(6, 1, 0, &[1, 0, 0, 0], &[6, 2]));
 }
 
 #[test]
 fn example_9() {
     let with_share = |p, q| plan(Head { benches: 1, p, q, target: 0 }, &[]);
     assert_eq!(with_share(5, 9), Owned::Fault(8, 0));
-    assert_eq!(with_share(99, 100), planned(0, 0, &[], &[0]));
+    assert_eq!(with_share(99, 100), planned(0, 0, 0, &[], &[0]));
     assert_eq!(with_share(7, 7), Owned::Fault(8, 0));
 }
 
@@ -97,14 +98,14 @@ fn example_9() {
 fn example_10() {
     let jobs = |minutes| [job(7, &[0]), job(minutes, &[0, 1, 2])];
     // 21 × 11 = 231 is not above 39 × 7 = 273.
-    assert_eq!(plan(head(3, 7), &jobs(4)), planned(11, 0, &[0, 0], &[11, 0, 0]));
+    assert_eq!(plan(head(3, 7), &jobs(4)), planned(11, 0, 0, &[0, 0], &[11, 0, 0]));
     assert_eq!(plan(head(3, 7), &jobs(5)), Owned::Fault(12, 1));
 }
 
 #[test]
 fn examples_11_and_12() {
     assert_eq!(answer(&[], Rooms::FULL), Owned::Fault(2, 0));
-    let expected = planned(15, 0, &[0, 0, 0], &[15, 0]);
+    let expected = planned(15, 0, 0, &[0, 0, 0], &[15, 0]);
     assert_eq!(answer(&example_12(), Rooms::FULL), expected);
     let mut bytes = example_12();
     bytes.splice(10..10, hex::parse("21 00 01 FF"));

@@ -1,6 +1,6 @@
-//! The second planner: document 01's run, written from that document, request S-1 of document 02
-//! and chapter 4 of source document 000. Sentences in quotation marks are theirs. Every weight is
-//! multiplied by 3q when it enters the run, so that each comparison is exact.
+//! The second planner: document 01's run, written from that document, requests S-1 and S-2 of
+//! document 02 and chapter 4 of source document 000. Sentences in quotation marks are theirs. Every
+//! weight is multiplied by 3q when it enters the run, so that each comparison is exact.
 //!
 //! - `set`: sets of benches and of rocks.
 //! - `rocks`: heavy jobs as edges between benches; crowded components; peeling.
@@ -32,6 +32,8 @@ mod compare_tests;
 mod door_tests;
 #[cfg(test)]
 pub(crate) mod example_tests;
+#[cfg(test)]
+mod fullest_tests;
 #[cfg(test)]
 mod literal;
 #[cfg(test)]

@@ -20,9 +20,14 @@ pub fn all(check: &mut Check) {
     scripts(check);
 }
 
-/// Examples 11 and 12; the corpus has the others.
+/// Example 2, to the letter, and examples 11 and 12; the corpus has the others.
 fn examples(check: &mut Check) {
-    check.class("examples 11 and 12");
+    check.class("examples 2, 11 and 12");
+    let head = Head { benches: 1, p: 4, q: 7, target: 5 };
+    let example_2 = Day::new(head, vec![Job { minutes: 5, allowed: bench_bit(0) }]);
+    let sheet = example_2.draft().bytes();
+    let [bay, _] = check.sheet(&sheet, Feed::AtOnce);
+    check.expect("example 2", bay == "plan 5 0 0\n0 0\n", &sheet);
     let [bay, show] = check.sheet(&[], Feed::AtOnce);
     check.expect("example 11", bay == "fault 2 0\n" && bay == show, &[]);
     let plain = samples::example_12();
@@ -30,7 +35,7 @@ fn examples(check: &mut Check) {
     longer.splice(10..10, hex::parse("21 00 01 FF"));
     for sheet in [plain, longer] {
         let [bay, _] = check.sheet(&sheet, Feed::AtOnce);
-        check.expect("example 12", bay == "plan 15 0\n0 0\n1 0\n2 0\n", &sheet);
+        check.expect("example 12", bay == "plan 15 0 0\n0 0\n1 0\n2 0\n", &sheet);
     }
 }
 
@@ -80,7 +85,10 @@ fn full(check: &mut Check) {
     let choice = Job { minutes: MOST_MINUTES * 126 / 127, allowed: u64::MAX };
     let mut all_benches = Day { booked: [MOST_MINUTES; 64], ..Day::new(head, vec![choice; 512]) };
     all_benches.jobs[511] = longest;
-    let mut days = vec![last_bench, all_benches];
+    let sheet = last_bench.draft().bytes();
+    let [bay, _] = check.sheet(&sheet, Feed::AtOnce);
+    check.expect("the last bench", bay.starts_with("plan 536870400 0 63\n0 63\n"), &sheet);
+    let mut days = vec![all_benches];
     for _ in 0..4 {
         let size = days::full(&mut check.rng);
         days.push(days::any(&mut check.rng, size));

@@ -18,7 +18,14 @@ pub struct Tally {
 
 /// The kinds of text that must be met: each answer, each fault of a sheet.
 fn wanted() -> Vec<String> {
-    let answers = ["bay: plan", "bay: long", "bay: none", "show: sheet", "show: booked sheet"];
+    let answers = [
+        "bay: plan, bench 0 the fullest",
+        "bay: plan, another bench the fullest",
+        "bay: long",
+        "bay: none",
+        "show: sheet",
+        "show: booked sheet",
+    ];
     let answers = answers.map(String::from);
     let faults = FAULTS
         .into_iter()
@@ -26,12 +33,14 @@ fn wanted() -> Vec<String> {
     answers.into_iter().chain(faults).collect()
 }
 
-/// The kind of a text: its first word; of a fault also the number; a sheet's head is a number, and
-/// its bookings have lines of their own.
+/// The kind of a text: its first word; of a fault also the number, of a plan also the fullest
+/// bench, behind two numbers; a sheet's head is a number, and its bookings have lines of their own.
 fn kind(text: &str) -> String {
     let mut words = text.split_whitespace();
     match words.next() {
         Some("fault") => format!("fault {}", words.next().unwrap_or("")),
+        Some("plan") if words.nth(2) == Some("0") => "plan, bench 0 the fullest".to_string(),
+        Some("plan") => "plan, another bench the fullest".to_string(),
         Some(word) if word.parse::<u64>().is_err() => word.to_string(),
         _ if text.contains(" booked\n") => "booked sheet".to_string(),
         _ => "sheet".to_string(),

@@ -14,8 +14,8 @@ slice-aggregate-bytes c = search needs
 bytes-requires : tie.Need-bytes-requires
 bytes-requires c κs = search needs
 
-pair-requires : tie.Need-pair-requires
-pair-requires c κs = search needs
+triple-requires : tie.Need-triple-requires
+triple-requires c κs = search needs
 
 jobs-requires : tie.Need-jobs-requires
 jobs-requires c κs = search needs
@@ -68,8 +68,8 @@ number-requires c κs = search needs
 place-requires : tie.Need-place-requires
 place-requires c κs = search needs
 
-pair-requires-2 : tie.Need-pair-requires-2
-pair-requires-2 c κs = search needs
+pair-requires : tie.Need-pair-requires
+pair-requires c κs = search needs
 
 same-length : tie.Need-same-length
 same-length c = search needs
@@ -81,7 +81,7 @@ returns c =
     let first = second .before .before .before .before in
     let found = first .before .before .before .before in
     plan-text (now (found .before .before .before .before .args .places)) (found .answer .given .1)
-    (first .bytes .ensures) (second .pair .ensures) (third .jobs .ensures)
+    (first .bytes .ensures) (second .triple .ensures) (third .jobs .ensures)
 
 same-length-2 : tie.Need-same-length-2
 same-length-2 c = search needs
@@ -118,7 +118,7 @@ returns-4 c =
     let found = first .before .before .before .before in
     fault-text (now (found .before .before .before .before .args .places)) (found .answer4 .given .1)
     (second .before .before .number .ensures) (second .before .place .ensures) (first .bytes4 .ensures)
-    (second .pair2 .ensures)
+    (second .pair .ensures)
 
 pub text-spec : {M : Type 1} → statement M
 text-spec =
@@ -127,7 +127,7 @@ text-spec =
     enum-known-answer
     slice-aggregate-bytes
     bytes-requires
-    pair-requires
+    triple-requires
     jobs-requires
     enum-known-answer-2
     slice-aggregate-bytes-2
@@ -145,7 +145,7 @@ text-spec =
     bytes-requires-4
     number-requires
     place-requires
-    pair-requires-2
+    pair-requires
     same-length
     returns
     same-length-2

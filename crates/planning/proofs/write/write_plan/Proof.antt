@@ -1,11 +1,11 @@
 -- The loads added up, and both tables filled (WriteRun).
 use Prim.Native.Nat.{ℕ, _<_}
 use mathlib.Core.Path.{_≡_, ap, _∙_}
-use mathlib.Core.Bool.{Bool, false}
 use mathlib.Core.List.{List}
 use native.Mathlib.Omega.{arith}
-use lib.ListN.{getD, replicate, length-replicate, getD-replicate}
+use lib.ListN.{getD, replicate, length-replicate}
 use Rattle.arrays.proofs.FilledLaws.{getD-filled}
+use Rattle.loads.proofs.LoadLaws.{bench-load}
 use Rattle.planning.proofs.WriteRun.{plan-written}
 use borrow.Author.Needs.{needs}
 use Rattle.planning.proofs.write.write_plan.Statement.{statement}
@@ -17,17 +17,14 @@ slice-aggregate-from-bytes c = search needs
 from-bytes-requires : tie.Need-from-bytes-requires
 from-bytes-requires c κs = search needs
 
-slice-aggregate-own-loads : tie.Need-slice-aggregate-own-loads
-slice-aggregate-own-loads c = search needs
+slice-aggregate-sum-benches : tie.Need-slice-aggregate-sum-benches
+slice-aggregate-sum-benches c = search needs
 
-slice-aggregate-own-loads-2 : tie.Need-slice-aggregate-own-loads-2
-slice-aggregate-own-loads-2 c = search needs
+slice-aggregate-sum-benches-2 : tie.Need-slice-aggregate-sum-benches-2
+slice-aggregate-sum-benches-2 c = search needs
 
-slice-aggregate-own-loads-3 : tie.Need-slice-aggregate-own-loads-3
-slice-aggregate-own-loads-3 c = search needs
-
-own-loads-requires : tie.Need-own-loads-requires
-own-loads-requires c κs = search needs
+sum-benches-requires : tie.Need-sum-benches-requires
+sum-benches-requires c κs = search needs
 
 slice-aggregate-widen : tie.Need-slice-aggregate-widen
 slice-aggregate-widen c = search needs
@@ -41,12 +38,6 @@ slice-aggregate-widen-2 c = search needs
 widen-requires-2 : tie.Need-widen-requires-2
 widen-requires-2 c κs = search needs
 
-slice-aggregate-greatest : tie.Need-slice-aggregate-greatest
-slice-aggregate-greatest c = search needs
-
-greatest-requires : tie.Need-greatest-requires
-greatest-requires c κs = search needs
-
 same-length : tie.Need-same-length
 same-length c = search needs
 
@@ -55,14 +46,14 @@ same-length-2 c = search needs
 
 returns : tie.Need-returns
 returns c =
-    let after-widen2 = c .before .before .before .before in
+    let after-widen2 = c .before .before in
     let after-widen = after-widen2 .before .before .before .before .before in
     let after-load = after-widen .before .before .before in
-    let after-own-loads = after-load .before in
-    let after-from-bytes = after-own-loads .before .before .before .before .before in
+    let after-sum = after-load .before in
+    let after-from-bytes = after-sum .before .before .before .before in
     let at-args = after-from-bytes .before .before .before .before .before .before .args in
     let at-from-bytes = after-from-bytes .from-bytes in
-    let at-own-loads = after-own-loads .own-loads in
+    let at-sum = after-sum .sum-benches in
     let place = at-args .place .now in
     let bench = at-from-bytes .last .1 .1 .0 in
     let wide = length-replicate {A = ℕ} 512 0 in
@@ -75,10 +66,10 @@ returns c =
     ∙ getD-filled (λ i. getD place i 0) (at-args .jobs) (replicate 512 0) j 0
     (omega (arith, h, F .jobs-are)) (omega (arith, h, wide, few)) in
     plan-written d (at-args .jobs) (at-args .benches) (at-args .minutes .now) (at-args .booked) place ps P bench copied
-    (replicate 512 false) (λ j h. getD-replicate {A = Bool} 512 j false false (omega (arith, few)))
-    (at-args .moves) (at-own-loads .last .1 .1 .1 .1 .0) (at-args .places .now) (at-args .loads .now)
-    (λ v l. at-own-loads .ensures v (omega (arith, l, after-load .load2 .given, at-own-loads .kept .1 .1 .1 .1 .0)))
-    rp rl (after-widen .widen .ensures) (after-widen2 .widen2 .ensures) (c .greatest .ensures)
+    (at-args .moves) (at-sum .last .1 .1 .1 .1 .0) (at-args .places .now) (at-args .loads .now)
+    (λ v l. bench-load (at-args .jobs) (at-args .minutes .now) bench (at-args .booked) (at-sum .ensures .0)
+    v (omega (arith, l, after-load .load2 .given, at-sum .kept .1 .1 .1 .1 .0)))
+    rp rl (after-widen .widen .ensures) (after-widen2 .widen2 .ensures) (at-sum .ensures .1)
 
 pub write-plan-spec : {M : Type 1} → statement M
 write-plan-spec =
@@ -86,16 +77,13 @@ write-plan-spec =
     (tie.spec
     slice-aggregate-from-bytes
     from-bytes-requires
-    slice-aggregate-own-loads
-    slice-aggregate-own-loads-2
-    slice-aggregate-own-loads-3
-    own-loads-requires
+    slice-aggregate-sum-benches
+    slice-aggregate-sum-benches-2
+    sum-benches-requires
     slice-aggregate-widen
     widen-requires
     slice-aggregate-widen-2
     widen-requires-2
-    slice-aggregate-greatest
-    greatest-requires
     same-length
     same-length-2
     returns)

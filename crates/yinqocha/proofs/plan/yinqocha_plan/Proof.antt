@@ -34,7 +34,7 @@ places-handed c =
 
 loads-handed : (c : tie.Joined1)
     → length (take (c .if1 .nl) (replicate {A = ℕ} 64 0))
-    ≡ cond (ltb (roomOf (now (c .before .before .before .before .before .before .args .answer))) 2)
+    ≡ cond (ltb (roomOf (now (c .before .before .before .before .before .before .args .answer))) 3)
     0 (min (roomOf (now (c .before .before .before .before .before .before .args .loads))) 64)
 loads-handed c =
     let a = c .before .before .before .before .before .before .args in
@@ -116,20 +116,20 @@ put-front-requires-2 c κs = search needs
 enum-known-given : tie.Need-enum-known-given
 enum-known-given c = search needs
 
-put-pair-requires : tie.Need-put-pair-requires
-put-pair-requires c κs = search needs
+put-three-requires : tie.Need-put-three-requires
+put-three-requires c κs = search needs
 
 enum-known-given-2 : tie.Need-enum-known-given-2
 enum-known-given-2 c = search needs
 
-put-pair-requires-2 : tie.Need-put-pair-requires-2
-put-pair-requires-2 c κs = search needs
+put-three-requires-2 : tie.Need-put-three-requires-2
+put-three-requires-2 c κs = search needs
 
 enum-known-given-3 : tie.Need-enum-known-given-3
 enum-known-given-3 c = search needs
 
-put-pair-requires-3 : tie.Need-put-pair-requires-3
-put-pair-requires-3 c κs = search needs
+put-three-requires-3 : tie.Need-put-three-requires-3
+put-three-requires-3 c κs = search needs
 
 enum-known-given-4 : tie.Need-enum-known-given-4
 enum-known-given-4 c = search needs
@@ -159,7 +159,7 @@ returns c =
     (places-handed j) (loads-handed j) (at-plan .plan .ensures .0)
     (behind-places j) (behind-loads j) (at-places .put-front .ensures) (at-loads .put-front2 .ensures)
     (Plan _) (c .before .before .before .before .before .given .given .1) refl refl
-    (c .before .before .put-pair .ensures))
+    (c .before .before .put-three .ensures))
 
 same-length-4 : tie.Need-same-length-4
 same-length-4 c = search needs
@@ -183,7 +183,7 @@ returns-2 c =
     (places-handed j) (loads-handed j) (at-plan .plan .ensures .0)
     (behind-places j) (behind-loads j) (at-places .put-front .ensures) (at-loads .put-front2 .ensures)
     (Long _) (c .before .before .before .before .before .given2 .given .1) refl refl
-    (c .before .before .put-pair2 .ensures))
+    (c .before .before .put-three2 .ensures))
 
 same-length-7 : tie.Need-same-length-7
 same-length-7 c = search needs
@@ -207,7 +207,7 @@ returns-3 c =
     (places-handed j) (loads-handed j) (at-plan .plan .ensures .0)
     (behind-places j) (behind-loads j) (at-places .put-front .ensures) (at-loads .put-front2 .ensures)
     (None _) (c .before .before .before .before .before .given3 .given .1) refl refl
-    (c .before .before .put-pair3 .ensures))
+    (c .before .before .put-three3 .ensures))
 
 same-length-10 : tie.Need-same-length-10
 same-length-10 c = search needs
@@ -247,11 +247,11 @@ yinqocha-plan-spec =
     slice-aggregate-put-front-2
     put-front-requires-2
     enum-known-given
-    put-pair-requires
+    put-three-requires
     enum-known-given-2
-    put-pair-requires-2
+    put-three-requires-2
     enum-known-given-3
-    put-pair-requires-3
+    put-three-requires-3
     enum-known-given-4
     fault-word-requires
     same-length

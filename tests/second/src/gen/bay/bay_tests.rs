@@ -2,7 +2,7 @@
 
 use super::days;
 use super::heavy::{pairs, Shape, SHAPES};
-use super::{tight, turning};
+use super::{tied, tight, turning};
 use crate::planner::algorithm::{Answer, Planner, Rooms};
 use crate::rng::Rng;
 
@@ -29,6 +29,22 @@ fn tight_days_are_accepted() {
         let day = tight::tight(&mut rng, 2 + turn % 6);
         planner.plan(&day.draft().bytes(), Rooms::FULL).expect("an accepted day");
     }
+}
+
+#[test]
+fn tied_days_have_plans_with_benches_as_full_as_the_fullest() {
+    let mut rng = Rng::new(6);
+    let mut planner = Planner::new();
+    let mut ties = 0;
+    for turn in 0..2000 {
+        let bytes = tied::tied(&mut rng, 1 + turn % 64).draft().bytes();
+        let answer = planner.plan(&bytes, Rooms::FULL);
+        let Ok(Answer::Plan { largest, moves: 0, loads, .. }) = answer else {
+            panic!("no plan at once: {answer:?}")
+        };
+        ties += usize::from(loads.iter().filter(|&&load| load == largest).count() > 1);
+    }
+    assert!(ties > 1000 && ties < 1950, "{ties}");
 }
 
 #[test]

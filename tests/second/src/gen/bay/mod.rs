@@ -5,6 +5,7 @@
 //! - `light`: sets of benches for light jobs.
 //! - `days`: whole days, tiny to full, and ones made from an assignment within T.
 //! - `tight`: days with benches at the limits.
+//! - `tied`: days on which several benches have the largest load.
 //! - `turning`: targets around the one where none turns to plan.
 //! - `slow`: full days with many moves.
 
@@ -12,6 +13,7 @@ pub mod days;
 pub mod heavy;
 pub mod light;
 pub mod slow;
+pub mod tied;
 pub mod tight;
 pub mod turning;
 pub mod weights;

@@ -65,8 +65,8 @@ fn own_load(rng: &mut Rng, head: Head, rocks: &[Job], bench: u64) -> u64 {
 }
 
 /// Jobs that start on a bench, of so many minutes: light ones that may go to higher benches, or
-/// ones that may not.
-fn load(rng: &mut Rng, head: Head, jobs: &mut Vec<Job>, bench: u64, minutes: u64) {
+/// ones that may not. The target is at least 2.
+pub fn load(rng: &mut Rng, head: Head, jobs: &mut Vec<Job>, bench: u64, minutes: u64) {
     let mut left = minutes;
     while left > 0 {
         let minutes = rng.range(1, left).min(weights::most_light(head));

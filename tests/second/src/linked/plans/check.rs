@@ -1,11 +1,11 @@
 //! One sheet through the second planner, through the library where it is linked, and before the
 //! judge. Tables are compared byte by byte. The first difference ends the run.
 
+use crate::kinds::kinds;
 use crate::library;
 use crate::planned::{words, Planned};
 use crate::tally::Tally;
 use second::codec::door::{Codec, ENTRY_BYTES};
-use second::codec::sheet::{Head, Sheet};
 use second::corpus::{print_answer, print_case, Case};
 use second::gen::day::Day;
 use second::hex;
@@ -183,29 +183,6 @@ impl Check {
         println!("sheet {}", hex::print(sheet));
         process::exit(1)
     }
-}
-
-/// What the tally counts of a sheet and its answer: whether it is full, and what is booked.
-fn kinds(sheet: &Sheet, answer: &Answer) -> Vec<String> {
-    let Head { benches, p, q, target } = sheet.head();
-    let most_booked = sheet.booked().iter().copied().max().unwrap_or(0);
-    let name = match answer {
-        Answer::Plan { .. } => "plan",
-        Answer::Long { .. } => "long",
-        Answer::None { .. } => "none",
-    };
-    let full = sheet.jobs().len() == 512 && benches == 64;
-    let all = [
-        (full, "full sheet".to_string()),
-        (full && most_booked > 0, "full sheet with bookings".to_string()),
-        (most_booked > 0, format!("{name} with bookings")),
-        (most_booked > target, format!("{name} with a booking above T")),
-        (
-            3 * q * most_booked > (5 * q + p) * target,
-            format!("{name} with a booking above the bound"),
-        ),
-    ];
-    all.into_iter().filter(|&(holds, _)| holds).map(|(_, kind)| kind).collect()
 }
 
 /// An accepted sheet in the form of the corpus.

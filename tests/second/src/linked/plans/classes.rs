@@ -4,7 +4,7 @@ use crate::check::{Check, Rival};
 use second::gen::bay::days::{self, Size};
 use second::gen::bay::heavy::Shape;
 use second::gen::bay::light::{Choice, CHOICES};
-use second::gen::bay::{tight, turning};
+use second::gen::bay::{tied, tight, turning};
 use second::gen::day::Day;
 
 pub fn round(check: &mut Check) {
@@ -18,6 +18,7 @@ pub fn round(check: &mut Check) {
     planted(check);
     shapes(check);
     tight(check);
+    tied(check);
     everywhere(check);
     more_booked(check);
     long(check);
@@ -151,6 +152,16 @@ fn tight(check: &mut Check) {
         let benches = check.rng.range(2, 8);
         let day = tight::tight(&mut check.rng, benches);
         check.plan_day(&day, Rival::Unknown);
+    }
+}
+
+/// Several benches with the largest load, or nearly.
+fn tied(check: &mut Check) {
+    check.class("benches as full as the fullest");
+    for turn in 0..100 {
+        let benches = if turn == 0 { 64 } else { check.rng.range(2, 12) };
+        let day = tied::tied(&mut check.rng, benches);
+        check.plan_day(&day, Rival::Planted);
     }
 }
 

@@ -7,7 +7,7 @@ use second::codec::fault::Fault;
 use second::corpus::{self, print_answer};
 use second::hex;
 use second::lent::empty::Empty;
-use second::planner::door::PLAN;
+use second::planner::door::{ANSWER_ENTRIES, PLAN};
 use second::samples;
 use std::thread;
 
@@ -66,7 +66,7 @@ fn small_stack(check: &mut Check) {
     check.class("fixed: slow full sheets, little stack");
     for (_, sheet) in corpus::SLOW {
         let planned = check.plan(sheet, Rival::Unknown);
-        let mut tables = [vec![0; 8 * 512], vec![0; 8 * 64], vec![0; 8 * 2]];
+        let mut tables = [vec![0; 8 * 512], vec![0; 8 * 64], vec![0; 8 * ANSWER_ENTRIES]];
         let call = move || {
             let [places, loads, answer] = &mut tables;
             library::plan(sheet, [places, loads, answer], Empty::Pointer)

@@ -7,6 +7,8 @@ mod check;
 mod classes;
 mod compare;
 mod fixed;
+mod fixed_fullest;
+mod kinds;
 mod library;
 mod planned;
 mod refused;
@@ -29,6 +31,8 @@ fn main() -> ExitCode {
     println!("plans: seed {seed}");
     let mut check = Check::new(seed);
     fixed::all(&mut check);
+    fixed_fullest::all(&mut check);
+    check.tally.forget_met();
     let mut rounds = 0;
     while rounds < ROUNDS || check.tally.sheets < sheets {
         rounds += 1;

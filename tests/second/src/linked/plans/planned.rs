@@ -33,11 +33,11 @@ impl Planned {
     }
 
     pub fn answer(&self) -> Result<Answer<'_>, Fault> {
-        let [first, second] = self.answer;
+        let [first, second, third] = self.answer;
         match (fault_number(self.word), self.word) {
             (0, PLAN) => {
-                let (places, loads) = (&self.places, &self.loads);
-                Ok(Answer::Plan { largest: first, moves: second, places, loads })
+                let (fullest, places, loads) = (third as usize, &self.places, &self.loads);
+                Ok(Answer::Plan { largest: first, moves: second, fullest, places, loads })
             }
             (0, LONG) => Ok(Answer::Long { job: first as usize }),
             (0, _) => Ok(Answer::None { benches: Set(first), moves: second }),
@@ -49,6 +49,14 @@ impl Planned {
         match self.answer() {
             Ok(Answer::Plan { moves, .. } | Answer::None { moves, .. }) => moves,
             _ => 0,
+        }
+    }
+
+    /// The fullest bench of a plan.
+    pub fn fullest(&self) -> Option<usize> {
+        match self.answer() {
+            Ok(Answer::Plan { fullest, .. }) => Some(fullest),
+            _ => None,
         }
     }
 }

@@ -4,10 +4,10 @@ use second::codec::door::fault_number;
 use second::planner::algorithm::Counts;
 use second::planner::door::{LONG, PLAN, SAME};
 
-/// A run that meets one of these less often has not tested it.
+/// A run whose random sheets meet one of these less often has not tested it.
 const LEAST: u64 = 100;
 
-const WANTED: [&str; 48] = [
+const WANTED: [&str; 60] = [
     "plan at once",
     "plan after moves",
     "none of a crowded component",
@@ -36,6 +36,18 @@ const WANTED: [&str; 48] = [
     "none with a booking above T",
     "none with a booking above the bound",
     "long with a booking above T",
+    "fullest bench above 0",
+    "fullest bench above 0, after moves",
+    "fullest bench with others as full",
+    "fullest bench above 0, with others as full",
+    "fullest bench with others as full, after moves",
+    "fullest bench with nothing to do, of several",
+    "fullest bench booked",
+    "fullest bench booked, without a job",
+    "fullest bench booked, one as full not",
+    "fullest bench not booked, one as full is",
+    "fullest bench with fewer jobs",
+    "fullest bench by its booking",
     "run with a level above 1",
     "run with a level above 4",
     "run with a fake orientation",
@@ -81,6 +93,11 @@ fn add<N: PartialEq>(rows: &mut Vec<(N, u64)>, name: N) {
 impl Tally {
     pub fn meet(&mut self, what: &str) {
         add(&mut self.met, what.to_string());
+    }
+
+    /// Fixed sheets meet what they were made for, which does not count.
+    pub fn forget_met(&mut self) {
+        self.met.clear();
     }
 
     /// Counts one call of planning: its result word, the moves made, and what the run did.
@@ -147,7 +164,7 @@ impl Tally {
         for (name, count) in &self.classes {
             println!("{name:<52} {count:>9}");
         }
-        println!("\n{:<52} {:>9}", "met", "times");
+        println!("\n{:<52} {:>9}", "met by random sheets", "times");
         for what in WANTED {
             println!("{what:<52} {:>9}", self.times(what));
         }

@@ -107,7 +107,9 @@ impl Literal<'_> {
         for (job, &place) in self.jobs.iter().zip(&places) {
             loads[place as usize] += job.minutes;
         }
-        Owned::Plan { largest: *loads.iter().max().expect("a bench"), moves, places, loads }
+        let is_fullest = |&bench: &usize| loads.iter().all(|&load| load <= loads[bench]);
+        let fullest = self.benches().find(is_fullest).expect("a bench");
+        Owned::Plan { largest: loads[fullest], moves, fullest, places, loads }
     }
 
     fn run(&mut self) -> Owned {

@@ -6,6 +6,7 @@ use native.Mathlib.Omega.{arith}
 use lib.ListN.{length, replicate, length-replicate}
 use Rattle.algorithm.specs.Start.{start}
 use Rattle.algorithm.specs.Run.{boardOf}
+use Rattle.loads.proofs.LoadLaws.{load-after}
 use Rattle.start.proofs.StartRun.{start-placed}
 use Rattle.run.proofs.PlaceLaws.{start-below, placed-copied}
 use Rattle.run.proofs.StartState.{started-held, started-owned, started-pebbles}
@@ -86,7 +87,8 @@ returns c =
               held = started-held d n minutes allowed _ _ _ _ _ _ _ _ B _ _
                   shown;
               made = refl;
-              owned = started-owned d n minutes allowed _ _ _ _ _ _ _ _ B _ _ P wide _ (c .before .before .before .before .before .before .before .before .before .before .own-loads .ensures);
+              owned = started-owned d n minutes allowed _ _ _ _ _ _ _ _ B _ _ P wide _
+                  (load-after _ _ _ (n .jobs) _ (c .before .before .before .before .before .before .before .before .before .before .own-loads .ensures));
               reaches = c .before .before .before .before .before .before .fill-reach .ensures (boardOf d (start d)) (F .jobs-are) (F .bounded .few-benches)
                   (started-pebbles d n minutes allowed _ _ _ _ _ _ _ _ B _ _ P) refl;
             },
