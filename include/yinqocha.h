@@ -33,9 +33,10 @@
  * A table is a buffer of numbers of 8 bytes each, least significant byte first. On a little-endian
  * machine, as x86-64 is, an array of uint64_t is passed as it is: `minutes, sizeof minutes`.
  *
- * In a table that is read a begun entry counts, and the bytes that it lacks are 0. In a table that
- * is written only whole entries count as room, length / 8 of them; a call writes entries from the
- * first on, and every other byte keeps its contents.
+ * In a table that is read a begun entry counts, and the bytes that it lacks are 0; a begun entry of
+ * minutes must have a byte above 0, see WRITING A SHEET. In a table that is written only whole
+ * entries count as room, length / 8 of them; a call writes entries from the first on, and every
+ * other byte keeps its contents.
  *
  *
  * THE RESULT WORD
@@ -65,7 +66,7 @@ extern "C" {
  * FAULT NUMBERS, in the order in which they are tried
  *
  * The place is given in parentheses. "Frame" means the first byte of the faulty frame, counted
- * from the start of the sheet. Where a sheet is read, 2 to 11, 14 and 15 are tried in the order
+ * from the start of the sheet. Where a sheet is read, 2 to 9, 11, 14 and 15 are tried in the order
  * below at each frame, and 12 after the whole sheet. Where fields are written, 7 and 8 have place
  * 0, 14 has the bench, and 9 to 12 have the job number.
  */
@@ -103,8 +104,8 @@ extern "C" {
 #define YINQOCHA_BOOKED_TWICE 15u
 /* It is the 513th job (read: frame; written: 512). */
 #define YINQOCHA_TOO_MANY_JOBS 9u
-/* A job has 0 minutes (read: frame; written: the job). Writing: or its minutes do not fit their
- * field of 20 bits. */
+/* Writing only: a job's minutes do not fit their field of 20 bits, or the table of minutes has no
+ * entry for it (the job). No sheet that is read has it. */
 #define YINQOCHA_BAD_MINUTES 10u
 /* A job allows no bench, or a bench the head lacks (read: frame; written: the job). */
 #define YINQOCHA_BAD_ALLOWED 11u
@@ -158,7 +159,7 @@ extern "C" {
  *   booked    a table: entry b is the minutes for which bench b is booked, 0 to 2^20 - 1, and 0 for
  *             a bench that is not there. An entry that the table lacks is 0, so that NULL with
  *             length 0 books nothing.
- *   minutes   a table: entry j is the minutes of job j, 1 to 2^20 - 1
+ *   minutes   a table: entry j is the minutes of job j, 0 to 2^20 - 1
  *   allowed   a table: entry j is the benches of job j, the sum of YINQOCHA_BENCH(b) over the
  *             benches b that may take it, at least one, each below `benches`
  *
@@ -167,8 +168,13 @@ extern "C" {
  * share admits longer jobs with so much choice and loosens that bound, from 13/7 * T at the share
  * 4/7 towards 2 * T.
  *
+ * A job of 0 minutes is a check that takes no bench time; it is given a bench like any other job,
+ * and may allow as many benches as the head has.
+ *
  * The number of jobs is that of the longer of `minutes` and `allowed`, a begun entry counting as
- * one. So a job for which one table has no entry has 0 minutes, or allows no bench, and is refused.
+ * one. A job has 0 minutes only where all eight bytes of its entry are there and are 0. Where
+ * `minutes` ends before the entry, or inside it with no byte above 0, the job has no minutes, which
+ * is fault 10. A job for which `allowed` has no entry allows no bench, which is fault 11.
  *
  * Booked minutes are taken before the day begins, such as for a recall. They are part of the
  * bench's load whatever the plan. They may be more than the target, and the share and fault 12
@@ -263,6 +269,10 @@ uint64_t yinqocha_write(uint64_t benches, uint64_t p, uint64_t q, uint64_t targe
  * times the planner put a light job on another bench on its way to the answer, at most benches *
  * light jobs that allow two or more; they say nothing of how good a plan is.
  *
+ * A job of 0 minutes is light whatever T is, also at T = 0. It has its place in a plan, may be
+ * moved, and counts among the light jobs. With T = 0 every job above 0 is too long, and jobs of 0
+ * minutes alone have a plan, with largest load 0, unless a bench is booked.
+ *
  * The fullest bench is the one whose load is the largest load, the lowest of them if several are
  * as full; where every load is 0, it is bench 0.
  *
@@ -270,11 +280,11 @@ uint64_t yinqocha_write(uint64_t benches, uint64_t p, uint64_t q, uint64_t targe
  * one for each bench, answer three. Later bytes of a table keep their contents, and after long and
  * none all of places and loads does.
  *
- * Faults: 1, then 2 to 11, 14 and 15 frame by frame, then 12, then 13. After a fault all three
+ * Faults: 1, then 2 to 9, 11, 14 and 15 frame by frame, then 12, then 13. After a fault all three
  * tables keep their contents. YINQOCHA_MAX_JOBS places and YINQOCHA_MAX_BENCHES loads always have
  * room.
  *
- * Example: four jobs of 2 minutes on bench 0 or 1, the benches booked for 2 and 3, three targets.
+ * Example: four jobs of 2 minutes and a check on bench 0 or 1, booked for 2 and 3; three targets.
  *
  *     #include "yinqocha.h"
  *
@@ -285,10 +295,10 @@ uint64_t yinqocha_write(uint64_t benches, uint64_t p, uint64_t q, uint64_t targe
  *     {
  *         const uint64_t both = YINQOCHA_BENCH(0) | YINQOCHA_BENCH(1);
  *         const uint64_t booked[] = { 2, 3 };
- *         const uint64_t minutes[] = { 2, 2, 2, 2 };
- *         const uint64_t allowed[] = { both, both, both, both };
- *         uint8_t sheet[YINQOCHA_SHEET_BYTES(2, 4)];
- *         uint64_t places[4], loads[2], answer[YINQOCHA_ANSWER_ENTRIES];
+ *         const uint64_t minutes[] = { 2, 2, 2, 2, 0 };
+ *         const uint64_t allowed[] = { both, both, both, both, both };
+ *         uint8_t sheet[YINQOCHA_SHEET_BYTES(2, 5)];
+ *         uint64_t places[5], loads[2], answer[YINQOCHA_ANSWER_ENTRIES];
  *
  *         uint64_t word = yinqocha_write(2, 4, 7, target, booked, sizeof booked,
  *                                        minutes, sizeof minutes, allowed, sizeof allowed,
@@ -316,7 +326,7 @@ uint64_t yinqocha_write(uint64_t benches, uint64_t p, uint64_t q, uint64_t targe
  *         case YINQOCHA_PLAN:
  *             printf("largest load %" PRIu64 ", %" PRIu64 " moves, fullest bench %" PRIu64 "\n",
  *                    answer[0], answer[1], answer[2]);
- *             for (unsigned j = 0; j < 4; j++)
+ *             for (unsigned j = 0; j < 5; j++)
  *                 printf("job %u on bench %" PRIu64 "\n", j, places[j]);
  *             for (unsigned b = 0; b < 2; b++)
  *                 printf("bench %u has %" PRIu64 " minutes\n", b, loads[b]);
@@ -339,6 +349,7 @@ uint64_t yinqocha_write(uint64_t benches, uint64_t p, uint64_t q, uint64_t targe
  *     job 1 on bench 1
  *     job 2 on bench 0
  *     job 3 on bench 0
+ *     job 4 on bench 0
  *     bench 0 has 6 minutes
  *     bench 1 has 7 minutes
  */
@@ -357,8 +368,8 @@ uint64_t yinqocha_plan(const uint8_t *sheet, size_t sheet_len,
 /*
  * COMPARING TWO PLANS
  *
- * Two plans of one sheet count as the same when every bench has the same load. The bookings are the
- * same in both.
+ * Two plans of one sheet count as the same when every bench has the same load, also if jobs of 0
+ * minutes are on other benches. The bookings are the same in both.
  *
  * In:
  *   sheet     the bytes of a sheet
@@ -371,9 +382,9 @@ uint64_t yinqocha_plan(const uint8_t *sheet, size_t sheet_len,
  * Out:
  *   result    YINQOCHA_SAME or YINQOCHA_DIFFERENT
  *
- * Faults: those of the sheet, 1 to 12, 14 and 15 as above; then 13, here YINQOCHA_NO_ASSIGNMENT,
- * with place 0 if the first list does not give each job one bench that it allows, and then 13 with
- * place 1 if the second does not.
+ * Faults: those of the sheet, 1 to 9, 11, 12, 14 and 15 as above; then 13, here
+ * YINQOCHA_NO_ASSIGNMENT, with place 0 if the first list does not give each job one bench that it
+ * allows, and then 13 with place 1 if the second does not.
  *
  * Example: three jobs of 5 minutes, each on bench 0 or 1, and four lists of places.
  *

@@ -49,7 +49,7 @@ static void booking_faults(void)
     require(write_fields(&fields, room) == YINQOCHA_SHEET_BYTES(0, 3), "behind the table");
     fields.booked[2] = 1;
     require_fault(&fields, room, YINQOCHA_BAD_BOOKING, 2, "a booked bench the head lacks");
-    fields.minutes[0] = 0;
+    fields.minutes[0] = YINQOCHA_MAX_MINUTES + 1;
     require_fault(&fields, 0, YINQOCHA_BAD_BOOKING, 2, "before the jobs and the room");
     fields.p = 7;
     require_fault(&fields, room, YINQOCHA_BAD_SHARE, 0, "after the share");

@@ -2,8 +2,9 @@
  * The C door, from C. Writing: example 12's bytes, each fault of the writer, empty buffers, and
  * outputs that fit exactly or lack one byte. Planning: sheets that were written, with each of the
  * three answers, and tables that fit exactly or lack one byte. Comparing: plans, and lists that are
- * none. bookings.h has the checks of booked benches, answers.h those of the answer table, door.h
- * what all checks use. From the repository root, after `rt staticlib yinqocha`:
+ * none. bookings.h has the checks of booked benches, answers.h those of the answer table,
+ * check_only.h those of jobs of 0 minutes, door.h what all checks use. From the repository root,
+ * after `rt staticlib yinqocha`:
  *
  *     gcc -std=c11 -Wall -Wextra -Werror -Iinclude tests/c/door.c \
  *         target/staticlib/libyinqocha.a -o target/door
@@ -11,6 +12,7 @@
 
 #include "answers.h"
 #include "bookings.h"
+#include "check_only.h"
 #include "door.h"
 #include "yinqocha.h"
 
@@ -49,8 +51,8 @@ static void faults(void)
     fields = example_5(YINQOCHA_MAX_JOBS + 1);
     require_fault(&fields, room, YINQOCHA_TOO_MANY_JOBS, YINQOCHA_MAX_JOBS, "513 jobs");
     fields = example_5(3);
-    fields.minutes[1] = 0;
-    require_fault(&fields, room, YINQOCHA_BAD_MINUTES, 1, "0 minutes");
+    fields.minutes[1] = YINQOCHA_MAX_MINUTES + 1;
+    require_fault(&fields, room, YINQOCHA_BAD_MINUTES, 1, "minutes of 2^20");
     fields.minutes[1] = UINT64_MAX;
     require_fault(&fields, room, YINQOCHA_BAD_MINUTES, 1, "minutes too wide");
     fields = example_5(3);
@@ -229,6 +231,7 @@ int main(void)
     comparisons();
     bookings();
     answer_tables();
+    check_only_jobs();
     printf("door: all checks hold\n");
     return EXIT_SUCCESS;
 }

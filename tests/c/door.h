@@ -66,13 +66,19 @@ static struct fields example_5(size_t jobs)
     return fields;
 }
 
-static uint64_t write_fields(const struct fields *fields, size_t room)
+/* Writes with tables of minutes and of benches allowed of these lengths in bytes. */
+static uint64_t write_tables(const struct fields *fields, size_t minutes_len, size_t allowed_len,
+                             size_t room)
 {
     memset(buffer, FILL, sizeof buffer);
     return yinqocha_write(fields->benches, fields->p, fields->q, fields->target,
-                          fields->booked, fields->booked_len,
-                          fields->minutes, 8 * fields->jobs, fields->allowed, 8 * fields->jobs,
-                          out, room);
+                          fields->booked, fields->booked_len, fields->minutes, minutes_len,
+                          fields->allowed, allowed_len, out, room);
+}
+
+static uint64_t write_fields(const struct fields *fields, size_t room)
+{
+    return write_tables(fields, 8 * fields->jobs, 8 * fields->jobs, room);
 }
 
 static void require_fault(const struct fields *fields, size_t room, uint32_t number,

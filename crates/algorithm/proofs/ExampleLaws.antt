@@ -4,6 +4,7 @@
 --     errors-shut-out   for every row of the second table the answer is not that of a run with the error
 --     bookings-hold     for every row of the third table the answer is that of the day with its bookings
 --     fullest-named     for every row of the fourth table the answer names the fullest bench
+--     checks-hold       for every row of the fifth table the answer is that of the day with its jobs of 0 minutes
 use mathlib.Core.Path.{_≡_, refl}
 use mathlib.Core.List.{[], _∷_, map}
 use Rattle.bits.specs.Bits.{isSet}
@@ -25,7 +26,7 @@ use Rattle.algorithm.specs.Run.{ownMinutes, nextState, answerAt, turns, 
 use Rattle.algorithm.specs.States.{Reached, at-start, by-move}
 use Rattle.algorithm.specs.Answer.{planContents}
 use Rattle.day.specs.SmallSheets.{dayWith, bay, both}
-use Rattle.algorithm.specs.Examples.{examples, errorExamples, bookedExamples, fullestExamples}
+use Rattle.algorithm.specs.Examples.{examples, errorExamples, bookedExamples, fullestExamples, checkExamples}
 
 pub examples-hold : map (λ e. planContents (e .contents)) examples ≡ map (λ e. e .reply) examples
 unfolding examples fullest isSet grow closure reach hyperEdgeVerdict bookedFrom bookedFaults jobsVerdict
@@ -57,3 +58,9 @@ unfolding fullestExamples fullest isSet grow closure reach hyperEdgeVerdict book
     openingVerdict writerVerdict lowest highest longJob rockLoad inner outer conflictSet construct activate openRound
     rounds explore follow settleFrom crowdedBench oneCycle peel start ownMinutes answerAt turns run members setOf
 fullest-named = refl
+
+pub checks-hold : map (λ e. planContents (e .contents)) checkExamples ≡ map (λ e. e .reply) checkExamples
+unfolding checkExamples fullest isSet grow closure reach hyperEdgeVerdict bookedFrom bookedFaults jobsVerdict
+    openingVerdict writerVerdict lowest highest longJob rockLoad inner outer conflictSet construct activate openRound
+    rounds explore follow settleFrom crowdedBench oneCycle peel start ownMinutes answerAt turns run members setOf
+checks-hold = refl

@@ -12,6 +12,7 @@ pub mod Levels
 pub mod Potential
 pub mod Moves
 pub mod Budget
+pub mod CheckOnlyRun
 pub mod GoodStart
 pub mod ForcedInterface
 pub mod Keeping

@@ -5,13 +5,14 @@
 --     errorExamples    sheets on which an error in the run would change the answer
 --     bookedRow, bookedExamples    sheets with bookings, on most of which they change the answer (request S-1)
 --     fullestExamples  sheets on which another bench than the fullest might be named (request S-2)
+--     checkExamples    sheets with jobs of 0 minutes (request S-3)
 -- Proved in ExampleLaws.
 use Prim.Native.Nat.{ℕ}
 use mathlib.Core.List.{List, [], _∷_}
 use Rattle.fields.specs.declared.sheet.Head.{Head}
 use Rattle.fields.specs.declared.sheet.Job.{Job}
 use Rattle.fields.specs.Contents.{Contents}
-use Rattle.fields.specs.declared.fault.Fault.the-variants.{Share, HeavyHyperEdge, BookedBench}
+use Rattle.fields.specs.declared.fault.Fault.the-variants.{Share, Minutes, HeavyHyperEdge, BookedBench}
 use Rattle.day.specs.SmallSheets.{sheet, bookedSheet, bay, first, second, third, both, outside, three}
 use Rattle.answers.specs.Answers.{Reply, planReply, longReply, noneReply, faultReply}
 
@@ -123,4 +124,26 @@ fullestExamples =
     ∷ bookedRow (bay 3 4 7 9) (0 ∷ 0 ∷ 6 ∷ []) (first 5 ∷ second 4 ∷ []) (plan 6 0 2 (0 ∷ 1 ∷ []) (5 ∷ 4 ∷ 6 ∷ []))
     -- The fullest bench has one job, another has three.
     ∷ row (bay 2 4 7 9) (first 1 ∷ first 1 ∷ second 4 ∷ first 1 ∷ []) (plan 4 0 1 (0 ∷ 0 ∷ 1 ∷ 0 ∷ []) (3 ∷ 4 ∷ []))
+    ∷ []
+
+unfoldable pub checkExamples : List Example
+checkExamples =
+    -- Such jobs alone, T = 0 and T = 9: each on its lowest bench, largest load 0.
+    row (bay 3 4 7 0) (second 0 ∷ both 0 ∷ three 0 ∷ []) (plan 0 0 0 (1 ∷ 0 ∷ 0 ∷ []) (0 ∷ 0 ∷ 0 ∷ []))
+    ∷ row (bay 3 4 7 9) (second 0 ∷ both 0 ∷ three 0 ∷ []) (plan 0 0 0 (1 ∷ 0 ∷ 0 ∷ []) (0 ∷ 0 ∷ 0 ∷ []))
+    -- T = 0 and a job of 1 minute beside one of 0: long, with the job of 1.
+    ∷ row (bay 2 4 7 0) (both 0 ∷ first 1 ∷ []) (longReply 1)
+    -- T = 0 and a minute booked on bench 1: that bench is above the bound.
+    ∷ bookedRow (bay 2 4 7 0) (0 ∷ 1 ∷ []) (both 0 ∷ []) (noneReply (1 ∷ []) 0)
+    -- Booked on bench 0, where the job begins: it moves to bench 1, and bench 0 stays above the bound.
+    ∷ bookedRow (bay 2 4 7 0) (1 ∷ []) (both 0 ∷ []) (noneReply (0 ∷ []) 1)
+    -- Example 8 with a job of 0 minutes before the others: PUSH moves it first, then job 1.
+    ∷ row (bay 2 4 7 4) (both 0 ∷ both 2 ∷ both 2 ∷ both 2 ∷ both 2 ∷ [])
+    (plan 6 2 0 (1 ∷ 1 ∷ 0 ∷ 0 ∷ 0 ∷ []) (6 ∷ 2 ∷ []))
+    -- Example 7 with a job of 0 minutes on bench 0, dedicated load of no weight.
+    ∷ row (bay 2 4 7 5) (both 5 ∷ first 0 ∷ []) (plan 5 0 1 (1 ∷ 0 ∷ []) (0 ∷ 5 ∷ []))
+    -- Example 10 with 0 for 4: fault 12 never holds of such a job.
+    ∷ row (bay 3 4 7 7) (first 7 ∷ three 0 ∷ []) (plan 7 0 0 (0 ∷ 0 ∷ []) (7 ∷ 0 ∷ 0 ∷ []))
+    -- Minutes too wide for their field are fault 10 still.
+    ∷ row (bay 1 4 7 0) (first 0 ∷ first 1048576 ∷ []) (faultReply (Minutes 1))
     ∷ []

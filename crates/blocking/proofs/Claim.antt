@@ -1,4 +1,5 @@
 -- Demand 3, proved of the planner's reply: specs/Claim has the claim, algorithm's specs/Answer the reply.
+--     answer-given        an accepted sheet and tables with room: the reply is that to the sheet's day
 --     named-set           the set of a none, as a number
 --     planner-claim       the claim holds of the reply to any bytes and any two tables, and of the tables after it
 --     answered-claim      so it holds of whatever call is answered so: `Answered` is what the planner's contract ensures
@@ -91,7 +92,8 @@ answer-short s np nl c e short =
     ] in
     rw (e, tested, answerFor)
 
-answer-given : (s : List ℕ) (np nl : ℕ) (c : Contents) → readSheet s ≡ accepted c → length (c .jobs) ≤ np → c .head .benches ≤ nl
+pub answer-given : (s : List ℕ) (np nl : ℕ) (c : Contents) → readSheet s ≡ accepted c → length (c .jobs) ≤ np
+    → c .head .benches ≤ nl
     → answerFor s np nl ≡ answerTo (dayOf c)
 unfolding answerFor
 answer-given s np nl c e lp ll =

@@ -28,12 +28,13 @@ use Rattle.fields.specs.declared.sheet.Job.{Job}
 use Rattle.fields.specs.declared.fault.Fault.the-variants.{HeavyHyperEdge}
 use Rattle.fields.specs.declared.fault.Verdict.the-variants.{Accepted, Refused}
 use Rattle.fields.specs.Format.{allows}
-use Rattle.fields.specs.Tests.{jobTable, jobAt, noJob, longest, heavyHyperEdge, heavyHyperEdgeAt, hyperEdgeVerdict}
+use Rattle.fields.specs.Tests.{noMinutes, jobTable, jobAt, noJob, longest, heavyHyperEdge, heavyHyperEdgeAt}
+use Rattle.fields.specs.Tests.{hyperEdgeVerdict}
 use Rattle.checks.specs.HyperEdgeCheck.{hyperEdgesChecked}
 use Rattle.fields.proofs.HyperEdgeLaws.{hyper-edge-lowest, hyper-edge-none}
 
 abbrev pub tableJob : List ℕ → List ℕ → ℕ → Job
-tableJob ms bs n = record { minutes = getD ms n 0; allowed = getD bs n 0 }
+tableJob ms bs n = record { minutes = getD ms n noMinutes; allowed = getD bs n 0 }
 
 pub product-fits : (a b : ℕ) → a < 128 → b ≤ 2 ^ 20 → a * b < 2 ^ 64
 product-fits a b ha hb =
@@ -44,12 +45,12 @@ module _ (ms bs : List ℕ) (n : ℕ) where
   pub jobAt-table : (i : ℕ) → i < n → jobAt (jobTable n ms bs) i ≡ tableJob ms bs i
   jobAt-table i h = getD-table n (tableJob ms bs) i noJob h
 
-  pub longest-table : longest (jobTable n ms bs) ≡ largest n (λ i. getD ms i 0)
+  pub longest-table : longest (jobTable n ms bs) ≡ largest n (λ i. getD ms i noMinutes)
   longest-table =
       ap (λ (k : ℕ). largest k (λ i. jobAt (jobTable n ms bs) i .minutes)) (length-table n (tableJob ms bs))
       ∙ largest-cong n _ _ (λ i h. ap (λ (j : Job). j .minutes) (jobAt-table i h))
 
-  module _ (h : Head) (w : ℕ) (is-longest : w ≡ largest n (λ i. getD ms i 0)) where
+  module _ (h : Head) (w : ℕ) (is-longest : w ≡ largest n (λ i. getD ms i noMinutes)) where
     at-table : (i : ℕ) → i < n → heavyHyperEdgeAt h (jobTable n ms bs) i ≡ heavyHyperEdge h w (tableJob ms bs i)
     at-table i below = rw (longest-table, jobAt-table i below, is-longest)
 
@@ -84,11 +85,11 @@ module _ (ms bs : List ℕ) (n : ℕ) where
         hyper-edge-none h (jobTable n ms bs)
         (λ k below. let lt : k < n = subst (λ (m : ℕ). k < m) (length-table n (tableJob ms bs)) below in at-table k lt ∙ none k lt)
 
-  pub checked-fits : (h : Head) → (h .p < 128) × (h .q < 128) × ((i : ℕ) → i < n → getD ms i 0 < 2 ^ 20)
+  pub checked-fits : (h : Head) → (h .p < 128) × (h .q < 128) × ((i : ℕ) → i < n → getD ms i noMinutes < 2 ^ 20)
       → hyperEdgesChecked h (jobTable n ms bs) ≡ hyperEdgeVerdict h (jobTable n ms bs)
   checked-fits h fits =
-      let small = largest-le n (λ i. getD ms i 0) 1048575 (λ i lt. omega (arith, fits .2 i lt)) in
-      none-wide h (largest n (λ i. getD ms i 0)) refl (fits .0) (fits .1) (omega (arith, small))
+      let small = largest-le n (λ i. getD ms i noMinutes) 1048575 (λ i lt. omega (arith, fits .2 i lt)) in
+      none-wide h (largest n (λ i. getD ms i noMinutes)) refl (fits .0) (fits .1) (omega (arith, small))
 
 module _ (h : Head) (js : List Job) where
   pub wide-p : 128 ≤ h .p → hyperEdgesChecked h js ≡ Accepted

@@ -70,9 +70,6 @@ pub fn check_job(benches: u64, n: usize, j: Job, place: usize) -> Verdict
     if 512 <= n {
         return Verdict::Refused(Fault::JobCount(place));
     }
-    if j.minutes == 0 {
-        return Verdict::Refused(Fault::Minutes(place));
-    }
     if 1048576 <= j.minutes {
         return Verdict::Refused(Fault::Minutes(place));
     }

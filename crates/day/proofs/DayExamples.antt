@@ -1,6 +1,7 @@
 -- Small sheets on which the words of a day are computed: each word just where it holds, and just where it does not.
 --     allowed-last, allowed-past-head, allowed-past-64, allowed-not-there     the allowed benches of a job
 --     heavy-at-limit, heavy-above         q × minutes = p × T is light, more is heavy
+--     check-at-zero, long-at-zero         at T = 0 a job of 0 minutes is light and not long, one of 1 is long
 --     long-above, not-long-at-target      a job above T
 --     load-of-three, booked-load          a load; booked minutes are part of it
 --     fullest-of-a-tie, fullest-booked, fullest-of-fewer-jobs, fullest-of-no-loads, fullest-last
@@ -8,7 +9,7 @@
 --     booked-of-sheet                     the booked minutes of a sheet: its entries, and 0 past them
 --     booked-light, booked-not-long, booked-moves     heavy, long and the bound of moves do not know bookings
 --     bound-within, bound-above, load-at-bound    the demand's bound
---     bound-of-moves                      benches × light jobs that have a choice
+--     bound-of-moves, checks-counted      benches × light jobs that have a choice, those of 0 minutes too
 use Prim.Native.Nat.{ℕ, _-_, _/_}
 use mathlib.Core.Path.{_≡_, refl}
 use mathlib.Core.Bool.{true, false}
@@ -45,6 +46,15 @@ heavy-at-limit = refl
 
 pub heavy-above : heavy (dayWith (bay 1 4 7 7) (first 5 ∷ [])) 0 ≡ true
 heavy-above = refl
+
+-- Request S-3: jobs of 0 minutes "are light always, also at T = 0".
+pub check-at-zero : heavy (dayWith (bay 1 4 7 0) (first 0 ∷ [])) 0 ≡ false
+check-at-zero = refl
+
+-- At T = 0 any other job is long.
+pub long-at-zero : (tooLong (dayWith (bay 1 4 7 0) (first 1 ∷ [])) 0 ≡ true)
+    × (tooLong (dayWith (bay 1 4 7 0) (first 0 ∷ [])) 0 ≡ false)
+long-at-zero = (refl, refl)
 
 -- "Long: the lowest job with more than T minutes."
 pub long-above : tooLong (dayWith (bay 1 4 7 5) (first 6 ∷ [])) 0 ≡ true
@@ -123,6 +133,11 @@ booked-not-long = refl
 pub bound-of-moves : moveBound (dayWith (bay 3 4 7 7) (three 4 ∷ both 5 ∷ first 2 ∷ both 2 ∷ [])) ≡ 6
 unfolding isSet
 bound-of-moves = refl
+
+-- Two benches, T = 0: of two jobs of 0 minutes one has a choice.
+pub checks-counted : moveBound (dayWith (bay 2 4 7 0) (both 0 ∷ first 0 ∷ [])) ≡ 2
+unfolding isSet
+checks-counted = refl
 
 -- Bookings on all three benches change nothing in it.
 pub booked-moves :

@@ -1,1 +1,2 @@
+pub mod CheckOnly
 pub mod DayExamples

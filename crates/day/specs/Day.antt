@@ -6,6 +6,8 @@
 --     choices d j         how many benches job j may go to
 --     heavy, light        the two kinds of jobs
 --     pebble d j          job j is light and has a choice: chapter 4's pebbles
+--     checkOnly d j       job j takes no minutes
+--     ChecksOnly d        every job of the day is so, and no bench is booked
 --     placeIn places      the bench that a table of places has for each job
 --     loadOf d a v        the load of bench v under the assignment a
 --     loadsOf, largestOf  the loads of a table of places, bench by bench; the greatest of them
@@ -14,8 +16,9 @@
 --     withinBound d n     the load n is within the demand's bound
 --     tooLong, longJob    a job longer than T; the lowest such job, and the number of jobs where there is none
 --     moveBound d         benches × light jobs that have a choice
-use Prim.Native.Nat.{ℕ, _+_, _*_}
-use mathlib.Core.Bool.{Bool, not, _&&_}
+use Prim.Native.Nat.{ℕ, _+_, _*_, _<_}
+use mathlib.Core.Path.{_≡_}
+use mathlib.Core.Bool.{Bool, true, not, _&&_}
 use mathlib.Core.List.{List}
 use lib.ListN.{length, getD}
 use lib.Dec.{eqb, leb, ltb}
@@ -65,6 +68,15 @@ light d j = not (heavy d j)
 -- "its pebbles light jobs with two or more"
 abbrev pub pebble : Day → ℕ → Bool
 pebble d j = light d j && leb 2 (choices d j)
+
+-- Request S-3: "A new sight check takes no bench minutes but must be recorded on a bench"
+abbrev pub checkOnly : Day → ℕ → Bool
+checkOnly d j = eqb (d .minutes j) 0
+
+-- "such jobs alone, with no booking above 0"
+pub record ChecksOnly (d : Day) : Type 0 where
+  pub each-job : (j : ℕ) → j < d .jobs → checkOnly d j ≡ true
+  pub none-booked : (v : ℕ) → v < d .benches → d .booked v ≡ 0
 
 -- ── loads ──
 

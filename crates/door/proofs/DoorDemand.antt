@@ -1,5 +1,6 @@
 -- Demand 3 over the bytes of the door (specs/DoorClaim), from the equation that a call ensures (specs/PlanDoor).
 --     one-case              every call is one of three, and no call is two of them
+--     room-answer           an accepted sheet and tables with room: the reply is that to the sheet's day
 --     door-claim            the claim holds of what a call returns and leaves in the three tables
 --     with-claim            the equation, and the claim with it
 --     answered-room         who gets the word 1, 2 or 3 had an accepted sheet and tables with room
@@ -27,7 +28,7 @@ use Rattle.answers.specs.declared.answer.Answer.{Answer}
 use Rattle.answers.specs.declared.answer.Answer.the-variants.{Plan, Long, None, Fault as Faulty}
 use Rattle.answers.specs.declared.answer.PlanAnswer.{PlanAnswer}
 use Rattle.answers.specs.Answers.{setOf, Reply, faultReply, planReply}
-use Rattle.algorithm.specs.Answer.{shortTables}
+use Rattle.algorithm.specs.Answer.{answerTo, shortTables}
 use Rattle.algorithm.specs.SoundDay.{AcceptedDay}
 use Rattle.algorithm.proofs.SheetDay.{accepted-day}
 use Rattle.argument.specs.Answers.{SoundPlan, SoundAnswer, plan-sound, long-sound, none-sound}
@@ -267,8 +268,8 @@ module _ (s places loads numbers : List ℕ) where
     few-benches : c .head .benches ≤ 64
     few-benches = accepted-sound s c (t .sheet-accepted) .head .at-most-64-benches
 
-    whole : WholeClaim (dayOf c) reply
-    whole =
+    pub room-answer : reply ≡ answerTo (dayOf c)
+    room-answer =
         let enough : (shortTables c (roomOf places) (roomOf loads) || ltb (roomOf numbers) 3) ≡ false =
         or-false
         (or-false
@@ -276,7 +277,10 @@ module _ (s places loads numbers : List ℕ) where
         (le-ltb (roomOf loads) (c .head .benches) (omega (arith, t .load-to-a-bench))))
         (le-ltb (roomOf numbers) 3 (omega (arith, t .three-numbers))) in
         let read = door-read s (roomOf places) (roomOf loads) (roomOf numbers) c (t .sheet-accepted) in
-        subst (WholeClaim (dayOf c)) (sym (read ∙ ap (replyOn c) enough)) (whole-claim (dayOf c) day-accepted)
+        read ∙ ap (replyOn c) enough
+
+    whole : WholeClaim (dayOf c) reply
+    whole = subst (WholeClaim (dayOf c)) (sym room-answer) (whole-claim (dayOf c) day-accepted)
 
   fits : ReplyFits reply
   fits = reply-fits s (roomOf places) (roomOf loads) (roomOf numbers)

@@ -1,4 +1,5 @@
 pub mod AnswerLaws
+pub mod CheckOnlyDoor
 pub mod DoorDemand
 pub mod DoorExamples
 pub mod DoorRefusals

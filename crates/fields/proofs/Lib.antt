@@ -1,3 +1,4 @@
 pub mod NumberLaws
 pub mod FormatLaws
 pub mod HyperEdgeLaws
+pub mod TestExamples

@@ -53,7 +53,8 @@ headerLayout = 4 ∷ 4 ∷ 16 ∷ []
 abbrev pub headLayout : List ℕ
 headLayout = 7 ∷ 7 ∷ 7 ∷ 30 ∷ 5 ∷ []
 
--- "job, 11 bytes: minutes (20, 1 to 1,048,575), benches allowed (64, the first bit is bench 0), 4 spare bits."
+-- "job, 11 bytes: minutes (20, 1 to 1,048,575), benches allowed (64, the first bit is bench 0), 4 spare bits." Minutes
+-- may be 0 (request S-3).
 abbrev pub jobLayout : List ℕ
 jobLayout = 20 ∷ 64 ∷ 4 ∷ []
 

@@ -30,7 +30,7 @@ numberOf (BenchCount at) = 7
 numberOf (Share at) = 8
 -- "It is the 513th job."
 numberOf (JobCount at) = 9
--- "A job has 0 minutes."
+-- "A job has 0 minutes." By request S-3 it is the writer's alone: minutes too wide for the field, or not given.
 numberOf (Minutes at) = 10
 -- "A job allows no bench, or a bench the head lacks."
 numberOf (Allowed at) = 11

@@ -9,6 +9,7 @@
 --     noneHad                 no bench had one
 --     bookedFaults m bs       14 and 15 for the bookings that the writer gives, with benches as places
 --     jobFaults m n j at      9 to 11 for job n, in this order, with their place
+--     noMinutes               stands for minutes that are not given
 --     jobAt js n, jobTable n ms bs    job n of a list; jobs given by two tables
 --     longest js              W, the longest job's minutes
 --     heavyHyperEdge h w j    what 12 says of a job
@@ -57,9 +58,10 @@ shareFault h =
 abbrev pub jobCountFault : ℕ → Bool
 jobCountFault n = leb 512 n
 
--- "10. A job has 0 minutes." Minutes too wide for their field: 10 too.
+-- 10. Minutes too wide for their field. Request S-3: "jobs of 0 minutes are taken"; "the writer keeps it for minutes
+-- too wide for the field".
 abbrev pub minutesFault : Job → Bool
-minutesFault j = eqb (j .minutes) 0 || leb (2 ^ 20) (j .minutes)
+minutesFault j = leb (2 ^ 20) (j .minutes)
 
 -- "11. A job allows no bench, or a bench the head lacks." m is the head's number of benches.
 abbrev pub allowedFault : ℕ → Job → Bool
@@ -104,9 +106,14 @@ noJob = record { minutes = 0; allowed = 0 }
 abbrev pub jobAt : List Job → ℕ → Job
 jobAt js n = getD js n noJob
 
--- The first n jobs of two tables: minutes, and benches allowed. What a table lacks is 0.
+-- Minutes that are not given are not 0: they are a number that no field holds, so that 10 holds of the job.
+abbrev pub noMinutes : ℕ
+noMinutes = 2 ^ 20
+
+-- The first n jobs of two tables: minutes, and benches allowed. Where the first has no entry no minutes are given,
+-- where the second has none no bench is allowed.
 abbrev pub jobTable : ℕ → List ℕ → List ℕ → List Job
-jobTable n ms bs = table n (λ i. record { minutes = getD ms i 0; allowed = getD bs i 0 })
+jobTable n ms bs = table n (λ i. record { minutes = getD ms i noMinutes; allowed = getD bs i 0 })
 
 -- "W the longest job's minutes"
 abbrev pub longest : List Job → ℕ

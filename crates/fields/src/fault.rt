@@ -21,7 +21,7 @@ pub enum Fault {
     Share(usize),
     // 9: the 513th job.
     JobCount(usize),
-    // 10: 0 minutes; from the writer also minutes too wide.
+    // 10: from the writer only, minutes too wide or not given.
     Minutes(usize),
     // 11: no bench allowed, or one that the head lacks.
     Allowed(usize),

@@ -21,6 +21,11 @@ pub struct Job {
     pub allowed: u64,
 }
 
+impl Job {
+    // Stands for minutes that are not given: a number too wide for the field.
+    pub const NO_MINUTES: u64 = 1048576;
+}
+
 // A whole sheet. Entry b of `booked` is bench b. Entry n of the other arrays is job n; entries from `count` on are 0.
 pub struct Sheet {
     pub head: Head,

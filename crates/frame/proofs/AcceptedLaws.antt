@@ -13,11 +13,12 @@ use mathlib.Core.Bool.{true, false, not}
 use mathlib.Core.Logic.{inl, inr, ⊎-elim}
 use mathlib.Core.List.{List, [], _∷_, _++_}
 use native.Mathlib.Omega.{arith}
-use lib.ListN.{length, set, length-append, length-set, getD-replicate, List·getD-eq-default, List·getD-append}
+use lib.ListN.{length, set, length-append, length-set, List·getD-append}
 use lib.Seq.{getD-append-seam, getD-set-same, getD-set-other}
 use lib.Dec.{eqb}
 use Rattle.bools.proofs.BoolLaws.{clash, split, or-false-left, or-false-right, tests}
 use Rattle.bools.proofs.OrderLaws.{lt-or-le, eq-or-ne}
+use Rattle.sums.proofs.TableLaws.{getD-same}
 use Rattle.bits.proofs.BitsLaws.{bits-lt}
 use Rattle.fields.specs.declared.sheet.Booking.{Booking}
 use Rattle.fields.specs.declared.sheet.Job.{Job}
@@ -62,10 +63,7 @@ closed-not-start : Closed ≡ Start → ⊥
 closed-not-start q = let z : _≡_ {A = ℕ} 0 1 = cc in omega arith
 
 pub no-bookings : (b : ℕ) → bookedAt noBookings b ≡ 0
-no-bookings b = elim (lt-or-le b 64) [
-  | inl l ↦ getD-replicate 64 b 0 0 l
-  | inr l ↦ List·getD-eq-default noBookings 0 l
-]
+no-bookings b = getD-same 64 0 b
 
 pub unbooked-sound : (m : ℕ) → SoundBookings m noBookings
 unbooked-sound m = record { booked-fit = λ b. rw (no-bookings b) (omega arith); none-past-head = λ b l. no-bookings b }

@@ -21,7 +21,7 @@ use Rattle.fields.specs.declared.sheet.Job.{Job}
 use Rattle.fields.specs.Contents.{Contents}
 use Rattle.fields.specs.declared.fault.Fault.{Fault}
 use Rattle.fields.specs.declared.fault.Verdict.the-variants.{Refused}
-use Rattle.fields.specs.Tests.{firstFault, jobFaults}
+use Rattle.fields.specs.Tests.{noMinutes, firstFault, jobFaults}
 use Rattle.frame.specs.Writing.{jobsOf, contentsOf, andThen, jobsVerdict, openingVerdict}
 use Rattle.frame.specs.Writing.{writerVerdict, writeSheet, output}
 use Rattle.frame.proofs.WriterLaws.{jobs-bound, write-refused, output-refused}
@@ -31,12 +31,13 @@ use Rattle.frame.proofs.WholeFrames.{verdict-cases}
 
 pub jobsOf-take : (k : ℕ) (ms bs : List ℕ) → jobsOf (take k ms) (take k bs) ≡ take k (jobsOf ms bs)
 jobsOf-take k ms bs =
-    let job : ℕ → Job = λ i. record { minutes = getD ms i 0; allowed = getD bs i 0 } in
-    let first : ℕ → Job = λ i. record { minutes = getD (take k ms) i 0; allowed = getD (take k bs) i 0 } in
+    let job : ℕ → Job = λ i. record { minutes = getD ms i noMinutes; allowed = getD bs i 0 } in
+    let first : ℕ → Job = λ i. record { minutes = getD (take k ms) i noMinutes; allowed = getD (take k bs) i 0 } in
     let n : ℕ = max (length ms) (length bs) in
     let e : max (length (take k ms)) (length (take k bs)) ≡ min k n = rw (length-take k ms, length-take k bs) (omega arith) in
     ap (λ (i : ℕ). table i first) e
-    ∙ table-cong (min k n) first job (λ i l. let h : i < k = omega arith in rw (getD-take k ms i 0 h, getD-take k bs i 0 h))
+    ∙ table-cong (min k n) first job
+    (λ i l. let h : i < k = omega arith in rw (getD-take k ms i noMinutes h, getD-take k bs i 0 h))
     ∙ sym (take-table-min k n job)
 
 -- ── the verdict ──

@@ -4,15 +4,16 @@
 --     first-test, first-test-holds    firstFault gives the fault of the first test that holds, and back
 --     none-holds, none-holds-passes   it gives none where no test holds, and back
 --     faultsAt-numbers        the tests at a frame have the numbers 3 to 6, then by its kind 7 and 8, 9 to 11, or 14 and 15
---     InFrame at f, in-frame-number   a fault found by them has one of these numbers, and the frame's first byte for
---                             its place
+--     minutes-read            minutes that are read fit their field: the test 10 holds of no frame
+--     InFrame at f, in-frame-number   a fault found by them has one of these numbers but 10, and the frame's first byte
+--                             for its place
 -- Of 12, passed on: lowest-hyper-edge, hyper-edge-lowest, none-hyper-edge, hyper-edge-none (fields HyperEdgeLaws)
 -- Of the places that reading comes to:
 --     reached-length          the bytes before the place and those left are all of the sheet
 --     reached-read            the sheet is read as what is left is read from there on
 --     reached-unique          one byte is reached in one way only: with the same bytes left and the same progress
 -- Of the first fault:
---     fault-here-number       a fault found after fault 1 has a number from 2 to 15 other than 13
+--     fault-here-number       a fault found after fault 1 has a number from 2 to 15 other than 10 and 13
 --     fault-here-read         what is read from a place at which a fault is found is that fault
 --     sheet-fault-unique      a sheet has at most one first fault
 -- Of what a sheet is read as:
@@ -21,7 +22,8 @@
 --     read-too-long, too-long-read    fault 1 is given where the sheet is too long, and only there
 --     read-fault, fault-read          a fault is given where it is the first one, and back
 --     read-accepted, accepted-read    a sheet is accepted where it has none of the faults, and back
-use Prim.Native.Nat.{ℕ, suc, _+_, _≤_, _<_}
+--     never-10                no list of bytes is refused by fault 10 (request S-3)
+use Prim.Native.Nat.{ℕ, suc, _+_, _^_, _≤_, _<_}
 use mathlib.Core.Path.{_≡_, refl, sym, ap, _∙_, subst}
 use mathlib.Core.Bool.{Bool, true, false, cond}
 use mathlib.Core.Logic.{_≢_, _⊎_, inl, inr}
@@ -29,9 +31,10 @@ use mathlib.Core.List.{List, [], _∷_, _++_, map}
 use native.Mathlib.Omega.{arith}
 use lib.ListN.{length, length-append}
 use lib.Dec.{eqb}
-use borrow.Author.Tests.{lt-ltb}
-use Rattle.bools.proofs.BoolLaws.{split}
+use borrow.Author.Tests.{lt-ltb, lt-leb}
+use Rattle.bools.proofs.BoolLaws.{split, clash}
 use Rattle.bools.proofs.OrderLaws.{lt-or-le, eq-or-ne, last-or-below}
+use Rattle.bits.proofs.BitsLaws.{bits-lt}
 use Rattle.fields.specs.Contents.{Contents}
 use Rattle.judging.specs.declared.judge.Stage.{Stage}
 use Rattle.judging.specs.declared.judge.Stage.the-variants.{Start, Open, Closed}
@@ -42,7 +45,7 @@ use Rattle.fields.specs.declared.fault.Verdict.the-variants.{Accepted, Refused}
 use Rattle.fields.specs.Numbers.{numberOf, placeOf}
 use Rattle.fields.specs.Format.{ours, headKind, jobKind, bookingKind, versionOf, kindOf, bodyOf}
 use Rattle.fields.specs.Format.{headOf, jobOf, bookingOf}
-use Rattle.fields.specs.Tests.{Test, firstFault, headFaults, bookingFaults, jobFaults, hyperEdgeVerdict}
+use Rattle.fields.specs.Tests.{Test, firstFault, headFaults, bookingFaults, jobFaults, minutesFault, hyperEdgeVerdict}
 pub use Rattle.fields.proofs.HyperEdgeLaws.{lowest-hyper-edge, hyper-edge-lowest, none-hyper-edge, hyper-edge-none}
 use Rattle.judging.specs.FrameTests.{frameFaults}
 use Rattle.frame.specs.Reading.{Progress, Read, accepted, refused, nothingRead, faultsAt, after, judged, endVerdict, ending, readFrom, readSheet}
@@ -114,31 +117,37 @@ faultsAt-numbers g at frame =
     (contentNumbers g (eqb (kindOf frame) headKind) (eqb (kindOf frame) jobKind) (eqb (kindOf frame) bookingKind)
     (bodyOf frame) at)
 
--- What holds of the fault of every test holds of the fault that is found.
+-- What holds of the fault of every test that may hold is so of the fault that is found.
 abbrev Every : (Fault → Type 0) → List Test → Type 0
 Every P [] = Unit {0}
-Every P (t ∷ ts) = P (t .fault) × Every P ts
+Every P (t ∷ ts) = (t .holds ≡ true → P (t .fault)) × Every P ts
 
 every-found : (P : Fault → Type 0) (ts : List Test) (f : Fault) → Every P ts → firstFault ts ≡ Refused f → P f
 every-found P [] f a e = let z : _≡_ {A = ℕ} 0 1 = cc in absurd (omega arith)
 every-found P (t ∷ ts) f a e = elim (split (t .holds)) [
-  | inl p ↦ let q : t .fault ≡ f = cc in subst P q (a .0)
+  | inl p ↦ let q : t .fault ≡ f = cc in subst P q (a .0 p)
   | inr p ↦ every-found P ts f (a .1) (rw p at e)
 ]
 
--- A fault of a frame at byte at: neither 1, 2 nor 12, 13.
+-- A field that was read fits its width.
+minutes-read : (body : List ℕ) → minutesFault (jobOf body) ≡ false
+minutes-read body = lt-leb (2 ^ 20) (jobOf body .minutes) (bits-lt body 0 20)
+
+-- A fault of a frame at byte at: neither 1, 2 nor 10, 12, 13.
 pub record InFrame (at : ℕ) (f : Fault) : Type 0 where
   pub from-3 : 3 ≤ numberOf f
   pub to-15 : numberOf f ≤ 15
+  pub not-10 : numberOf f ≡ 10 → ⊥
   pub not-12 : numberOf f ≡ 12 → ⊥
   pub not-13 : numberOf f ≡ 13 → ⊥
   pub place-is : placeOf f ≡ at
 
 content-in-frame : (g : Progress) (a b c : Bool) (body : List ℕ) (at : ℕ)
     → Every (InFrame at) (contentTests g a b c body at)
-content-in-frame g true b c body at = omega arith
-content-in-frame g false true c body at = omega arith
-content-in-frame g false false true body at = omega arith
+content-in-frame g true b c body at = (λ h. omega arith, (λ h. omega arith, tt))
+content-in-frame g false true c body at =
+    (λ h. omega arith, (λ h. clash h (minutes-read body), (λ h. omega arith, tt)))
+content-in-frame g false false true body at = (λ h. omega arith, (λ h. omega arith, tt))
 content-in-frame g false false false body at = tt
 
 faultsAt-in-frame : (g : Progress) (at : ℕ) (frame : List ℕ) → Every (InFrame at) (faultsAt g at frame)
@@ -147,7 +156,7 @@ faultsAt-in-frame g at frame =
     let content =
     content-in-frame g (eqb (kindOf frame) headKind) (eqb (kindOf frame) jobKind) (eqb (kindOf frame) bookingKind)
     (bodyOf frame) at in
-    (omega arith, (omega arith, (omega arith, (omega arith, content))))
+    (λ h. omega arith, (λ h. omega arith, (λ h. omega arith, (λ h. omega arith, content))))
 
 pub in-frame-number : (g : Progress) (at : ℕ) (frame : List ℕ) (f : Fault) → FirstTest (faultsAt g at frame) f
     → InFrame at f
@@ -245,11 +254,11 @@ module _ (at : ℕ) (g : Progress) where
 
 module _ {s : List ℕ} {at : ℕ} {rest : List ℕ} {g : Progress} where
   pub fault-here-number : {f : Fault} → FaultHere s at rest g f
-      → (2 ≤ numberOf f) × (numberOf f ≤ 15) × (numberOf f ≡ 13 → ⊥)
+      → (2 ≤ numberOf f) × (numberOf f ≤ 15) × (numberOf f ≡ 10 → ⊥) × (numberOf f ≡ 13 → ⊥)
   fault-here-number (ends-inside h c) = omega arith
   fault-here-number {f} (in-frame frame later e w v t) =
       let n = in-frame-number g at frame f t in
-      (omega (arith, n .from-3), n .to-15, n .not-13)
+      (omega (arith, n .from-3), n .to-15, n .not-10, n .not-13)
   fault-here-number (no-end e n) = omega arith
   fault-here-number (heavy-hyper-edge e c l) = omega arith
 
@@ -380,3 +389,10 @@ read-accepted s c e = judged-accepted (rw e at (read-judged s))
 
 pub accepted-read : (s : List ℕ) (c : Contents) → length s ≤ 65536 → SheetSound s c → readSheet s ≡ accepted c
 accepted-read s c l x = judged-read (sound l x)
+
+-- Request S-3: "No sheet meets fault 10 any more".
+pub never-10 : (s : List ℕ) (f : Fault) → readSheet s ≡ refused f → numberOf f ≢ 10
+never-10 s f e = elim (lt-or-le 65536 (length s)) [
+  | inl l ↦ λ ten. let one : numberOf f ≡ 1 = cc (read-too-long s l) in omega arith
+  | inr l ↦ fault-here-number (read-fault s f l e .fault-here) .2
+]

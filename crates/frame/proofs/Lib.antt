@@ -12,6 +12,7 @@ pub mod ReadState
 pub mod WriterSteps
 pub mod AcceptedLaws
 pub mod EnoughJobs
+pub mod MissingMinutes
 pub mod EnoughBookings
 pub mod ZeroBooking
 pub mod ZeroWritten

@@ -33,7 +33,7 @@ use Rattle.fields.specs.declared.fault.Fault.{Fault}
 use Rattle.fields.specs.declared.fault.Verdict.{Verdict}
 use Rattle.fields.specs.declared.fault.Verdict.the-variants.{Accepted, Refused}
 use Rattle.fields.specs.Format.{ours, versionOf, kindOf, frameSize, bodyOf, bookingOf}
-use Rattle.fields.specs.Tests.{firstFault, noneHad, jobTable, jobAt, noJob}
+use Rattle.fields.specs.Tests.{firstFault, noneHad, jobTable, noMinutes, jobAt, noJob}
 use Rattle.frame.specs.Sound.{SoundJob}
 use Rattle.judging.specs.FrameTests.{cut}
 use Rattle.frame.specs.Reading.{Progress, refused, noContents, faultsAt, withHead, withBooking, withJob, hadWith}
@@ -253,12 +253,12 @@ module _ (s : List ℕ) (sheet : Sheet) (stage : Stage) (had at : ℕ) (here : R
           let b : set (sheet .minutes) (sheet .count) (j .minutes)
           ≡ padded (map (λ x. x .minutes) (here .contents .jobs ++ (j ∷ []))) =
           ap₂ (λ (xs : List ℕ) (n : ℕ). set xs n (j .minutes)) (ap (λ (x : Sheet). x .minutes) (here .same-sheet)) count-is
-          ∙ set-padded (λ x. x .minutes) refl (here .contents .jobs) j (job-found .number-below-512)
+          ∙ set-padded (λ x. x .minutes) (here .contents .jobs) j (job-found .number-below-512)
           in
           let c : set (sheet .allowed) (sheet .count) (j .allowed)
           ≡ padded (map (λ x. x .allowed) (here .contents .jobs ++ (j ∷ []))) =
           ap₂ (λ (xs : List ℕ) (n : ℕ). set xs n (j .allowed)) (ap (λ (x : Sheet). x .allowed) (here .same-sheet)) count-is
-          ∙ set-padded (λ x. x .allowed) refl (here .contents .jobs) j (job-found .number-below-512)
+          ∙ set-padded (λ x. x .allowed) (here .contents .jobs) j (job-found .number-below-512)
           in
           let k : sheet .booked ≡ here .contents .booked = ap (λ (x : Sheet). x .booked) (here .same-sheet) in
           rw (h, k, a, b, c)
@@ -337,12 +337,12 @@ module _ (s : List ℕ) (sheet : Sheet) (stage : Stage) (had at : ℕ) (here : R
   pub state-count : sheet .count ≡ length (here .contents .jobs)
   state-count = ap (λ (x : Sheet). x .count) (here .same-sheet)
 
-  pub state-minutes : (n : ℕ) → n < sheet .count → getD (sheet .minutes) n 0 < 2 ^ 20
+  pub state-minutes : (n : ℕ) → n < sheet .count → getD (sheet .minutes) n noMinutes < 2 ^ 20
   state-minutes n h =
       let lt : n < length (here .contents .jobs) = omega (arith, state-count) in
-      let e : getD (sheet .minutes) n 0 ≡ jobAt (here .contents .jobs) n .minutes =
-      ap (λ (x : Sheet). getD (x .minutes) n 0) (here .same-sheet)
-      ∙ getD-padded (λ j. j .minutes) refl (here .contents .jobs) n lt
+      let e : getD (sheet .minutes) n noMinutes ≡ jobAt (here .contents .jobs) n .minutes =
+      ap (λ (x : Sheet). getD (x .minutes) n noMinutes) (here .same-sheet)
+      ∙ getD-padded (λ j. j .minutes) (here .contents .jobs) n noMinutes lt
       in
       rw e (here .minutes-fit n lt)
 

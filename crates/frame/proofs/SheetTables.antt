@@ -1,7 +1,7 @@
 -- The arrays of the sheet that the reader hands over.
 --     tables-of      they hold the contents of an accepted sheet
 use Prim.Native.Nat.{ℕ}
-use mathlib.Core.Path.{_≡_, refl, ap, _∙_}
+use mathlib.Core.Path.{_≡_, ap, _∙_}
 use mathlib.Core.List.{List}
 use lib.ListN.{getD}
 use Rattle.fields.specs.Contents.{Contents}
@@ -20,7 +20,7 @@ tables-of s c x e same =
       booked-are = λ b. ap (λ (y : Sheet). getD (y .booked) b 0) same;
       jobs-are = ap (λ (y : Sheet). y .count) same;
       minutes-are = λ j l.
-          ap (λ (y : Sheet). getD (y .minutes) j 0) same ∙ getD-padded (λ k. k .minutes) refl (c .jobs) j l;
+          ap (λ (y : Sheet). getD (y .minutes) j 0) same ∙ getD-padded (λ k. k .minutes) (c .jobs) j 0 l;
       allowed-are = λ j l.
-          ap (λ (y : Sheet). getD (y .allowed) j 0) same ∙ getD-padded (λ k. k .allowed) refl (c .jobs) j l;
+          ap (λ (y : Sheet). getD (y .allowed) j 0) same ∙ getD-padded (λ k. k .allowed) (c .jobs) j 0 l;
     }

@@ -115,13 +115,11 @@ job-sound m n j at e =
     let a = cond-accepted (jobCountFault n) _ _ e in
     let b = cond-accepted (minutesFault j) _ _ (a .1) in
     let c = cond-accepted (allowedFault m j) _ _ (b .1) in
-    let zero-minutes : eqb (j .minutes) 0 ≡ false = or-false-left _ (leb (2 ^ 20) (j .minutes)) (b .0) in
-    let wide : leb (2 ^ 20) (j .minutes) ≡ false = or-false-right (eqb (j .minutes) 0) _ (b .0) in
+    let wide : leb (2 ^ 20) (j .minutes) ≡ false = b .0 in
     let some : not (any 64 (allows j)) ≡ false = or-false-left _ (any 64 (λ b. leb m b && allows j b)) (c .0) in
     let wrong : any 64 (λ b. leb m b && allows j b) ≡ false = or-false-right (not (any 64 (allows j))) _ (c .0) in
     record {
       number-below-512 = omega tests;
-      minutes-positive = omega tests;
       minutes-fit = omega tests;
       allows-some = any-elim 64 (allows j) (not-false (any 64 (allows j)) some);
       allows-below = λ i l p. elim (lt-or-le i m) [
@@ -133,7 +131,6 @@ job-sound m n j at e =
 pub sound-job : (m n : ℕ) (j : Job) (at : ℕ) → SoundJob m n j → firstFault (jobFaults m n j at) ≡ Accepted
 sound-job m n j at s =
     let count : jobCountFault n ≡ false = omega tests in
-    let zero-minutes : eqb (j .minutes) 0 ≡ false = omega tests in
     let wide : leb (2 ^ 20) (j .minutes) ≡ false = omega tests in
     let b = s .allows-some in
     let some : not (any 64 (allows j)) ≡ false = not-intro-false (any-intro 64 (allows j) (b .0) (b .1) (b .2)) in
@@ -142,7 +139,7 @@ sound-job m n j at s =
       | inr q ↦ and-false-right (leb m i) q
     ]) in
     let allowed : allowedFault m j ≡ false = or-false some wrong in
-    rw (count, zero-minutes, wide, allowed)
+    rw (count, wide, allowed)
 
 -- ── a list of jobs ──
 

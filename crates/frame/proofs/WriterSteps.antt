@@ -39,7 +39,7 @@ use Rattle.fields.specs.declared.fault.Verdict.{Verdict}
 use Rattle.fields.specs.declared.fault.Verdict.the-variants.{Accepted, Refused}
 use Rattle.frame.specs.declared.writer.Written.the-variants.{Length, Refusal}
 use Rattle.fields.specs.Format.{headFrame, jobFrame, endFrame, bookings, bookingFrames, jobFrames, sheetBytes}
-use Rattle.fields.specs.Tests.{firstFault, headFaults, bookedFaults, jobFaults, noJob, jobAt, jobTable}
+use Rattle.fields.specs.Tests.{firstFault, headFaults, bookedFaults, jobFaults, noJob, noMinutes, jobAt, jobTable}
 use Rattle.fields.specs.Tests.{hyperEdgeVerdict}
 use Rattle.packing.specs.Packing.{framePut}
 use Rattle.bookings.specs.Bookings.{cutBookings}
@@ -61,12 +61,13 @@ given h booked n ms bs = record { head = h; booked = booked; jobs = jobTable n m
 
 module _ (n : ℕ) (ms bs : List ℕ) where
   pub length-jobTable : length (jobTable n ms bs) ≡ n
-  length-jobTable = length-table n (λ k. record { minutes = getD ms k 0; allowed = getD bs k 0 })
+  length-jobTable = length-table n (λ k. record { minutes = getD ms k noMinutes; allowed = getD bs k 0 })
 
-  pub job-at : (i : ℕ) → i < n → jobAt (jobTable n ms bs) i ≡ record { minutes = getD ms i 0; allowed = getD bs i 0 }
-  job-at i l = getD-table n (λ k. record { minutes = getD ms k 0; allowed = getD bs k 0 }) i noJob l
+  pub job-at : (i : ℕ) → i < n
+      → jobAt (jobTable n ms bs) i ≡ record { minutes = getD ms i noMinutes; allowed = getD bs i 0 }
+  job-at i l = getD-table n (λ k. record { minutes = getD ms k noMinutes; allowed = getD bs k 0 }) i noJob l
 
-  pub minutes-at : (i : ℕ) → i < n → jobAt (jobTable n ms bs) i .minutes < 2 ^ 20 → getD ms i 0 < 2 ^ 20
+  pub minutes-at : (i : ℕ) → i < n → jobAt (jobTable n ms bs) i .minutes < 2 ^ 20 → getD ms i noMinutes < 2 ^ 20
   minutes-at i l h = rw (job-at i l) at h
 
 -- ── the frames of the jobs, and of the sheet ──
@@ -85,11 +86,11 @@ jobFrames-more i job =
 
 pub jobs-more : (start : ℕ) (out ms bs : List ℕ) (i : ℕ) (j : Job) {one two : List ℕ} → start ≤ length out
     → one ≡ written out start (jobFrames (jobTable i ms bs)) (start + 14 * i)
-    → j .minutes ≡ getD ms i 0 → j .allowed ≡ getD bs i 0
+    → j .minutes ≡ getD ms i noMinutes → j .allowed ≡ getD bs i 0
     → two ≡ written one (start + 14 * i) (jobFrame j) (start + 14 * i + 14)
     → two ≡ written out start (jobFrames (jobTable (i + 1) ms bs)) (start + 14 * (i + 1))
 jobs-more start out ms bs i j l first m b second =
-    let job : ℕ → Job = λ n. record { minutes = getD ms n 0; allowed = getD bs n 0 } in
+    let job : ℕ → Job = λ n. record { minutes = getD ms n noMinutes; allowed = getD bs n 0 } in
     let end : start + 14 * i + 14 ≡ start + 14 * (i + 1) = omega arith in
     let size : start + length (jobFrames (table i job)) ≡ start + 14 * i =
     omega (arith, length-jobFrames (table i job), length-table i job) in
@@ -151,18 +152,19 @@ module _ (m n : ℕ) (ms bs : List ℕ) where
   verdictFrom i = jobsVerdict m i (drop i (jobTable n ms bs))
 
   -- What the tests find in job i, which the program has read from the tables.
-  found : (i : ℕ) (j : Job) {v w : Verdict} → i < n → j .minutes ≡ getD ms i 0 → j .allowed ≡ getD bs i 0
+  found : (i : ℕ) (j : Job) {v w : Verdict} → i < n → j .minutes ≡ getD ms i noMinutes → j .allowed ≡ getD bs i 0
       → v ≡ firstFault (jobFaults m i j i) → v ≡ w
       → firstFault (jobFaults m (0 + i) (jobAt (jobTable n ms bs) i) (0 + i)) ≡ w
   found i j l p q e a = rw (zero-add i, job-at n ms bs i l, ← p, ← q) (sym e ∙ a)
 
-  pub jobs-sound : (i : ℕ) (j : Job) {v : Verdict} → i < n → j .minutes ≡ getD ms i 0 → j .allowed ≡ getD bs i 0
+  pub jobs-sound : (i : ℕ) (j : Job) {v : Verdict} → i < n → j .minutes ≡ getD ms i noMinutes → j .allowed ≡ getD bs i 0
       → v ≡ firstFault (jobFaults m i j i) → v ≡ Accepted → verdictFrom i ≡ verdictFrom (i + 1)
   jobs-sound i j l p q e a =
       rw (add-one i)
       (simp zero-add at (jobsVerdict-drop m 0 i (jobTable n ms bs) (omega (arith, length-jobTable n ms bs)) (found i j l p q e a)))
 
-  pub jobs-fault : (i : ℕ) (j : Job) {v : Verdict} {f : Fault} → i < n → j .minutes ≡ getD ms i 0 → j .allowed ≡ getD bs i 0
+  pub jobs-fault : (i : ℕ) (j : Job) {v : Verdict} {f : Fault} → i < n → j .minutes ≡ getD ms i noMinutes
+      → j .allowed ≡ getD bs i 0
       → v ≡ firstFault (jobFaults m i j i) → v ≡ Refused f → verdictFrom i ≡ Refused f
   jobs-fault i j {f = f} l p q e a =
       rw zero-add at (jobsVerdict-fault m 0 i (jobTable n ms bs) f (omega (arith, length-jobTable n ms bs)) (found i j l p q e a))
@@ -200,7 +202,7 @@ module _ (c : Contents) {v : Verdict} (opening : v ≡ openingVerdict (c .head) 
 pub hyper-edges-ready : (h : Head) (booked : List ℕ) (n : ℕ) (ms bs : List ℕ) {v w : Verdict}
     → v ≡ openingVerdict h booked → v ≡ Accepted
     → w ≡ jobsVerdict (h .benches) 0 (jobTable n ms bs) → w ≡ Accepted
-    → (h .p < 128) × (h .q < 128) × ((i : ℕ) → i < n → getD ms i 0 < 2 ^ 20)
+    → (h .p < 128) × (h .q < 128) × ((i : ℕ) → i < n → getD ms i noMinutes < 2 ^ 20)
 hyper-edges-ready h booked n ms bs opening a jobs b =
     let s = opening-sound h booked (sym opening ∙ a) .0 in
     let job = jobsVerdict-sound (h .benches) 0 (jobTable n ms bs) (sym jobs ∙ b) in
@@ -232,7 +234,7 @@ module _ (h : Head) (booked : List ℕ) (n : ℕ) (ms bs : List ℕ) {v : Verdic
     pub few-jobs : n ≤ 512
     few-jobs = omega (arith, sound .at-most-512-jobs, length-jobTable n ms bs)
 
-    pub minutes-ready : (i : ℕ) → i < n → getD ms i 0 < 2 ^ 20
+    pub minutes-ready : (i : ℕ) → i < n → getD ms i noMinutes < 2 ^ 20
     minutes-ready i l = minutes-at n ms bs i l (sound .jobs i (omega (arith, length-jobTable n ms bs)) .minutes-fit)
 
     module _ (start room : ℕ) (is-start : start ≡ 10 + 7 * length (bookings booked)) where

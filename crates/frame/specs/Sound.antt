@@ -36,7 +36,6 @@ pub record SoundBookings (m : ℕ) (bs : List ℕ) : Type 0 where
 
 pub record SoundJob (m n : ℕ) (j : Job) : Type 0 where
   pub number-below-512 : n < 512
-  pub minutes-positive : 0 < j .minutes
   pub minutes-fit : j .minutes < 2 ^ 20
   pub allows-some : (b : ℕ) × (b < 64) × (allows j b ≡ true)
   pub allows-below : (b : ℕ) → b < 64 → allows j b ≡ true → b < m

@@ -10,7 +10,7 @@ ghost use mathlib.Core.Path.{_≡_};
 ghost use Prim.Native.Nat.{ℕ, _<_, _^_};
 ghost use mathlib.Core.List.{List};
 ghost use lib.ListN.{getD};
-ghost use Rattle.fields.specs.Tests.{jobTable};
+ghost use Rattle.fields.specs.Tests.{noMinutes, jobTable};
 ghost use Rattle.frame.specs.Reading.{Read, readSheet, stored, sheetOf, noContents, endVerdict};
 
 // The first fault of a sheet, or its contents.
@@ -102,7 +102,7 @@ fn finish<'a>(
     minutes: &'a [u64],
     allowed: &'a [u64],
 ) -> Verdict
-    requires { ⌜ (h .p < 128) × (h .q < 128) × ((n : ℕ) → n < count → getD (now minutes) n 0 < 2 ^ 20) ⌝ }
+    requires { ⌜ (h .p < 128) × (h .q < 128) × ((n : ℕ) → n < count → getD (now minutes) n noMinutes < 2 ^ 20) ⌝ }
     ensures { λ r. ⌜ ((bs : List ℕ) → r ≡ endVerdict stage at
         (record { head = h; booked = bs; jobs = jobTable count (now (minutes .entry)) (now (allowed .entry)) })) ⌝ }
 {

@@ -8,7 +8,7 @@ ghost use Prim.Native.Nat.{ℕ, _+_, _*_, _^_, _≤_, _<_, max};
 ghost use mathlib.Core.List.{_++_};
 ghost use lib.ListN.{length, take, drop, getD};
 ghost use Rattle.fields.specs.Format.{jobFrames};
-ghost use Rattle.fields.specs.Tests.{jobTable};
+ghost use Rattle.fields.specs.Tests.{noMinutes, jobTable};
 ghost use Rattle.frame.specs.Writing.{contentsOf, jobsVerdict, openingVerdict};
 ghost use Rattle.frame.specs.Writing.{writerVerdict, writeSheet, output};
 
@@ -19,7 +19,7 @@ pub enum Written {
 }
 
 // Writes the head, the bookings above 0 of a table, the jobs of two tables (minutes, benches allowed) and the end to
-// the front of `out`. A table counts as 0 from its end on.
+// the front of `out`. Past the end of a table nothing is booked, no minutes are given (fault 10), no bench is allowed.
 pub fn write<'a>(
     h: Head,
     booked: &'a [u64],
@@ -98,8 +98,8 @@ fn check_jobs(benches: u64, n: usize, minutes: &[u64], allowed: &[u64]) -> Verdi
     let mut i = 0;
     while i < n {
         let j = Job {
-            minutes: checks::entry(minutes, i),
-            allowed: checks::entry(allowed, i),
+            minutes: checks::minutes_at(minutes, i),
+            allowed: checks::allowed_at(allowed, i),
         };
         match checks::check_job(benches, i, j, i) {
             Verdict::Refused(f) => {
@@ -115,7 +115,7 @@ fn check_jobs(benches: u64, n: usize, minutes: &[u64], allowed: &[u64]) -> Verdi
 // The frames of the first n jobs, from byte `start` on.
 fn put_jobs(n: usize, minutes: &[u64], allowed: &[u64], start: usize, out: &mut [u8])
     requires { ⌜ (n ≤ 512) × (start + 14 * n ≤ length (now out))
-        × ((i : ℕ) → i < n → getD (now minutes) i 0 < 2 ^ 20) ⌝ }
+        × ((i : ℕ) → i < n → getD (now minutes) i noMinutes < 2 ^ 20) ⌝ }
     ensures { λ _. ⌜
         now (out .exit)
         ≡ take start (now (out .entry))
@@ -126,8 +126,8 @@ fn put_jobs(n: usize, minutes: &[u64], allowed: &[u64], start: usize, out: &mut 
     let mut i = 0;
     while i < n {
         let j = Job {
-            minutes: checks::entry(minutes, i),
-            allowed: checks::entry(allowed, i),
+            minutes: checks::minutes_at(minutes, i),
+            allowed: checks::allowed_at(allowed, i),
         };
         let at = start + 14 * i;
         packing::put_job(j, &mut out[at..at + 14]);

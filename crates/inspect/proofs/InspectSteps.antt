@@ -21,7 +21,7 @@ use lib.ListN.{drop-of-length-le}
 use borrow.Author.Tests.{lt-ltb, le-ltb}
 use borrow.Rule.Slice.PartMut.{postOf, post-is}
 use Rattle.sums.specs.Table.{table}
-use Rattle.sums.proofs.TableLaws.{length-table, table-snoc}
+use Rattle.sums.proofs.TableLaws.{length-table, table-snoc, getD-there}
 use Rattle.bits.specs.Little.{littleOf, littleAll}
 use Rattle.bits.proofs.LittleLaws.{length-littleAll, littleAll-append, littleAll-one}
 use Rattle.fields.specs.declared.sheet.Head.{Head}
@@ -32,7 +32,7 @@ use Rattle.fields.specs.declared.sheet.Reading.{Reading}
 use Rattle.fields.specs.declared.fault.Fault.{Fault}
 use Rattle.fields.specs.declared.fault.Fault.the-variants.{Table}
 use Rattle.fields.specs.declared.fault.Verdict.the-variants.{Accepted, Refused}
-use Rattle.fields.specs.Tests.{jobTable}
+use Rattle.fields.specs.Tests.{noMinutes, jobTable}
 use Rattle.frame.specs.Reading.{accepted, readSheet, stored, sheetOf}
 use Rattle.frame.proofs.WriterSteps.{written, written-after}
 use Rattle.frame.proofs.SheetArrays.{length-padded, table-padded}
@@ -97,22 +97,23 @@ jobNumbers-more i job =
     ∙ jobNumbers-append (table i job) (job i ∷ [])
     ∙ sym (append-assoc (jobNumbers (table i job)) (job i .minutes ∷ []) (job i .allowed ∷ []))
 
-pub jobs-more : (t ms bs : List ℕ) (i : ℕ) {one two three : List ℕ} → 544 ≤ length t
+pub jobs-more : (t ms bs : List ℕ) (i : ℕ) {one two three : List ℕ} → 544 ≤ length t → i < length ms
     → one ≡ written t 544 (littleAll 8 (jobNumbers (jobTable i ms bs))) (544 + 16 * i)
     → two ≡ written one (8 * (68 + 2 * i)) (littleOf 8 (getD ms i 0)) (8 * (68 + 2 * i) + 8)
     → three ≡ written two (8 * (69 + 2 * i)) (littleOf 8 (getD bs i 0)) (8 * (69 + 2 * i) + 8)
     → three ≡ written t 544 (littleAll 8 (jobNumbers (jobTable (i + 1) ms bs))) (544 + 16 * (i + 1))
-jobs-more t ms bs i {one} {two} {three} l first second third =
-    let job : ℕ → Job = λ n. record { minutes = getD ms n 0; allowed = getD bs n 0 } in
+jobs-more t ms bs i {one} {two} {three} l inside first second third =
+    let job : ℕ → Job = λ n. record { minutes = getD ms n noMinutes; allowed = getD bs n 0 } in
     let ns : List ℕ = jobNumbers (table i job) in
-    let m : ℕ = getD ms i 0 in
+    let m : ℕ = getD ms i noMinutes in
     let b : ℕ = getD bs i 0 in
     let here : 544 + 16 * i ≡ 8 * (68 + 2 * i) = omega arith in
     let between : 8 * (68 + 2 * i) + 8 ≡ 8 * (69 + 2 * i) = omega arith in
     let end : 8 * (69 + 2 * i) + 8 ≡ 544 + 16 * (i + 1) = omega arith in
     let numbers : length ns ≡ 2 * i = omega (arith, length-jobNumbers (table i job), length-table i job) in
     let begun : two ≡ written t 544 (littleAll 8 (ns ++ m ∷ [])) (8 * (68 + 2 * i) + 8) =
-    number-put t 544 ns m (68 + 2 * i) l (omega arith) (first ∙ rw here) second in
+    number-put t 544 ns m (68 + 2 * i) l (omega arith) (first ∙ rw here)
+    (rw (getD-there ms i 0 noMinutes inside) at second) in
     let whole : three ≡ written t 544 (littleAll 8 (ns ++ m ∷ [] ++ b ∷ [])) (8 * (69 + 2 * i) + 8) =
     number-put t 544 (ns ++ m ∷ []) b (69 + 2 * i) l (omega (arith, length-append ns (m ∷ []))) (begun ∙ rw between) third in
     whole ∙ rw (end, jobNumbers-more i job)

@@ -1,10 +1,10 @@
 -- The largest load and the fullest bench, bench by bench, and the loads of all jobs.
 --     fuller-taken, fuller-kept     one law for each way in which a bench is taken in
 --     sum-none, sum-more            of no bench, and of one bench more
---     nothing-left, all-summed      a table that leaves no job: the loads are those of all jobs
-use Prim.Native.Nat.{ℕ, zero, suc, _+_, _≤_, _<_}
+--     all-summed                    a table that leaves no job: the loads are those of all jobs
+use Prim.Native.Nat.{ℕ, suc, _+_, _≤_, _<_}
 use mathlib.Core.Path.{_≡_, refl, sym, ap, ap₂, _∙_}
-use mathlib.Core.Bool.{Bool, false}
+use mathlib.Core.Bool.{false}
 use mathlib.Core.List.{List, []}
 use native.Mathlib.Omega.{arith}
 use native.Mathlib.Numerals.{add-one}
@@ -14,6 +14,7 @@ use borrow.Author.Tests.{lt-ltb, le-ltb}
 use Rattle.bools.proofs.OrderLaws.{lt-or-le}
 use Rattle.sums.specs.Sum.{largest, fullest}
 use Rattle.sums.proofs.LargestLaws.{fullest-above, fullest-kept}
+use Rattle.sums.proofs.TableLaws.{getD-same}
 use Rattle.loads.specs.declared.bench_sum.BenchSum.{BenchSum}
 use Rattle.loads.specs.BenchSum.{sumOf, fuller}
 use Rattle.loads.specs.Loads.{loadsAfter, benchLoads}
@@ -52,12 +53,7 @@ sum-more loads n e at step =
 
 -- ── all jobs ──
 
-pub nothing-left : (k j : ℕ) → getD (replicate {A = Bool} k false) j false ≡ false
-nothing-left zero j = refl
-nothing-left (suc k) zero = refl
-nothing-left (suc k) (suc j) = nothing-left k j
-
 pub all-summed : (jobs : ℕ) (minutes place own : List ℕ) (k : ℕ) {after : List ℕ}
     → after ≡ loadsAfter jobs minutes (replicate k false) place own → after ≡ benchLoads jobs minutes place own
 all-summed jobs minutes place own k e =
-    e ∙ after-cong jobs minutes (replicate k false) [] place own (nothing-left k)
+    e ∙ after-cong jobs minutes (replicate k false) [] place own (getD-same k false)

@@ -2,7 +2,6 @@
 --     linked-joined          neutral rocks link the benches that the day's rocks join
 --     component-found        what spreads from a bench is its component
 --     component-balance      and the balance of that set is the day's
---     zeros                  an array in which every rock is neutral
 --     balance-cycle, balance-crowded     the balance of one cycle, and of a crowded component
 --     cycles-are, crowded-bench-is       what the array of balances, and the search in it, say of the day
 use Prim.Native.Nat.{ℕ, _<_}
@@ -11,11 +10,11 @@ use mathlib.Core.Bool.{Bool, true, false, not, _&&_, _||_}
 use mathlib.Core.Logic.{inl, inr, ⊎-elim}
 use mathlib.Core.List.{List}
 use native.Mathlib.Omega.{arith}
-use lib.ListN.{getD, replicate, length-replicate, getD-replicate, List·getD-eq-default}
+use lib.ListN.{getD}
 use lib.Dec.{eqb, ltb}
 use borrow.Author.Tests.{eq-eqb, ne-eqb, eqb-true, lt-ltb, le-ltb}
 use Rattle.bools.proofs.BoolLaws.{split, tests, bool-ext, and-intro, and-left, and-right, not-intro-true, not-eqb-true}
-use Rattle.bools.proofs.OrderLaws.{eq-or-ne, lt-or-le}
+use Rattle.bools.proofs.OrderLaws.{eq-or-ne}
 use Rattle.sums.specs.Sum.{count}
 use Rattle.sums.specs.Search.{any, least}
 use Rattle.sums.proofs.SearchLaws.{any-cong, least-cong}
@@ -132,12 +131,6 @@ module _ (d : Day) (n : Limits) (low high : List ℕ) (R : DayRocks d n low high
           e ∙ ap₂ balanceOf component-rocks (choices-below set (d .benches) (component d v) (X .room) (λ u h. X .entries u))
 
 -- All rocks are neutral, however many there are.
-pub zeros : (k i : ℕ) → getD {A = ℕ} (replicate {A = ℕ} k 0) i 0 ≡ 0
-zeros k i = elim (lt-or-le i k) [
-  | inl l ↦ getD-replicate {A = ℕ} k i 0 0 l
-  | inr l ↦ List·getD-eq-default (replicate {A = ℕ} k 0) 0 (omega (arith, length-replicate {A = ℕ} k 0))
-]
-
 -- ── balances ──
 
 balance-of-cycle : (a b : ℕ) → eqb (balanceOf a b) 1 ≡ eqb a b

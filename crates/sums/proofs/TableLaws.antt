@@ -5,6 +5,8 @@
 --     table-split     table (m + n) f is table m f, then the n values from m on
 --     table-cong      functions equal below n have the same table
 --     table-getD      the table of a list's elements is the list
+--     getD-there      an element that is there does not depend on what stands for one that is not
+--     getD-same       a list of one value has that value at every index, also past its end
 --     map-table       g of every element of a table
 --     take-table      the first k elements of a table
 --     take-table-min  the same where the table may have fewer than k
@@ -12,9 +14,9 @@
 use Prim.Native.Nat.{ℕ, zero, suc, _+_, _≤_, _<_, min}
 use mathlib.Core.Bool.{cond}
 use mathlib.Core.List.{List, [], _∷_, _++_, map}
-use mathlib.Core.Path.{_≡_, refl, _∙_, ap, ap₂}
+use mathlib.Core.Path.{_≡_, refl, sym, _∙_, ap, ap₂}
 use lib.Dec.{eqb, eqb·zero-suc, eqb·suc-zero, eqb·suc-suc}
-use lib.ListN.{length, getD, take, set}
+use lib.ListN.{length, getD, take, set, replicate}
 use native.Mathlib.Nat.{zero-add, suc-add}
 use native.Mathlib.Omega.{arith}
 use Rattle.sums.specs.Table.{table}
@@ -46,6 +48,15 @@ module _ {ℓ} {A : Type ℓ} where
   pub table-getD : (xs : List A) (d : A) → table (length xs) (λ i. getD xs i d) ≡ xs
   table-getD [] d = refl
   table-getD (x ∷ xs) d = ap (λ (l : List A). x ∷ l) (table-getD xs d)
+
+  pub getD-there : (xs : List A) (i : ℕ) (d e : A) → i < length xs → getD xs i d ≡ getD xs i e
+  getD-there xs i d e h =
+      ap (λ (l : List A). getD l i d) (sym (table-getD xs e)) ∙ getD-table (length xs) (λ k. getD xs k e) i d h
+
+  pub getD-same : (n : ℕ) (x : A) (i : ℕ) → getD (replicate n x) i x ≡ x
+  getD-same zero x i = refl
+  getD-same (suc n) x zero = refl
+  getD-same (suc n) x (suc i) = getD-same n x i
 
   pub take-table : (k n : ℕ) (f : ℕ → A) → k ≤ n → take k (table n f) ≡ table k f
   take-table zero n f h = refl

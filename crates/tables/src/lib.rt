@@ -9,5 +9,6 @@ pub use front::room;
 pub use table::entries;
 pub use table::first_from;
 pub use table::load;
+pub use table::load_given;
 pub use table::put;
 pub use words::fault_word;

@@ -4,7 +4,8 @@ ghost use Prim.Native.Nat.{_+_, _≤_, _<_, min};
 ghost use mathlib.Core.List.{_++_};
 ghost use lib.ListN.{length, take, drop};
 ghost use Rattle.bits.specs.Little.{little, littleOf};
-ghost use Rattle.tables.specs.Tables.{entriesOf, entryOf, firstFrom, loadedInto, putEntry};
+ghost use Rattle.tables.specs.Tables.{entriesOf, entryOf, numbersOf, givenNumbers, firstFrom, loadedInto};
+ghost use Rattle.tables.specs.Tables.{putEntry};
 
 // How many entries a table has; a begun entry counts.
 pub fn entries(t: &[u8]) -> usize
@@ -26,7 +27,7 @@ pub fn entry(t: &[u8], n: usize) -> u64
 // Fills the front of `into` with the entries of a table, as many as there are and fit, and says how many.
 pub fn load(t: &[u8], into: &mut [u64]) -> usize
     ensures counted { λ r. ⌜ r ≡ min (entriesOf (now (t .entry))) (length (now (into .entry))) ⌝ }
-    ensures loaded { λ _. ⌜ now (into .exit) ≡ loadedInto (now (t .entry)) (now (into .entry)) ⌝ }
+    ensures loaded { λ _. ⌜ now (into .exit) ≡ loadedInto (numbersOf (now (t .entry))) (now (into .entry)) ⌝ }
 {
     let all = entries(t);
     let n = if all < into.len() { all } else { into.len() };
@@ -34,6 +35,23 @@ pub fn load(t: &[u8], into: &mut [u64]) -> usize
     while i < n {
         into[i] = entry(t, i);
         i += 1;
+    }
+    n
+}
+
+// The same, with `missing` for a last entry that lacks bytes and has none above 0.
+pub fn load_given(t: &[u8], missing: u64, into: &mut [u64]) -> usize
+    ensures counted { λ r. ⌜ r ≡ min (entriesOf (now (t .entry))) (length (now (into .entry))) ⌝ }
+    ensures loaded { λ _. ⌜ now (into .exit) ≡ loadedInto (givenNumbers (now (t .entry)) missing)
+        (now (into .entry)) ⌝ }
+{
+    let n = load(t, into);
+    // The entry behind the whole ones: where there is one, it lacks bytes.
+    let last = t.len() / 8;
+    if last < n {
+        if into[last] == 0 {
+            into[last] = missing;
+        }
     }
     n
 }

@@ -24,22 +24,22 @@ use Rattle.tables.specs.Tables.{entriesOf, numbersOf, firstFrom}
 use Rattle.tables.specs.Words.{faultWord}
 use Rattle.tables.proofs.FirstSteps.{numbers-zero, numbers-first}
 use Rattle.tables.proofs.TableSteps.{length-numbersOf}
-use Rattle.door.specs.Door.{contentsIn, writtenWord}
+use Rattle.door.specs.Door.{minutesIn, contentsIn, writtenWord}
 
 -- ── the tables of jobs ──
 
 module _ (h : Head) (booked minutes allowed out : List ℕ) {ms bs : List ℕ} {w : Written} {after : List ℕ}
-    (p : ms ≡ take 513 (numbersOf minutes)) (q : bs ≡ take 513 (numbersOf allowed))
+    (p : ms ≡ take 513 (minutesIn minutes)) (q : bs ≡ take 513 (numbersOf allowed))
     (e : w ≡ writeSheet (contentsOf h booked ms bs) (length out))
     (o : after ≡ output w (contentsOf h booked ms bs) out) where
   abbrev jobs : Contents
-  jobs = contentsOf h booked (numbersOf minutes) (numbersOf allowed)
+  jobs = contentsOf h booked (minutesIn minutes) (numbersOf allowed)
 
   returned : w ≡ writeSheet jobs (length out)
-  returned = e ∙ rw (p, q) (jobs-enough h booked (numbersOf minutes) (numbersOf allowed) (length out))
+  returned = e ∙ rw (p, q) (jobs-enough h booked (minutesIn minutes) (numbersOf allowed) (length out))
 
   put-out : after ≡ output (writeSheet jobs (length out)) jobs out
-  put-out = o ∙ rw (e, p, q) (output-jobs-enough h booked (numbersOf minutes) (numbersOf allowed) (length out) out)
+  put-out = o ∙ rw (e, p, q) (output-jobs-enough h booked (minutesIn minutes) (numbersOf allowed) (length out) out)
 
   pub sheet-length : {k : ℕ} → w ≡ Length k
       → (k ≡ writtenWord (writeSheet jobs (length out))) × (after ≡ output (writeSheet jobs (length out)) jobs out)
@@ -57,7 +57,7 @@ module _ (h : Head) (booked minutes allowed out : List ℕ) {day : List ℕ} {fa
   whole = contentsIn h booked minutes allowed
 
   abbrev front : Contents
-  front = contentsOf h day (numbersOf minutes) (numbersOf allowed)
+  front = contentsOf h day (minutesIn minutes) (numbersOf allowed)
 
   in-two : day ++ drop 64 (numbersOf booked) ≡ numbersOf booked
   in-two =
@@ -74,8 +74,8 @@ module _ (h : Head) (booked minutes allowed out : List ℕ) {day : List ℕ} {fa
   sheet-near l e o =
       let same = same-bookings l in (
         e ∙ ap writtenWord
-            (writer-bookings h day (numbersOf booked) (numbersOf minutes) (numbersOf allowed) same (length out)),
-        o ∙ output-bookings h day (numbersOf booked) (numbersOf minutes) (numbersOf allowed) same (length out) out,
+            (writer-bookings h day (numbersOf booked) (minutesIn minutes) (numbersOf allowed) same (length out)),
+        o ∙ output-bookings h day (numbersOf booked) (minutesIn minutes) (numbersOf allowed) same (length out) out,
       )
 
   pub sheet-far : {f : Fault} {r : ℕ} → far < all

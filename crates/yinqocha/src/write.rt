@@ -1,6 +1,7 @@
 // Writing a sheet, for C.
 use frame::Fault;
 use frame::Head;
+use frame::Job;
 use frame::Verdict;
 use frame::Written;
 ghost use mathlib.Core.Path.{_≡_};
@@ -9,7 +10,7 @@ ghost use Rattle.fields.specs.declared.fault.Fault.the-variants.{BookedBench};
 ghost use Rattle.fields.specs.declared.fault.Verdict.the-variants.{Refused};
 ghost use Rattle.frame.specs.Writing.{contentsOf, andThen, openingVerdict, writeSheet, output};
 ghost use Rattle.tables.specs.Tables.{numbersOf};
-ghost use Rattle.door.specs.Door.{headOf, contentsIn, writtenWord};
+ghost use Rattle.door.specs.Door.{headOf, minutesIn, contentsIn, writtenWord};
 
 // Writes the sheet of a head, of a table of bookings and of the jobs of two tables to the front of `out`.
 #[no_mangle]
@@ -61,19 +62,19 @@ fn far_fault(h: Head, booked: &[u64], far: usize) -> Fault
 // Writes the sheet of a head, of bookings and of the jobs of two tables.
 fn write_jobs(h: Head, booked: &[u64], minutes: &[u8], allowed: &[u8], out: &mut [u8]) -> u64
     ensures written { λ r. ⌜ r ≡ writtenWord (writeSheet
-        (contentsOf h (now (booked .entry)) (numbersOf (now (minutes .entry))) (numbersOf (now (allowed .entry))))
+        (contentsOf h (now (booked .entry)) (minutesIn (now (minutes .entry))) (numbersOf (now (allowed .entry))))
         (length (now (out .entry)))) ⌝ }
     ensures output { λ _. ⌜ now (out .exit) ≡ output
         (writeSheet
-        (contentsOf h (now (booked .entry)) (numbersOf (now (minutes .entry))) (numbersOf (now (allowed .entry))))
+        (contentsOf h (now (booked .entry)) (minutesIn (now (minutes .entry))) (numbersOf (now (allowed .entry))))
         (length (now (out .entry))))
-        (contentsOf h (now (booked .entry)) (numbersOf (now (minutes .entry))) (numbersOf (now (allowed .entry))))
+        (contentsOf h (now (booked .entry)) (minutesIn (now (minutes .entry))) (numbersOf (now (allowed .entry))))
         (now (out .entry)) ⌝ }
 {
     // 513 jobs are enough to meet fault 9.
     let mut first = [0u64; 513];
     let mut second = [0u64; 513];
-    let n = tables::load(minutes, &mut first);
+    let n = tables::load_given(minutes, Job::NO_MINUTES, &mut first);
     let m = tables::load(allowed, &mut second);
     match frame::write(h, booked, &first[..n], &second[..m], out) {
         Written::Length(k) => k as u64,

@@ -95,6 +95,16 @@ mod tests {
     }
 
     #[test]
+    fn jobs_of_0_minutes_have_their_lines() {
+        let shown = show(&mut Codec::default(), &samples::checks());
+        let lines: Vec<&str> = shown.lines().skip(5).take(2).collect();
+        assert_eq!(lines, ["job 4: 0 minutes, benches 0 1 2 3 4", "job 5: 0 minutes, benches 2"]);
+        let planned = bay(&mut Planner::new(), &samples::checks());
+        assert!(planned.starts_with("plan 860 7 0\n0 1\n1 2\n2 3\n3 4\n4 1\n5 2\n6 1\n"));
+        assert!(planned.ends_with("\n36 0\n37 3\n"));
+    }
+
+    #[test]
     fn the_show_program_prints_bookings_by_rising_bench() {
         let text = show(&mut Codec::default(), &samples::booked());
         let lines: Vec<&str> = text.lines().take(4).collect();

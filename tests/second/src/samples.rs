@@ -6,7 +6,7 @@ use crate::gen::day::{bench_bit, Day};
 use crate::gen::draft::{frame, set, JOB_SPARE};
 
 /// Each file of the folder with its bytes.
-pub fn all() -> [(&'static str, Vec<u8>); 6] {
+pub fn all() -> [(&'static str, Vec<u8>); 7] {
     [
         ("example-12.sheet", example_12()),
         ("day.sheet", day()),
@@ -14,6 +14,7 @@ pub fn all() -> [(&'static str, Vec<u8>); 6] {
         ("bay.sheet", bay()),
         ("none.sheet", none()),
         ("booked.sheet", booked()),
+        ("checks.sheet", checks()),
     ]
 }
 
@@ -56,6 +57,15 @@ pub fn booked() -> Vec<u8> {
     written(&day)
 }
 
+/// The day of `bay` with four sight checks of 0 minutes: two before its first light job, one of
+/// them on any bench, and two at the end.
+pub fn checks() -> Vec<u8> {
+    let [heavy, others] = [&BAY[..4], &BAY[4..]];
+    let first: [(u64, &[u64]); 2] = [(0, &[0, 1, 2, 3, 4]), (0, &[2])];
+    let last: [(u64, &[u64]); 2] = [(0, &[0, 4]), (0, &[3])];
+    written(&Day::new(BAY_HEAD, jobs(&[heavy, &first, others, &last].concat())))
+}
+
 /// Example 12's sheet with the last spare bit of job 1 set: fault 6, place 24.
 pub fn faulty() -> Vec<u8> {
     let mut bytes = example_12();
@@ -74,7 +84,7 @@ fn jobs(rows: &[(u64, &[u64])]) -> Vec<Job> {
 fn written(day: &Day) -> Vec<u8> {
     let bookings = day.booked.iter().filter(|&&minutes| minutes > 0).count();
     let mut bytes = vec![0; writer::sheet_bytes(bookings, day.jobs.len())];
-    let (booked, jobs) = (day.booked.into_iter(), day.jobs.iter().copied());
+    let (booked, jobs) = (day.booked.into_iter(), day.jobs.iter().map(|&job| job.into()));
     let taken = writer::write(day.head, booked, jobs, &mut Sheet::new(), &mut bytes);
     taken.expect("the sample is taken");
     bytes
@@ -200,6 +210,7 @@ mod tests {
         };
         planned(&bay(), "plan 860 6 0; places", "loads 860 485 365 360 320");
         planned(&booked(), "plan 870 11 0; places", "loads 870 600 365 505 350");
+        planned(&checks(), "plan 860 7 0; places 1 2 3 4 1 2", "0 3; loads 860 485 365 360 320");
         assert_eq!(plan(&none()), "none 37; benches 0 1");
     }
 }

@@ -67,7 +67,7 @@ loop-again c =
     let l = first .before .before .before .before in
     let a = l .before .before .before .before .args in
     let more = jobs-more (now (a .table)) (now (a .minutes)) (now (a .allowed)) (l .loop .i) (omega arith)
-    (l .loop .inv .2) (first .put .ensures ∙ put-some _ (68 + 2 * l .loop .i) _ (omega arith))
+    (omega arith) (l .loop .inv .2) (first .put .ensures ∙ put-some _ (68 + 2 * l .loop .i) _ (omega arith))
     (second .put2 .ensures ∙ put-some _ (69 + 2 * l .loop .i) _ (omega arith)) in
     (omega arith, second .put2 .kept .0 ∙ first .put .kept .0 ∙ l .loop .inv .1, more)
 

@@ -3,7 +3,7 @@
 
 use super::fault::{self, Fault};
 use super::reader;
-use super::sheet::{Head, Job, Sheet, MAX_BENCHES};
+use super::sheet::{Given, Head, Sheet, MAX_BENCHES};
 use super::writer;
 
 pub const ENTRY_BYTES: usize = 8;
@@ -50,10 +50,17 @@ pub fn numbers(table: &[u8]) -> impl Iterator<Item = u64> + '_ {
     (0..entries(table)).map(|index| entry(table, index))
 }
 
+/// The minutes of a job: 0 only where all bytes of the entry are there and are 0. A table that ends
+/// before the entry, or inside it with no byte above 0, has no minutes for the job.
+pub fn minutes_of(table: &[u8], job: usize) -> Option<u64> {
+    let is_whole = job < table.len() / ENTRY_BYTES;
+    Some(entry(table, job)).filter(|&minutes| is_whole || minutes > 0)
+}
+
 /// The jobs of a pair of tables; their number is that of the longer table.
-pub fn jobs<'a>(minutes: &'a [u8], allowed: &'a [u8]) -> impl Iterator<Item = Job> + 'a {
+pub fn jobs<'a>(minutes: &'a [u8], allowed: &'a [u8]) -> impl Iterator<Item = Given> + 'a {
     let count = entries(minutes).max(entries(allowed));
-    (0..count).map(|job| Job { minutes: entry(minutes, job), allowed: entry(allowed, job) })
+    (0..count).map(|job| Given { minutes: minutes_of(minutes, job), allowed: entry(allowed, job) })
 }
 
 /// The codec with a sheet to work in, so that a call takes nothing from the heap.

@@ -20,7 +20,8 @@ pub const BENCHES: u32 = 7;
 pub const SHARE: u32 = 8;
 /// "It is the 513th job."
 pub const TOO_MANY_JOBS: u32 = 9;
-/// "A job has 0 minutes."
+/// "No sheet meets fault 10 any more; the writer keeps it for minutes too wide for the field." A
+/// job for which the writer's table of minutes has no entry counts here too.
 pub const MINUTES: u32 = 10;
 /// "A job allows no bench, or a bench the head lacks."
 pub const ALLOWED: u32 = 11;

@@ -1,5 +1,5 @@
-//! The second codec, from document 01 and request S-1 of document 02 alone. Sentences in quotation
-//! marks are theirs.
+//! The second codec, from document 01 and requests S-1 and S-3 of document 02 alone. Sentences in
+//! quotation marks are theirs.
 //!
 //! - `fault`: the fault numbers, and a fault with its place.
 //! - `frame`: frame headers, the kinds of version 1, and fields of bits.
@@ -17,6 +17,8 @@ pub mod reader;
 pub mod sheet;
 pub mod writer;
 
+#[cfg(test)]
+mod minutes_tests;
 #[cfg(test)]
 mod reader_tests;
 #[cfg(test)]

@@ -69,7 +69,7 @@ fn take(frame: &Frame, progress: Progress, sheet: &mut Sheet) -> Result<Progress
         }
         Kind::Job => {
             let [minutes, allowed, _] = fields(Kind::Job, frame.body)?;
-            sheet.add_job(Job { minutes, allowed })?;
+            sheet.add_job(Job { minutes, allowed }.into())?;
         }
         Kind::End => {
             let [] = fields(Kind::End, frame.body)?;

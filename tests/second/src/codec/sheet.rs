@@ -23,7 +23,8 @@ pub type Booked = [u64; MAX_BENCHES as usize];
 
 pub const NOTHING_BOOKED: Booked = [0; MAX_BENCHES as usize];
 
-/// "minutes (20, 1 to 1,048,575), benches allowed (64, the first bit is bench 0)"
+/// "minutes (20, 1 to 1,048,575), benches allowed (64, the first bit is bench 0)"; "jobs of 0
+/// minutes are taken", the check-only ones.
 #[derive(Clone, Copy, Debug, Default, PartialEq, Eq)]
 pub struct Job {
     pub minutes: u64,
@@ -33,6 +34,20 @@ pub struct Job {
 impl Job {
     pub fn allows(&self, bench: u64) -> bool {
         self.allowed >> (63 - bench) & 1 == 1
+    }
+}
+
+/// A job to be taken. Its minutes are none where the writer's table of minutes has no entry for it:
+/// no minutes are not 0 minutes.
+#[derive(Clone, Copy, Debug, PartialEq, Eq)]
+pub struct Given {
+    pub minutes: Option<u64>,
+    pub allowed: u64,
+}
+
+impl From<Job> for Given {
+    fn from(Job { minutes, allowed }: Job) -> Given {
+        Given { minutes: Some(minutes), allowed }
     }
 }
 
@@ -121,20 +136,20 @@ impl Sheet {
     }
 
     /// Takes the next job, or gives the number of its fault: tests 9 to 11.
-    pub fn add_job(&mut self, job: Job) -> Result<(), u32> {
+    pub fn add_job(&mut self, job: Given) -> Result<(), u32> {
         // "It is the 513th job."
         if self.count == MAX_JOBS {
             return Err(fault::TOO_MANY_JOBS);
         }
-        // "A job has 0 minutes." Too wide a number counts here.
-        if job.minutes == 0 || !fits(job.minutes, 20) {
+        // "the writer keeps it for minutes too wide for the field"; the reader never meets it.
+        let Some(minutes) = job.minutes.filter(|&minutes| fits(minutes, 20)) else {
             return Err(fault::MINUTES);
-        }
+        };
         // "A job allows no bench, or a bench the head lacks."
         if job.allowed == 0 || job.allowed & !self.benches != 0 {
             return Err(fault::ALLOWED);
         }
-        self.jobs[self.count] = job;
+        self.jobs[self.count] = Job { minutes, allowed: job.allowed };
         self.count += 1;
         Ok(())
     }

@@ -3,7 +3,7 @@
 
 use super::fault::{self, Fault};
 use super::frame::{Fields, Kind, HEADER_BYTES, VERSION};
-use super::sheet::{Head, Job, Sheet};
+use super::sheet::{Given, Head, Sheet};
 
 /// The length of a sheet as the writer gives it, with so many non-zero bookings and jobs.
 pub fn sheet_bytes(bookings: usize, jobs: usize) -> usize {
@@ -21,7 +21,7 @@ fn frame_bytes(kind: Kind) -> usize {
 pub fn write(
     head: Head,
     booked: impl Iterator<Item = u64>,
-    jobs: impl Iterator<Item = Job>,
+    jobs: impl Iterator<Item = Given>,
     sheet: &mut Sheet,
     out: &mut [u8],
 ) -> Result<usize, Fault> {

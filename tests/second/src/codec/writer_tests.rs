@@ -9,15 +9,15 @@ use crate::hex;
 use crate::rng::Rng;
 use crate::samples;
 
-const HEAD: Head = Head { benches: 3, p: 4, q: 7, target: 9 };
-const JOB: Job = Job { minutes: 5, allowed: 1 << 63 };
+pub const HEAD: Head = Head { benches: 3, p: 4, q: 7, target: 9 };
+pub const JOB: Job = Job { minutes: 5, allowed: 1 << 63 };
 
-fn fault(number: u64, place: u64) -> u64 {
+pub fn fault(number: u64, place: u64) -> u64 {
     number << 32 | place
 }
 
 /// The result word and the output, which had `room` bytes EE.
-fn written(tables: &Tables, room: usize) -> (u64, Vec<u8>) {
+pub fn written(tables: &Tables, room: usize) -> (u64, Vec<u8>) {
     let mut out = vec![0xEE; room];
     let Tables { head, booked, minutes, allowed } = tables;
     let word = Codec::default().write(*head, booked, minutes, allowed, &mut out);
@@ -81,7 +81,7 @@ fn faults_9_to_12_of_the_jobs() {
     assert_eq!(word(HEAD, &jobs), fault(9, 512));
     jobs[511].allowed = 0;
     assert_eq!(word(HEAD, &jobs), fault(11, 511));
-    for minutes in [0, 1 << 20, 1 << 32 | 5, u64::MAX] {
+    for minutes in [1 << 20, 1 << 32, 1 << 32 | 5, u64::MAX] {
         let bad = Job { minutes, allowed: 0 };
         assert_eq!(word(HEAD, &[JOB, bad]), fault(10, 1));
     }
@@ -154,26 +154,6 @@ fn tables_of_bookings_of_any_length() {
         bytes[8 * 63 + 7] = 1;
         assert_eq!(with(&bytes), fault(14, 63));
     }
-}
-
-#[test]
-fn tables_of_any_length() {
-    let full = Tables::new(HEAD, &[JOB, JOB]);
-    let cut = |minutes: usize, allowed: usize| {
-        let mut tables = full.clone();
-        tables.minutes.truncate(minutes);
-        tables.allowed.truncate(allowed);
-        written(&tables, 100).0
-    };
-    assert_eq!(cut(16, 16), 41);
-    assert_eq!(cut(9, 16), 41);
-    assert_eq!(cut(8, 16), fault(10, 1));
-    assert_eq!(cut(0, 1), fault(10, 0));
-    assert_eq!(cut(16, 15), fault(11, 1));
-    assert_eq!(cut(1, 0), fault(11, 0));
-    assert_eq!(cut(9, 8), fault(11, 1));
-    assert_eq!(cut(8, 8), 27);
-    assert_eq!(cut(0, 0), 13);
 }
 
 #[test]

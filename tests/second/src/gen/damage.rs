@@ -5,8 +5,8 @@ use super::day::{bad_share, bench_bit};
 use super::draft::{self, booking_frame, end_frame, foreign_frame, get, set, Draft};
 use crate::rng::Rng;
 
-/// The fault numbers that a frame or a whole sheet can be damaged to.
-pub const DAMAGES: [u32; 13] = [2, 3, 4, 5, 6, 7, 8, 9, 10, 11, 12, 14, 15];
+/// The fault numbers that a frame or a whole sheet can be damaged to. "No sheet meets fault 10".
+pub const DAMAGES: [u32; 12] = [2, 3, 4, 5, 6, 7, 8, 9, 11, 12, 14, 15];
 
 const KINDS: [u64; 4] = [draft::HEAD, draft::JOB, draft::END, draft::BOOKING];
 
@@ -22,7 +22,6 @@ pub fn damage(rng: &mut Rng, draft: &mut Draft, number: u32) {
         7 => benches(rng, draft),
         8 => share(rng, draft),
         9 => too_many_jobs(rng, draft),
-        10 => in_a_job(rng, draft, |_, frame| set(frame, draft::MINUTES, 0)),
         11 => allowed(rng, draft),
         12 => long_job_with_choice(rng, draft),
         14 => booking(rng, draft),

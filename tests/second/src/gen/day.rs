@@ -1,8 +1,8 @@
 //! Random heads, bookings and jobs that are taken, and ones at the edges of the rules.
 
-use super::bookings;
 use super::draft::Draft;
 use super::tables::Tables;
+use super::{bookings, check_only};
 use crate::codec::sheet::{Booked, Head, Job, Sheet, NOTHING_BOOKED};
 use crate::rng::Rng;
 
@@ -105,8 +105,9 @@ impl Day {
         Day { head: sheet.head(), booked: *sheet.booked(), jobs: sheet.jobs().to_vec() }
     }
 
-    /// A day with this many jobs that is taken, on half of the calls with bookings: its longest job
-    /// has one or two benches, and a job with three or more has at most p/q of that job's minutes.
+    /// A day with this many jobs that is taken, on half of the calls with bookings and on half with
+    /// check-only jobs: its longest job has one or two benches, and a job with three or more has at
+    /// most p/q of that job's minutes.
     pub fn random(rng: &mut Rng, count: usize) -> Day {
         let head = head(rng, 1);
         let longest = if rng.one_in(6) { MOST_MINUTES } else { any_size(rng, MOST_MINUTES) };
@@ -121,13 +122,15 @@ impl Day {
                 Job { minutes: any_size(rng, limit), allowed: many_benches(rng, head.benches) }
             }
         });
-        let jobs = jobs.collect();
+        let mut jobs: Vec<Job> = jobs.collect();
+        check_only::make(rng, &mut jobs);
         let booked = bookings::some(rng, head.benches, |rng| any_size(rng, MOST_MINUTES));
         Day { head, booked, jobs }
     }
 
     /// A day whose jobs with three or more benches have minutes about p × W / q: taken, or
-    /// refused by fault 12. Often W is a multiple of q, so that q × minutes = p × W occurs.
+    /// refused by fault 12. Often W is a multiple of q, so that q × minutes = p × W occurs. On half
+    /// of the calls there are check-only jobs besides, which fault 12 never refuses.
     pub fn near_fault_12(rng: &mut Rng) -> Day {
         let head = head(rng, 3);
         let longest = match rng.below(4) {
@@ -141,8 +144,9 @@ impl Day {
             let minutes = if rng.one_in(3) { edge + 1 } else { edge - rng.range(0, 1).min(edge) };
             let allowed = many_benches(rng, head.benches);
             let place = rng.below(jobs.len() + 1);
-            jobs.insert(place, Job { minutes: minutes.max(1), allowed });
+            jobs.insert(place, Job { minutes, allowed });
         }
+        check_only::add(rng, head, &mut jobs);
         // Bookings longer than the longest job do not count in W.
         let booked = bookings::some(rng, head.benches, |rng| any_size(rng, MOST_MINUTES));
         Day { head, booked, jobs }

@@ -1,5 +1,6 @@
 //! Each generator does what it is for, in the second codec's eyes.
 
+use super::check_only;
 use super::damage::{damage, DAMAGES};
 use super::day::{Day, MOST_MINUTES};
 use super::draft;
@@ -41,6 +42,37 @@ fn half_of_the_random_days_have_bookings() {
     let has_bookings = |day: Day| day.booked.iter().any(|&minutes| minutes > 0);
     let booked = (0..TIMES).filter(|_| has_bookings(Day::random(&mut rng, 3))).count();
     assert!(booked > TIMES * 2 / 5 && booked < TIMES * 3 / 5, "{booked}");
+}
+
+#[test]
+fn half_of_the_random_days_have_check_only_jobs() {
+    let mut rng = Rng::new(7);
+    let (mut some, mut all) = (0, 0);
+    for _ in 0..TIMES {
+        let count = 1 + rng.below(5);
+        let day = Day::random(&mut rng, count);
+        let zeros = day.jobs.iter().filter(|job| job.minutes == 0).count();
+        some += usize::from(zeros > 0);
+        all += usize::from(zeros == count);
+    }
+    assert!(some > TIMES * 2 / 5 && some < TIMES * 3 / 5, "{some}");
+    assert!(all > TIMES / 50 && all < some / 2, "{all}");
+}
+
+#[test]
+fn days_of_check_only_jobs_are_taken() {
+    let mut rng = Rng::new(8);
+    let mut codec = Codec::default();
+    let mut met = [0; 4];
+    for _ in 0..TIMES {
+        let (benches, count) = (rng.range(1, 64), rng.below(20));
+        let day = check_only::only(&mut rng, benches, count);
+        let sheet = codec.read(&day.draft().bytes()).expect("a day of check-only jobs is taken");
+        assert!(sheet.jobs().len() == count && sheet.jobs().iter().all(|job| job.minutes == 0));
+        let booked = sheet.booked().iter().any(|&minutes| minutes > 0);
+        met[usize::from(day.head.target > 0) + 2 * usize::from(booked)] += 1;
+    }
+    assert!(met.iter().all(|&times| times > TIMES / 5), "{met:?}");
 }
 
 #[test]

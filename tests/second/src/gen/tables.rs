@@ -93,7 +93,7 @@ pub fn spoil(rng: &mut Rng, day: &mut Day, number: u32) {
         10 => {
             let job = rng.below(day.jobs.len());
             let minutes = day.jobs[job].minutes;
-            day.jobs[job].minutes = if rng.one_in(2) { 0 } else { too_wide(rng, 20, minutes) };
+            day.jobs[job].minutes = too_wide(rng, 20, minutes);
         }
         11 => {
             let job = rng.below(day.jobs.len());

@@ -151,6 +151,32 @@ fn with_nothing_to_do_bench_0_is_the_fullest() {
 }
 
 #[test]
+fn check_only_jobs_have_places_and_weigh_nothing() {
+    let mut codec = Codec::default();
+    let bytes = Draft::new(head(2, 0), &[job(0, &[0, 1]), job(0, &[1])]).bytes();
+    let sheet = codec.read(&bytes).expect("accepted");
+    let plan = |places: &[u64], moves| {
+        judge(sheet, &Answer::Plan { largest: 0, moves, fullest: 0, places, loads: &[0, 0] })
+    };
+    assert_eq!(plan(&[0, 1], 0), Ok(()));
+    assert_eq!(plan(&[1, 1], 0), Ok(()));
+    // Two benches, and one light job with a choice.
+    assert_eq!(plan(&[0, 1], 2), Ok(()));
+    assert!(plan(&[0, 1], 3).is_err());
+    for places in [&[][..], &[0], &[1], &[0, 0], &[2, 1], &[0, 1, 0]] {
+        assert_eq!(plan(places, 0), Err("a job is not on an allowed bench"));
+    }
+    assert!(judge(sheet, &Answer::Long { job: 0 }).is_err());
+    for benches in [Set::one(0), Set::one(1), Set::first(2)] {
+        assert!(judge(sheet, &Answer::None { benches, moves: 0 }).is_err());
+    }
+    assert_eq!(has_rival(sheet, 1000), Some(true));
+    // A booking blocks at T = 0, and a check-only job adds nothing to it.
+    let day = booked(head(2, 0), &[(1, 1)], &[job(0, &[0, 1]), job(0, &[0])]);
+    assert!(day_blocks(&day, &[1]) && day_blocks(&day, &[0, 1]) && !day_blocks(&day, &[0]));
+}
+
+#[test]
 fn tiny_days_before_the_judge() {
     let mut rng = Rng::new(7);
     let (mut planner, mut codec) = (Planner::new(), Codec::default());

@@ -29,7 +29,8 @@ impl Limits {
     }
 }
 
-/// "a job is heavy if q × minutes > p × T, otherwise light".
+/// "a job is heavy if q × minutes > p × T, otherwise light". Jobs of 0 minutes "are light always,
+/// also at T = 0".
 pub fn is_heavy(head: Head, job: &Job) -> bool {
     head.q * job.minutes > head.p * head.target
 }

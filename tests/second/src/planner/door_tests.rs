@@ -36,6 +36,19 @@ fn a_plan_fills_three_tables() {
 }
 
 #[test]
+fn check_only_jobs_have_their_entries_in_the_table_of_places() {
+    let jobs = [job(0, &[1]), job(5, &[0]), job(0, &[0, 1]), job(0, &[1])];
+    let expected = [table(&[1, 0, 0, 1], 3), table(&[5, 0], 0), table(&[5, 0, 0], 0)];
+    assert_eq!(plan(head(2, 9), &jobs, [35, 16, 24]), (PLAN, expected));
+    let expected = [table(&[1, 1], 8), table(&[0, 0], 8), table(&[0, 0, 0], 0)];
+    assert_eq!(plan(head(2, 0), &[job(0, &[1]); 2], [24, 24, 24]), (PLAN, expected));
+    // They need room as any job.
+    let no_room = word(Err(Fault::new(13, 0)));
+    let untouched = [table(&[], 15), table(&[], 16), table(&[], 24)];
+    assert_eq!(plan(head(2, 0), &[job(0, &[1]); 2], [15, 16, 24]), (no_room, untouched));
+}
+
+#[test]
 fn long_and_none_leave_places_and_loads() {
     let (jobs, rooms) = ([job(5, &[0, 1]); 3], [24, 16, 29]);
     let untouched = || (table(&[], 24), table(&[], 16));

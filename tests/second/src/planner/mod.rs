@@ -1,4 +1,4 @@
-//! The second planner: document 01's run, written from that document, requests S-1 and S-2 of
+//! The second planner: document 01's run, written from that document, requests S-1 to S-3 of
 //! document 02 and chapter 4 of source document 000. Sentences in quotation marks are theirs. Every
 //! weight is multiplied by 3q when it enters the run, so that each comparison is exact.
 //!
@@ -26,6 +26,8 @@ pub mod set;
 
 #[cfg(test)]
 mod booking_tests;
+#[cfg(test)]
+mod check_only_tests;
 #[cfg(test)]
 mod compare_tests;
 #[cfg(test)]

@@ -52,6 +52,7 @@ impl Check {
         for (program, text) in ["bay", "show"].into_iter().zip(&texts) {
             let mut command = Command::new(self.folder.join(program));
             self.prints(&mut command, sheet, feed, text);
+            self.expect("no sheet meets fault 10", !text.starts_with("fault 10 "), sheet);
             self.tally.count_text(program, text);
         }
         texts

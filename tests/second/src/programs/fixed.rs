@@ -16,6 +16,7 @@ pub fn all(check: &mut Check) {
     lengths(check);
     full(check);
     blocked(check);
+    check_only(check);
     pieces(check);
     scripts(check);
 }
@@ -111,6 +112,26 @@ fn blocked(check: &mut Check) {
     check.expect("the set", bay == format!("none 0{benches}\n"), &sheet);
 }
 
+/// Jobs of 0 minutes are shown, and a plan has a line for each of them, also at T = 0.
+fn check_only(check: &mut Check) {
+    check.class("check-only jobs");
+    let [one, two] = [1, 3].map(|sum| Job { minutes: 0, allowed: sum << 62 });
+    for target in [0, 9] {
+        let head = Head { benches: 2, p: 4, q: 7, target };
+        let sheet = Day::new(head, vec![one, two, one]).draft().bytes();
+        let [bay, show] = check.sheet(&sheet, Feed::AtOnce);
+        check.expect("a line for each", bay == "plan 0 0 0\n0 1\n1 0\n2 1\n", &sheet);
+        let lines = "job 0: 0 minutes, benches 1\njob 1: 0 minutes, benches 0 1\n";
+        check.expect("0 minutes are shown", show.contains(lines), &sheet);
+    }
+    let head = Head { benches: 64, p: 4, q: 7, target: 0 };
+    let full = vec![Job { minutes: 0, allowed: u64::MAX }; 512];
+    let sheet = Day::new(head, full).draft().bytes();
+    let [bay, _] = check.sheet(&sheet, Feed::AtOnce);
+    check.expect("512 lines", bay.starts_with("plan 0 0 0\n0 0\n"), &sheet);
+    check.expect("512 lines", bay.ends_with("\n511 0\n"), &sheet);
+}
+
 /// Input that comes slowly is read whole.
 fn pieces(check: &mut Check) {
     check.class("input in pieces");
@@ -118,6 +139,7 @@ fn pieces(check: &mut Check) {
     check.sheet(&samples::day(), Feed::Pieces(7));
     check.sheet(&samples::none(), Feed::Pieces(100));
     check.sheet(&samples::booked(), Feed::Pieces(5));
+    check.sheet(&samples::checks(), Feed::Pieces(11));
     for bytes in [65_535, 65_536, 65_537, 65_538] {
         length(check, bytes, Feed::Pieces(500));
     }

@@ -5,8 +5,8 @@ use std::collections::BTreeMap;
 /// A run that meets one kind of text less often has not tested it.
 const LEAST: u64 = 3;
 
-/// The faults of a sheet.
-const FAULTS: [u32; 14] = [1, 2, 3, 4, 5, 6, 7, 8, 9, 10, 11, 12, 14, 15];
+/// The faults of a sheet. "No sheet meets fault 10".
+const FAULTS: [u32; 13] = [1, 2, 3, 4, 5, 6, 7, 8, 9, 11, 12, 14, 15];
 
 #[derive(Default)]
 pub struct Tally {
@@ -25,6 +25,7 @@ fn wanted() -> Vec<String> {
         "bay: none",
         "show: sheet",
         "show: booked sheet",
+        "show: sheet with check-only jobs",
     ];
     let answers = answers.map(String::from);
     let faults = FAULTS
@@ -35,6 +36,7 @@ fn wanted() -> Vec<String> {
 
 /// The kind of a text: its first word; of a fault also the number, of a plan also the fullest
 /// bench, behind two numbers; a sheet's head is a number, and its bookings have lines of their own.
+/// Jobs of 0 minutes come before the bookings.
 fn kind(text: &str) -> String {
     let mut words = text.split_whitespace();
     match words.next() {
@@ -42,6 +44,7 @@ fn kind(text: &str) -> String {
         Some("plan") if words.nth(2) == Some("0") => "plan, bench 0 the fullest".to_string(),
         Some("plan") => "plan, another bench the fullest".to_string(),
         Some(word) if word.parse::<u64>().is_err() => word.to_string(),
+        _ if text.contains(": 0 minutes, ") => "sheet with check-only jobs".to_string(),
         _ if text.contains(" booked\n") => "booked sheet".to_string(),
         _ => "sheet".to_string(),
     }

@@ -9,7 +9,7 @@ use native.Mathlib.Omega.{arith}
 use lib.ListN.{getD}
 use denote.Ref.{now}
 use Rattle.sums.proofs.LargestLaws.{largest-bound}
-use Rattle.fields.specs.Tests.{jobTable, heavyHyperEdge}
+use Rattle.fields.specs.Tests.{noMinutes, jobTable, heavyHyperEdge}
 use Rattle.checks.proofs.HyperEdges.{tableJob, product-fits, heavy-job, light-benches, light-minutes, heavy-found, heavy-none}
 use Rattle.checks.proofs.HyperEdges.{wide-p, wide-q, wide-minutes, none-wide}
 use Rattle.checks.proofs.hyper_edges.check_hyper_edges.Statement.{statement}
@@ -51,12 +51,12 @@ mul-if4 c =
     let a = at-if1 .before .before .before .before .before .args in
     record { fits = product-fits (a .h .p) (w .result) (at-if1 .if1 .left) (omega arith) }
 
-entry-requires : tie.Need-entry-requires Inv-loop μ-loop
-entry-requires c κs = search needs
+minutes-at-requires : tie.Need-minutes-at-requires Inv-loop μ-loop
+minutes-at-requires c κs = search needs
 
 mul-if4-2 : tie.Need-mul-if4-2 Inv-loop μ-loop
 mul-if4-2 c =
-    let at-entry = c .before .entry in
+    let at-minutes = c .before .minutes-at in
     let at-loop-test = c .before .before .before .loop-test in
     let after-loop = c .before .before .before .before in
     let at-loop = after-loop .loop in
@@ -65,14 +65,15 @@ mul-if4-2 c =
     let after-longest = after-loop .before .before .before .before .before .before in
     let at-longest = after-longest .longest in
     let a = after-longest .before .before .before .args in
-    let at-most = largest-bound (a .count) (λ i. getD (now (a .minutes)) i 0) (at-loop .n) (at-loop-test .taken) in
+    let at-most =
+    largest-bound (a .count) (λ i. getD (now (a .minutes)) i noMinutes) (at-loop .n) (at-loop-test .taken) in
     record {
-      fits = product-fits (a .h .q) (at-entry .result) (at-if2 .left)
-          (omega (arith, at-most, at-longest .ensures, at-entry .ensures, at-if3 .left));
+      fits = product-fits (a .h .q) (at-minutes .result) (at-if2 .left)
+          (omega (arith, at-most, at-longest .ensures, at-minutes .ensures, at-if3 .left));
     }
 
-entry-requires-2 : tie.Need-entry-requires-2 Inv-loop μ-loop
-entry-requires-2 c κs = search needs
+allowed-at-requires : tie.Need-allowed-at-requires Inv-loop μ-loop
+allowed-at-requires c κs = search needs
 
 returns-4 : tie.Need-returns-4 Inv-loop μ-loop
 returns-4 c =
@@ -86,8 +87,8 @@ returns-4 c =
     let narrow = at-longest .before .shared-slice-known2 .given (l .n) in
     let found = heavy-found ms bs (a .count) (a .h) (w .result) (w .ensures) (l .n) (at-test .loop-test .taken)
     (heavy-job (a .h) (w .result) (tableJob ms bs (l .n)) (omega (arith, narrow))
-    (rw (← c .before .entry2 .ensures) (c .if5 .taken))
-    (rw (← c .before .before .before .before .entry .ensures) (c .before .before .if4 .taken)))
+    (rw (← c .before .allowed-at .ensures) (c .if5 .taken))
+    (rw (← c .before .before .before .before .minutes-at .ensures) (c .before .before .if4 .taken)))
     (l .inv .1) in
     sym (none-wide ms bs (a .count) (a .h) (w .result) (w .ensures) (omega arith) (omega arith) (omega arith) ∙ found)
 
@@ -113,7 +114,7 @@ loop-again c =
       omega arith,
       below-more _ _ (at-loop .inv .1) (⊎-elim (λ k. light-benches (a .h) w job fits
           (rw (← k .1 .ensures) (k .2 .left))) (λ k. light-minutes (a .h) w job fits
-          (rw (← c .before .before .entry .ensures) (k .left))) (c .if4 .came)),
+          (rw (← c .before .before .minutes-at .ensures) (k .left))) (c .if4 .came)),
     )
 
 returns-5 : tie.Need-returns-5 Inv-loop μ-loop
@@ -138,9 +139,9 @@ check-hyper-edges-spec =
     returns-3
     loop-holds
     mul-if4
-    entry-requires
+    minutes-at-requires
     mul-if4-2
-    entry-requires-2
+    allowed-at-requires
     returns-4
     add-n
     loop-less

@@ -7,11 +7,12 @@ use native.Mathlib.Numerals.{add-one}
 use native.Mathlib.Omega.{arith}
 use lib.ListN.{getD}
 use Rattle.sums.specs.Sum.{largest}
+use Rattle.fields.specs.Tests.{noMinutes}
 use Rattle.checks.proofs.hyper_edges.longest.Statement.{statement}
 use Rattle.checks.proofs.hyper_edges.longest.Tie as tie
 
 abbrev Inv-loop : tie.InvT-loop
-Inv-loop count minutes w₀ n₀ w n = (n ≤ count) × (w ≡ largest n (λ i. getD minutes i 0))
+Inv-loop count minutes w₀ n₀ w n = (n ≤ count) × (w ≡ largest n (λ i. getD minutes i noMinutes))
 
 abbrev μ-loop : tie.MeasureT-loop
 μ-loop count minutes w₀ n₀ w n = count - n
@@ -19,8 +20,8 @@ abbrev μ-loop : tie.MeasureT-loop
 loop-holds : tie.Need-loop-holds Inv-loop μ-loop
 loop-holds c = (omega arith, refl)
 
-entry-requires : tie.Need-entry-requires Inv-loop μ-loop
-entry-requires c κs = search needs
+minutes-at-requires : tie.Need-minutes-at-requires Inv-loop μ-loop
+minutes-at-requires c κs = search needs
 
 add-n : tie.Need-add-n Inv-loop μ-loop
 add-n c = omega arith
@@ -42,4 +43,4 @@ returns c =
 pub longest-spec : {M : Type 1} → statement M
 longest-spec =
     tie.close
-    (tie.spec Inv-loop μ-loop loop-holds entry-requires add-n loop-less loop-again returns)
+    (tie.spec Inv-loop μ-loop loop-holds minutes-at-requires add-n loop-less loop-again returns)

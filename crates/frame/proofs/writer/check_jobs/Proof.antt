@@ -20,11 +20,11 @@ abbrev μ-loop : tie.MeasureT-loop
 loop-holds : tie.Need-loop-holds Inv-loop μ-loop
 loop-holds c = (omega arith, refl)
 
-entry-requires : tie.Need-entry-requires Inv-loop μ-loop
-entry-requires c κs = search needs
+minutes-at-requires : tie.Need-minutes-at-requires Inv-loop μ-loop
+minutes-at-requires c κs = search needs
 
-entry-requires-2 : tie.Need-entry-requires-2 Inv-loop μ-loop
-entry-requires-2 c κs = search needs
+allowed-at-requires : tie.Need-allowed-at-requires Inv-loop μ-loop
+allowed-at-requires c κs = search needs
 
 check-job-requires : tie.Need-check-job-requires Inv-loop μ-loop
 check-job-requires c κs = search needs
@@ -38,8 +38,8 @@ returns c =
     let l = checked .before .before .before .before in
     let a = l .before .before .before .args in
     let fault = jobs-fault (a .benches) (a .n) (now (a .minutes)) (now (a .allowed)) (l .loop .i) _
-    (checked .before .before .before .loop-test .taken) (checked .before .before .entry .ensures)
-    (checked .before .entry2 .ensures) (checked .check-job .ensures) (c .before .f .given .1) in
+    (checked .before .before .before .loop-test .taken) (checked .before .before .minutes-at .ensures)
+    (checked .before .allowed-at .ensures) (checked .check-job .ensures) (c .before .f .given .1) in
     sym (l .loop .inv .1 ∙ fault)
 
 enum-told : tie.Need-enum-told Inv-loop μ-loop
@@ -57,8 +57,8 @@ loop-again c =
     let l = checked .before .before .before .before in
     let a = l .before .before .before .args in
     let sound = jobs-sound (a .benches) (a .n) (now (a .minutes)) (now (a .allowed)) (l .loop .i) _
-    (checked .before .before .before .loop-test .taken) (checked .before .before .entry .ensures)
-    (checked .before .entry2 .ensures) (checked .check-job .ensures) (c .enum-told .given .1) in
+    (checked .before .before .before .loop-test .taken) (checked .before .before .minutes-at .ensures)
+    (checked .before .allowed-at .ensures) (checked .check-job .ensures) (c .enum-told .given .1) in
     (omega arith, l .loop .inv .1 ∙ sound)
 
 returns-2 : tie.Need-returns-2 Inv-loop μ-loop
@@ -75,8 +75,8 @@ check-jobs-spec =
     Inv-loop
     μ-loop
     loop-holds
-    entry-requires
-    entry-requires-2
+    minutes-at-requires
+    allowed-at-requires
     check-job-requires
     enum-known-f
     returns

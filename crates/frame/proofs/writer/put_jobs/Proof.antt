@@ -28,11 +28,11 @@ loop-holds c =
     let a = c .before .before .before .args in
     (omega arith, refl, jobs-none (a .start) (now (a .out)))
 
-entry-requires : tie.Need-entry-requires Inv-loop μ-loop
-entry-requires c κs = search needs
+minutes-at-requires : tie.Need-minutes-at-requires Inv-loop μ-loop
+minutes-at-requires c κs = search needs
 
-entry-requires-2 : tie.Need-entry-requires-2 Inv-loop μ-loop
-entry-requires-2 c κs = search needs
+allowed-at-requires : tie.Need-allowed-at-requires Inv-loop μ-loop
+allowed-at-requires c κs = search needs
 
 mul-at : tie.Need-mul-at Inv-loop μ-loop
 mul-at c = omega arith
@@ -70,8 +70,8 @@ loop-again c =
     let at = a .start + 14 * l .loop .i in
     let fits = l .before .before .before .before .pre .2 (l .loop .i)
     (put .before .before .before .before .loop-test .taken) in
-    let minutes = put .before .before .before .entry in
-    let j : Job = record { minutes = minutes .result; allowed = put .before .before .entry2 .result } in
+    let minutes = put .before .before .before .minutes-at in
+    let j : Job = record { minutes = minutes .result; allowed = put .before .before .allowed-at .result } in
     let narrow : minutes .result < 2 ^ 20 = omega (arith, minutes .ensures, fits) in
     let size : at + 14 - at ≡ 14 = omega arith in
     let part = put .put-job .ensures ∙ job-fits j out size at narrow (omega arith) in
@@ -79,7 +79,7 @@ loop-again c =
     (λ (rest : List ℕ). take at out ++ (jobFrame j ++ rest)) (post-is at (at + 14) out (omega arith)) ∙ sym
     (append-assoc (take at out) (jobFrame j) (drop (at + 14) out)) in
     let more = jobs-more (a .start) (now (a .out)) (now (a .minutes)) (now (a .allowed)) (l .loop .i) j (omega arith)
-    (l .loop .inv .2) (minutes .ensures) (put .before .before .entry2 .ensures) whole in (
+    (l .loop .inv .2) (minutes .ensures) (put .before .before .allowed-at .ensures) whole in (
       omega arith,
       same-len-mid at (at + 14 - at) out (put .put-job .last .1 .0) (put .put-job .kept .1 .0) ∙
           l .loop .inv .1,
@@ -101,8 +101,8 @@ put-jobs-spec =
     Inv-loop
     μ-loop
     loop-holds
-    entry-requires
-    entry-requires-2
+    minutes-at-requires
+    allowed-at-requires
     mul-at
     add-at
     add-put-job

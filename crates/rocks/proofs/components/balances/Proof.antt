@@ -5,7 +5,7 @@ use native.Mathlib.Omega.{arith}
 use lib.ListN.{length, getD}
 use Rattle.day.specs.Day.{Day}
 use Rattle.rocks.specs.DayArrays.{DayRocks, BalancesTo}
-use Rattle.rocks.proofs.ComponentRun.{zeros}
+use Rattle.sums.proofs.TableLaws.{getD-same}
 use Rattle.rocks.proofs.BalanceRun.{balances-start, balances-all}
 use borrow.Author.Needs.{needs}
 use Rattle.rocks.proofs.components.balances.Statement.{statement}
@@ -39,7 +39,7 @@ loop-again c =
     let at-loop = c .before .before .before .before .before .before .before .loop in (
       search needs,
       omega arith,
-      λ d R room all. c .before .before .balance-from .ensures d R (zeros 512)
+      λ d R room all. c .before .before .balance-from .ensures d R (getD-same 512 0)
           (omega (arith, R .benches)) (at-loop .inv .2 d R room all),
     )
 

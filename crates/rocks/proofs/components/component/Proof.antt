@@ -1,6 +1,7 @@
 -- What neutral rocks link to a bench is its component (ComponentRun).
 use lib.ListN.{replicate}
-use Rattle.rocks.proofs.ComponentRun.{zeros, component-found}
+use Rattle.sums.proofs.TableLaws.{getD-same}
+use Rattle.rocks.proofs.ComponentRun.{component-found}
 use borrow.Author.Needs.{needs}
 use Rattle.rocks.proofs.components.component.Statement.{statement}
 use Rattle.rocks.proofs.components.component.Tie as tie
@@ -19,7 +20,7 @@ returns c =
     let at-with = c .before .with in
     let at-args = c .before .before .before .before .before .args in
     λ d R hv.
-    component-found d (at-args .n) (at-args .low .now) (at-args .high .now) R (replicate 512 0) (zeros 512)
+    component-found d (at-args .n) (at-args .low .now) (at-args .high .now) R (replicate 512 0) (getD-same 512 0)
     (at-args .v) (at-with .result) (c .spread .result) hv (at-with .ensures) (c .spread .ensures)
 
 pub component-spec : {M : Type 1} → statement M

@@ -32,7 +32,7 @@ fn fault_9_too_many_jobs() {
     let jobs = vec![job(5, &[0]); 513];
     assert_eq!(of_fields(EXAMPLE, &jobs[..512]), Ok(()));
     assert_eq!(of_fields(EXAMPLE, &jobs), Err((9, 10 + 512 * 14)));
-    // 9 comes before 10 and after 6.
+    // 9 comes before 11 and after 6.
     let mut draft = Draft::new(EXAMPLE, &jobs);
     draft.frames[513] = job_frame(Job::default());
     assert_eq!(answer(&draft.bytes()), Err((9, 10 + 512 * 14)));
@@ -41,12 +41,15 @@ fn fault_9_too_many_jobs() {
 }
 
 #[test]
-fn fault_10_minutes() {
-    assert_eq!(of_fields(EXAMPLE, &[job(1, &[0])]), Ok(()));
-    assert_eq!(of_fields(EXAMPLE, &[job(1_048_575, &[0])]), Ok(()));
-    assert_eq!(of_fields(EXAMPLE, &[job(1, &[0]), job(0, &[0])]), Err((10, 24)));
-    // 10 comes before 11.
-    assert_eq!(of_fields(EXAMPLE, &[job(0, &[])]), Err((10, 10)));
+fn all_minutes_are_taken() {
+    for minutes in [0, 1, 1_048_575] {
+        assert_eq!(of_fields(EXAMPLE, &[job(minutes, &[0])]), Ok(()));
+        assert_eq!(of_fields(EXAMPLE, &[job(1, &[0]), job(minutes, &[0, 1])]), Ok(()));
+        assert_eq!(of_fields(EXAMPLE, &[job(minutes, &[])]), Err((11, 10)));
+        assert_eq!(of_fields(EXAMPLE, &[job(1, &[0]), job(minutes, &[2])]), Err((11, 24)));
+    }
+    assert_eq!(of_fields(EXAMPLE, &[job(0, &[0]); 512]), Ok(()));
+    assert_eq!(of_fields(EXAMPLE, &[job(0, &[0]); 513]), Err((9, 10 + 512 * 14)));
 }
 
 #[test]
@@ -71,6 +74,10 @@ fn fault_12_long_job_with_choice() {
     assert_eq!(of_fields(head, &[job(7, &[0]), job(5, three)]), Err((12, 1)));
     assert_eq!(of_fields(head, &[job(7, &[0]), job(7, &[0, 1])]), Ok(()));
     assert_eq!(of_fields(head, &[job(1, three)]), Err((12, 0)));
+    // 7 × 0 is never above 4 × W, also where W is 0.
+    assert_eq!(of_fields(head, &[job(7, &[0]), job(0, three)]), Ok(()));
+    assert_eq!(of_fields(head, &[job(0, three); 3]), Ok(()));
+    assert_eq!(of_fields(head, &[job(0, three), job(1, three)]), Err((12, 1)));
     // The longest job may come later; the place is the lowest job number.
     assert_eq!(of_fields(head, &[job(4, three), job(7, &[2])]), Ok(()));
     let jobs = [job(1, &[0]), job(6, three), job(5, three), job(7, &[2])];

@@ -1,6 +1,6 @@
 //! Each generator does what it is for, in the second planner's eyes.
 
-use super::days;
+use super::days::{self, Size};
 use super::heavy::{pairs, Shape, SHAPES};
 use super::{tied, tight, turning};
 use crate::planner::algorithm::{Answer, Planner, Rooms};
@@ -19,6 +19,25 @@ fn days_are_accepted() {
         let day = days::any(&mut rng, size);
         planner.plan(&day.draft().bytes(), Rooms::FULL).expect("an accepted day");
     }
+}
+
+#[test]
+fn half_of_the_days_have_check_only_jobs() {
+    let mut rng = Rng::new(7);
+    let mut some = [0; 4];
+    for _ in 0..1000 {
+        let size = Size { jobs: 30, ..days::middle(&mut rng) };
+        let days = [
+            days::any(&mut rng, size),
+            days::planted(&mut rng, Size { target: 100, ..size }),
+            tight::tight(&mut rng, 5),
+            tied::tied(&mut rng, 5),
+        ];
+        for (some, day) in some.iter_mut().zip(days) {
+            *some += usize::from(day.jobs.iter().any(|job| job.minutes == 0));
+        }
+    }
+    assert!(some.iter().all(|some| (400..600).contains(some)), "{some:?}");
 }
 
 #[test]

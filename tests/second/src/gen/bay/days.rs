@@ -4,8 +4,8 @@ use super::heavy::{pairs, Shape, SHAPES};
 use super::light::{allowed, Choice, CHOICES};
 use super::weights;
 use crate::codec::sheet::{Head, Job};
-use crate::gen::bookings;
 use crate::gen::day::{bench_bit, share, Day, MOST_MINUTES};
+use crate::gen::{bookings, check_only};
 use crate::rng::Rng;
 
 /// The size of a day.
@@ -40,8 +40,8 @@ fn head(rng: &mut Rng, size: Size) -> Head {
     Head { benches: size.benches, p, q, target: size.target }
 }
 
-/// Heavy jobs of some shape, some dedicated load, and light jobs until there are enough; on half of
-/// the days bookings.
+/// Heavy jobs of some shape, some dedicated load, and light jobs until there are enough. Half of
+/// the days have bookings, and on half of all days some of the jobs are check-only.
 pub fn any(rng: &mut Rng, size: Size) -> Day {
     let shape = (!rng.one_in(6)).then(|| rng.pick(&SHAPES));
     let choice = rng.pick(&CHOICES);
@@ -50,11 +50,13 @@ pub fn any(rng: &mut Rng, size: Size) -> Day {
 
 /// As `any`, with the heavy jobs' shape and the light jobs' choice given.
 pub fn booked_with(rng: &mut Rng, size: Size, shape: Option<Shape>, choice: Choice) -> Day {
-    let day = with(rng, size, shape, choice);
-    Day { booked: bookings::for_run(rng, day.head), ..day }
+    let mut day = with(rng, size, shape, choice);
+    day.booked = bookings::for_run(rng, day.head);
+    check_only::make(rng, &mut day.jobs);
+    day
 }
 
-/// As `booked_with`, without bookings.
+/// As `booked_with`, without bookings and without check-only jobs.
 pub fn with(rng: &mut Rng, size: Size, shape: Option<Shape>, choice: Choice) -> Day {
     let head = head(rng, size);
     let mut jobs = Vec::new();
@@ -106,7 +108,8 @@ fn finish(rng: &mut Rng, head: Head, mut jobs: Vec<Job>) -> Day {
 
 /// A day made from an assignment that keeps every bench within T, so that the answer is a plan.
 /// On each bench there is at most one heavy job, and light jobs up to T or a little less; on half
-/// of the days some benches have a booking, which may take all of T.
+/// of the days some benches have a booking, which may take all of T, and on half of all days some
+/// of the jobs are check-only.
 pub fn planted(rng: &mut Rng, size: Size) -> Day {
     let head = head(rng, size);
     let mut jobs = Vec::new();
@@ -137,7 +140,9 @@ pub fn planted(rng: &mut Rng, size: Size) -> Day {
             room -= minutes;
         }
     }
-    Day { booked, ..finish_planted(rng, head, jobs) }
+    let mut day = finish_planted(rng, head, jobs);
+    check_only::make(rng, &mut day.jobs);
+    Day { booked, ..day }
 }
 
 /// As `finish`, but jobs that fault 12 would refuse are left out.

@@ -1,7 +1,9 @@
 //! Days on which several benches have the largest load, or nearly: by jobs, by bookings or by both.
+//! Half of the days have check-only jobs among the others.
 
 use super::tight::load;
 use crate::codec::sheet::{Head, MAX_JOBS, NOTHING_BOOKED};
+use crate::gen::check_only;
 use crate::gen::day::{share, Day};
 use crate::rng::Rng;
 
@@ -24,6 +26,7 @@ pub fn tied(rng: &mut Rng, benches: u64) -> Day {
         load(rng, head, &mut jobs, bench, own - booking);
     }
     rng.shuffle(&mut jobs);
+    check_only::add(rng, head, &mut jobs);
     jobs.truncate(MAX_JOBS);
     Day { head, booked, jobs }
 }

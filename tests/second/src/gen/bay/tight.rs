@@ -1,9 +1,10 @@
 //! Days whose limits are whole minutes, with benches that lie at them or one minute beside, by jobs
-//! and on half of the days by bookings too.
+//! and on half of the days by bookings too. Half of the days have check-only jobs among the others.
 
 use super::heavy::{pairs, Shape};
 use super::weights;
 use crate::codec::sheet::{Head, Job, NOTHING_BOOKED};
+use crate::gen::check_only;
 use crate::gen::day::{bench_bit, Day};
 use crate::rng::Rng;
 
@@ -47,6 +48,7 @@ pub fn tight(rng: &mut Rng, benches: u64) -> Day {
     if rng.one_in(2) {
         rng.shuffle(&mut jobs);
     }
+    check_only::add(rng, head, &mut jobs);
     Day { head, booked, jobs }
 }
 

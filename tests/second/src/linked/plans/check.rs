@@ -5,7 +5,8 @@ use crate::kinds::kinds;
 use crate::library;
 use crate::planned::{words, Planned};
 use crate::tally::Tally;
-use second::codec::door::{Codec, ENTRY_BYTES};
+use second::codec::door::{fault_number, Codec, ENTRY_BYTES};
+use second::codec::fault::MINUTES;
 use second::corpus::{print_answer, print_case, Case};
 use second::gen::day::Day;
 use second::hex;
@@ -83,6 +84,7 @@ impl Check {
         let [places, loads, answer] = expected.each_mut().map(Guarded::inside_mut);
         let word = door::plan(&mut self.planner, sheet, places, loads, answer);
         self.set_library_against(sheet, word, before, &expected);
+        self.expect("no sheet meets fault 10", fault_number(word) != MINUTES, sheet);
         let planned = Planned::new(self.codec.read(sheet).ok(), word, &expected);
         if let Ok(answer) = planned.answer() {
             self.judge(sheet, &answer, rival);
@@ -151,6 +153,7 @@ impl Check {
                 self.same_bytes("a buffer lent to the library", lent, input, sheet);
             }
         }
+        self.expect("no sheet meets fault 10", fault_number(word) != MINUTES, sheet);
         self.tally.count_comparison(self.class, word);
         word
     }

@@ -4,9 +4,11 @@
 //! Arguments: the seed (default 1) and the least number of sheets (default 100,000).
 
 mod check;
+mod check_only;
 mod classes;
 mod compare;
 mod fixed;
+mod fixed_check_only;
 mod fixed_fullest;
 mod kinds;
 mod library;
@@ -19,7 +21,7 @@ use second::arguments;
 use std::{process::ExitCode, time::Instant};
 
 const SHEETS: u64 = 100_000;
-/// Rounds that a run has at least, so that it meets each class often enough; 50,000 sheets.
+/// Rounds that a run has at least, so that it meets each class often enough; 75,000 sheets.
 const ROUNDS: u64 = 18;
 
 fn main() -> ExitCode {
@@ -32,11 +34,13 @@ fn main() -> ExitCode {
     let mut check = Check::new(seed);
     fixed::all(&mut check);
     fixed_fullest::all(&mut check);
+    fixed_check_only::all(&mut check);
     check.tally.forget_met();
     let mut rounds = 0;
     while rounds < ROUNDS || check.tally.sheets < sheets {
         rounds += 1;
         classes::round(&mut check);
+        check_only::round(&mut check);
         refused::round(&mut check);
         compare::round(&mut check);
     }

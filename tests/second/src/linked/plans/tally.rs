@@ -7,7 +7,7 @@ use second::planner::door::{LONG, PLAN, SAME};
 /// A run whose random sheets meet one of these less often has not tested it.
 const LEAST: u64 = 100;
 
-const WANTED: [&str; 60] = [
+const WANTED: [&str; 70] = [
     "plan at once",
     "plan after moves",
     "none of a crowded component",
@@ -23,7 +23,6 @@ const WANTED: [&str; 60] = [
     "fault 7",
     "fault 8",
     "fault 9",
-    "fault 10",
     "fault 11",
     "fault 12",
     "fault 13",
@@ -36,6 +35,16 @@ const WANTED: [&str; 60] = [
     "none with a booking above T",
     "none with a booking above the bound",
     "long with a booking above T",
+    "plan with check-only jobs",
+    "none with check-only jobs",
+    "long with check-only jobs",
+    "plan with check-only jobs alone",
+    "none with check-only jobs alone",
+    "plan with check-only jobs alone, T = 0",
+    "none with check-only jobs alone, T = 0",
+    "long with check-only jobs, T = 0",
+    "plan with a check-only job on three benches or more",
+    "plan with a check-only job that moved",
     "fullest bench above 0",
     "fullest bench above 0, after moves",
     "fullest bench with others as full",
@@ -59,6 +68,7 @@ const WANTED: [&str; 60] = [
     "run with 100 moves or more",
     "full sheet",
     "full sheet with bookings",
+    "full sheet with check-only jobs alone",
     "an assignment within T, by search",
     "no assignment within T, by search",
     "an assignment within T, planted",

@@ -1,9 +1,11 @@
 //! One sheet through the library and through the second codec, compared byte by byte. The first
 //! difference ends the run.
 
+use crate::kinds;
 use crate::library;
 use crate::tally::Tally;
-use second::codec::door::{entry, fault_number, numbers, table_bytes, Codec};
+use second::codec::door::{entry, fault_number, table_bytes, Codec};
+use second::codec::fault::MINUTES;
 use second::codec::sheet::{MAX_BENCHES, MAX_JOBS};
 use second::codec::writer::sheet_bytes;
 use second::gen::tables::Tables;
@@ -67,8 +69,8 @@ impl Check {
     pub fn read_into(&mut self, sheet: &[u8], room: usize) -> Reading {
         let input = Guarded::holding(&mut self.rng, sheet);
         let lent = input.clone();
-        let mut expected = Guarded::random(&mut self.rng, room);
-        let mut found = expected.clone();
+        let before = Guarded::random(&mut self.rng, room);
+        let [mut expected, mut found] = [before.clone(), before.clone()];
         let empty = self.rng.pick(&[Empty::Null, Empty::Pointer]);
         let second = self.codec.inspect(sheet, expected.inside_mut());
         let library = library::inspect(lent.inside(), found.inside_mut(), empty);
@@ -76,10 +78,14 @@ impl Check {
         self.same_word(library, second, call);
         self.same_bytes("the table", &found, &expected, call);
         self.same_bytes("the sheet lent to the library", &lent, &input, call);
-        let filled = if fault_number(library) == 0 { table_bytes(library as usize) } else { 0 };
+        let fault = fault_number(library);
+        self.expect("no sheet meets fault 10", fault != MINUTES, || hex::print(sheet));
+        if fault != 0 {
+            self.same_bytes("the table after a fault", &found, &before, call);
+        }
+        let filled = if fault == 0 { table_bytes(library as usize) } else { 0 };
         let table = found.inside()[..filled].to_vec();
-        let booked = numbers(&table).skip(4).take(MAX_BENCHES as usize).any(|minutes| minutes > 0);
-        self.tally.count_read(self.class, library, booked);
+        self.tally.count_read(self.class, library, &kinds::of_reading(&table));
         Reading { word: library, table }
     }
 
@@ -96,8 +102,8 @@ impl Check {
         let Tables { head, booked, minutes, allowed } = tables;
         let inputs = [booked, minutes, allowed].map(|table| Guarded::holding(&mut self.rng, table));
         let lent = inputs.clone();
-        let mut expected = Guarded::random(&mut self.rng, room);
-        let mut found = expected.clone();
+        let before = Guarded::random(&mut self.rng, room);
+        let [mut expected, mut found] = [before.clone(), before.clone()];
         let empty = self.rng.pick(&[Empty::Null, Empty::Pointer]);
         let second = self.codec.write(*head, booked, minutes, allowed, expected.inside_mut());
         let out = found.inside_mut();
@@ -115,12 +121,13 @@ impl Check {
         for (lent, input) in lent.iter().zip(&inputs) {
             self.same_bytes("a table lent to the library", lent, input, call);
         }
-        self.tally.count_written(self.class, library, tables.bookings() > 0);
-        let length = if fault_number(library) == 0 { library as usize } else { 0 };
-        let sheet = found.inside()[..length].to_vec();
-        if fault_number(library) == 0 {
-            self.read_back(tables, &sheet);
+        self.tally.count_written(self.class, library, &kinds::of_writing(library, tables));
+        if fault_number(library) != 0 {
+            self.same_bytes("the output after a fault", &found, &before, call);
+            return Writing { word: library, sheet: Vec::new() };
         }
+        let sheet = found.inside()[..library as usize].to_vec();
+        self.read_back(tables, &sheet);
         Writing { word: library, sheet }
     }
 

@@ -168,7 +168,7 @@ fn refused(check: &mut Check) {
         (three, &[(5, 1), (63, MOST + 1)], job, 14 << 32 | 5),
         (bad_benches, &[(1, MOST + 1)], job, 7 << 32),
         (bad_share, &[(1, MOST + 1)], job, 8 << 32),
-        (three, &[(4, 1)], Job { minutes: 0, ..job }, 14 << 32 | 4),
+        (three, &[(4, 1)], Job { minutes: MOST + 1, ..job }, 14 << 32 | 4),
         (three, &[(4, 1)], Job { allowed: 0, ..job }, 14 << 32 | 4),
         (three, &[(4, 1)], long, 14 << 32 | 4),
     ];

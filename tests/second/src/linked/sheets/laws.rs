@@ -23,7 +23,7 @@ fn some_sheet(check: &mut Check) -> Draft {
     let mut sheet = Day::random(&mut check.rng, count).draft();
     sheet.scatter_bookings(&mut check.rng, 2);
     if check.rng.one_in(2) {
-        let number = check.rng.pick(&[2, 3, 4, 5, 6, 7, 8, 10, 11, 12, 14, 15]);
+        let number = check.rng.pick(&[2, 3, 4, 5, 6, 7, 8, 11, 12, 14, 15]);
         damage(&mut check.rng, &mut sheet, number);
     }
     sheet.frames.retain(|frame| !frame.is_empty());

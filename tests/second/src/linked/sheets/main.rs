@@ -5,8 +5,10 @@
 
 mod check;
 mod fixed_bookings;
+mod fixed_minutes;
 mod fixed_reading;
 mod fixed_writing;
+mod kinds;
 mod laws;
 mod library;
 mod reading;
@@ -33,6 +35,7 @@ fn main() -> ExitCode {
     fixed_reading::all(&mut check);
     fixed_writing::all(&mut check);
     fixed_bookings::all(&mut check);
+    fixed_minutes::all(&mut check);
     let mut rounds = 0;
     while rounds < ROUNDS || check.tally.total() < sheets {
         reading::round(&mut check);

@@ -88,7 +88,7 @@ fn sizes(check: &mut Check) {
                 1 => bytes.truncate(length - 1),
                 2 => bytes.push(0x20),
                 _ => {
-                    let number = check.rng.range(3, 12) as u32;
+                    let number = check.rng.pick(&DAMAGES);
                     damage(&mut check.rng, &mut sheet, number);
                     bytes = sheet.bytes();
                 }

@@ -5,6 +5,7 @@ use crate::fixed_reading::{HEAD, JOB};
 use second::codec::sheet::{Head, Job};
 use second::gen::day::bench_bit;
 use second::gen::draft::{self, booking_frame, head_frame, job_frame, set, Draft};
+use second::hex;
 
 pub fn all(check: &mut Check) {
     faults_of_one_head(check);
@@ -41,30 +42,34 @@ fn faults_of_one_head(check: &mut Check) {
     }
 }
 
-/// Every set of faults that one job can have together.
+/// Every set of faults that one job can have together, with 5 minutes and with 0: the faults are
+/// the same.
 fn faults_of_one_job(check: &mut Check) {
     check.class("reading: several faults of one job");
-    for faults in 0..512 {
+    for faults in 0..256 {
         let has = |fault: u32| faults >> fault & 1 == 1;
-        let minutes = if has(0) { 0 } else { 5 };
-        let allowed = if has(1) { bench_bit(2) } else { bench_bit(0) };
-        let mut job = job_frame(Job { minutes, allowed });
-        set(&mut job, draft::JOB_SPARE, u64::from(has(2)));
-        if has(3) {
-            job.pop();
-            set(&mut job, draft::LENGTH, 10);
-        }
-        set(&mut job, draft::KIND, if has(4) { 0 } else { 2 });
-        let before = if has(5) { 512 } else { 1 };
-        let mut sheet = Draft::new(HEAD, &vec![JOB; before]);
-        // In its place, before the head, or after the end.
-        let at = if has(6) { 0 } else { before + 1 + usize::from(has(7)) };
-        sheet.frames.insert(at, job);
-        if has(8) {
-            sheet.frames.truncate(at + 1);
-            sheet.frames[at].pop();
-        }
-        check.read(&sheet.bytes());
+        let with = |minutes| {
+            let allowed = if has(0) { bench_bit(2) } else { bench_bit(0) };
+            let mut job = job_frame(Job { minutes, allowed });
+            set(&mut job, draft::JOB_SPARE, u64::from(has(1)));
+            if has(2) {
+                job.pop();
+                set(&mut job, draft::LENGTH, 10);
+            }
+            set(&mut job, draft::KIND, if has(3) { 0 } else { 2 });
+            let before = if has(4) { 512 } else { 1 };
+            let mut sheet = Draft::new(HEAD, &vec![JOB; before]);
+            // In its place, before the head, or after the end.
+            let at = if has(5) { 0 } else { before + 1 + usize::from(has(6)) };
+            sheet.frames.insert(at, job);
+            if has(7) {
+                sheet.frames.truncate(at + 1);
+                sheet.frames[at].pop();
+            }
+            sheet.bytes()
+        };
+        let [five, zero] = [with(5), with(0)].map(|sheet| check.read(&sheet).word);
+        check.expect("0 minutes are no fault", five == zero, || hex::print(&with(0)));
     }
 }
 

@@ -1,33 +1,71 @@
-//! How many sheets of each class and of each fault number were met.
+//! How many sheets of each class, of each fault number and of each kind were met.
 
+use crate::kinds::{ALL_CHECK_ONLY, BEGUN_MINUTES, BOOKED, CHECK_ONLY, NO_MINUTES, WIDE_MINUTES};
 use second::codec::door::fault_number;
+use std::collections::BTreeMap;
 
-/// A run that meets some fault number less often has not tested it.
+/// A run that meets some fault number or kind less often has not tested it.
 const LEAST: u64 = 300;
 
 /// Fault numbers 1 to 15, and 0 for none.
 const NUMBERS: usize = 16;
 
+/// What reading gives, and what writing gives.
+const READ: [usize; 15] = [0, 1, 2, 3, 4, 5, 6, 7, 8, 9, 11, 12, 13, 14, 15];
+const WRITTEN: [usize; 9] = [0, 7, 8, 9, 10, 11, 12, 13, 14];
+
+/// The kinds of both, and those of writing alone.
+const KINDS: [&str; 3] = [BOOKED, CHECK_ONLY, ALL_CHECK_ONLY];
+const REFUSED: [&str; 3] = [NO_MINUTES, BEGUN_MINUTES, WIDE_MINUTES];
+
+/// The calls that read, or those that write.
+#[derive(Default)]
+struct Calls {
+    numbers: [u64; NUMBERS],
+    kinds: BTreeMap<&'static str, u64>,
+}
+
+impl Calls {
+    fn count(&mut self, word: u64, kinds: &[&'static str]) {
+        self.numbers[fault_number(word) as usize] += 1;
+        for kind in kinds {
+            *self.kinds.entry(kind).or_default() += 1;
+        }
+    }
+
+    fn times(&self, kind: &str) -> u64 {
+        self.kinds.get(kind).copied().unwrap_or(0)
+    }
+
+    fn total(&self) -> u64 {
+        self.numbers.iter().sum()
+    }
+
+    /// Those of these answers and kinds that were met too seldom.
+    fn too_seldom(&self, what: &str, numbers: &[usize], kinds: &[&str]) -> Vec<String> {
+        let numbers =
+            numbers.iter().map(|&number| (format!("fault {number}"), self.numbers[number]));
+        let kinds = kinds.iter().map(|&kind| (kind.to_string(), self.times(kind)));
+        let rows = numbers.chain(kinds).filter(|&(_, met)| met < LEAST);
+        rows.map(|(name, met)| format!("{what}, {name}: {met}")).collect()
+    }
+}
+
 #[derive(Default)]
 pub struct Tally {
     classes: Vec<(&'static str, u64)>,
-    read: [u64; NUMBERS],
-    written: [u64; NUMBERS],
-    /// Those of them that were taken and had a booking above 0.
-    read_booked: u64,
-    written_booked: u64,
+    read: Calls,
+    written: Calls,
 }
 
 impl Tally {
-    pub fn count_read(&mut self, class: &'static str, word: u64, booked: bool) {
-        self.read[fault_number(word) as usize] += 1;
-        self.read_booked += u64::from(fault_number(word) == 0 && booked);
+    pub fn count_read(&mut self, class: &'static str, word: u64, kinds: &[&'static str]) {
+        self.read.count(word, kinds);
         self.count(class);
     }
 
-    pub fn count_written(&mut self, class: &'static str, word: u64, booked: bool) {
-        self.written[fault_number(word) as usize] += 1;
-        self.written_booked += u64::from(fault_number(word) == 0 && booked);
+    pub fn count_written(&mut self, class: &'static str, word: u64, kinds: &[&'static str]) {
+        self.written.count(word, kinds);
         self.count(class);
     }
 
@@ -39,28 +77,22 @@ impl Tally {
     }
 
     pub fn total_read(&self) -> u64 {
-        self.read.iter().sum()
+        self.read.total()
     }
 
     pub fn total_written(&self) -> u64 {
-        self.written.iter().sum()
+        self.written.total()
     }
 
     pub fn total(&self) -> u64 {
         self.total_read() + self.total_written()
     }
 
-    /// The answers met too seldom: reading gives none or 1 to 15, writing none or 7 to 14.
+    /// What was met too seldom.
     pub fn too_seldom(&self) -> Vec<String> {
-        let reading = (0..=15).map(|number| ("reading, fault", number, self.read[number]));
-        let writing = [0].into_iter().chain(7..=14);
-        let writing = writing.map(|number| ("writing, fault", number, self.written[number]));
-        let booked = [
-            ("reading with bookings, fault", 0, self.read_booked),
-            ("writing with bookings, fault", 0, self.written_booked),
-        ];
-        let rows = reading.chain(writing).chain(booked).filter(|&(_, _, met)| met < LEAST);
-        rows.map(|(what, number, met)| format!("{what} {number}: {met}")).collect()
+        let reading = self.read.too_seldom("reading", &READ, &KINDS);
+        let writing = self.written.too_seldom("writing", &WRITTEN, &[KINDS, REFUSED].concat());
+        [reading, writing].concat()
     }
 
     pub fn print(&self) {
@@ -68,12 +100,14 @@ impl Tally {
         for (name, count) in &self.classes {
             println!("{name:<44} {count:>9}");
         }
-        let row = |name: &str, read, written| println!("{name:<26} {read:>8} {written:>8}");
-        println!("\n{:<26} {:>8} {:>8}", "fault", "reading", "writing");
-        row("none", self.read[0], self.written[0]);
-        row("none, with bookings", self.read_booked, self.written_booked);
+        let row = |name: &str, read, written| println!("{name:<28} {read:>8} {written:>8}");
+        println!("\n{:<28} {:>8} {:>8}", "fault", "reading", "writing");
+        row("none", self.read.numbers[0], self.written.numbers[0]);
         for number in 1..NUMBERS {
-            row(&number.to_string(), self.read[number], self.written[number]);
+            row(&number.to_string(), self.read.numbers[number], self.written.numbers[number]);
+        }
+        for kind in [KINDS, REFUSED].concat() {
+            row(kind, self.read.times(kind), self.written.times(kind));
         }
         println!();
     }

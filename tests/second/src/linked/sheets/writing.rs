@@ -9,6 +9,7 @@ use second::hex;
 pub fn round(check: &mut Check) {
     valid(check);
     torn_tables(check);
+    missing_minutes(check);
     long_bookings(check);
     job_counts(check);
     near_fault_12(check);
@@ -39,6 +40,25 @@ fn torn_tables(check: &mut Check) {
         let mut tables = small_day(check, 6).tables();
         tables.tear(&mut check.rng);
         check.write(&tables);
+    }
+}
+
+/// Tables of minutes that end early: the first job without minutes is refused. That is the first
+/// behind the whole entries, or the next if the begun entry has a byte above 0.
+fn missing_minutes(check: &mut Check) {
+    check.class("writing: minutes that end early");
+    for turn in 0..150 {
+        let count = 1 + check.rng.below(if turn == 0 { 512 } else { 8 });
+        let mut tables = Day::random(&mut check.rng, count).tables();
+        let end = check.rng.below(8 * count);
+        tables.minutes.truncate(end);
+        let is_begun = tables.minutes[end / 8 * 8..].iter().any(|&byte| byte > 0);
+        let missing = end / 8 + usize::from(is_begun);
+        let writing = check.write(&tables);
+        if missing < count {
+            let holds = writing.word == 10 << 32 | missing as u64;
+            check.expect("no minutes, no sheet", holds, || format!("{tables:?}"));
+        }
     }
 }
 
