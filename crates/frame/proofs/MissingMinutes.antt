@@ -100,8 +100,9 @@ module _ (h : Head) (booked ms bs : List ℕ) (shorter : length ms < length bs) 
 
     jobs-before : jobsVerdict (h .benches) 0 (take (length ms) js) ≡ Accepted
     jobs-before =
+        let all-given : take (length ms) ms ≡ ms = take-all (length ms) ms (omega arith) in
         ap (jobsVerdict (h .benches) 0)
-        (sym (jobsOf-take (length ms) ms bs) ∙ ap (λ (xs : List ℕ). jobsOf xs (take (length ms) bs)) (take-all (length ms) ms (omega arith)))
+        (sym (jobsOf-take (length ms) ms bs) ∙ ap (λ (xs : List ℕ). jobsOf xs (take (length ms) bs)) all-given)
         ∙ before
 
     jobs-refused : jobsVerdict (h .benches) 0 js ≡ Refused (Minutes (length ms))

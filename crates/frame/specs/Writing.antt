@@ -1,6 +1,7 @@
 -- What the writer gives or refuses (document 01, "The writer refuses by the same tests 7 to 12 in the same order";
--- request S-1).
---     jobsOf ms bs            the jobs of two tables: as many as the longer one has entries
+-- requests S-1 and S-3).
+--     jobsOf ms bs            the jobs of two tables: as many as the longer one has entries; a job for which the first
+--                             has none has no minutes (fields Tests `jobTable`), and 10 holds of it
 --     contentsOf h booked ms bs       what the writer is given: a head, bookings, and the jobs of two tables
 --     asRead c                the contents c as they are read back: one booked number for each of 64 benches
 --     andThen                 a second verdict where the first found nothing
