@@ -5,8 +5,9 @@
  * target T in minutes, the minutes for which benches are booked before the day begins, and the
  * jobs, each with its minutes and the benches that may take it. A program that has these as plain
  * numbers, such as the depot's screen program, writes a sheet with yinqocha_write(), has it planned
- * with yinqocha_plan(), and tells whether two plans of it come to the same with yinqocha_compare().
- * Link it with libyinqocha.a (x86-64).
+ * with yinqocha_plan(), or with the best target instead of its own with yinqocha_best(), and tells
+ * whether two plans of it come to the same with yinqocha_compare(). Link it with libyinqocha.a
+ * (x86-64).
  *
  * This header is the manual. It says first what holds of every call, then what the numbers mean,
  * then describes each function, with a program that uses it and what the program prints. Jobs and
@@ -18,8 +19,8 @@
  * The caller lends every buffer for the time of the call. The library keeps no pointer, takes
  * nothing from the heap, and has no state. Threads may call it at the same time as long as none
  * writes to a buffer that another is using. A buffer that a call writes must overlap no other
- * buffer of the call. A thread that plans needs about 115 KiB of stack, one that compares about
- * 72 KiB, one that only writes about 20 KiB.
+ * buffer of the call. A thread that plans or finds the best target needs about 115 KiB of stack,
+ * one that compares about 72 KiB, one that only writes about 20 KiB.
  *
  * A buffer is a pointer and a length in bytes, and the pointer may have any alignment. NULL with
  * length 0 is an empty buffer. The library reads no byte behind a buffer's length and writes none.
@@ -115,9 +116,9 @@ extern "C" {
 
 /* Faults of the other buffers. They share their number, since no function has both. */
 
-/* Writing and planning: a table or an output that the call fills is too short (0). Writing: the
- * sheet does not fit. Planning: there are fewer places than jobs, fewer loads than benches, or
- * fewer than three numbers for the answer. */
+/* Writing, planning, finding the best target: a table or an output that the call fills is too short
+ * (0). Writing: the sheet does not fit. The other two: there are fewer places than jobs, fewer
+ * loads than benches, or fewer numbers for the answer than three, or five for the best target. */
 #define YINQOCHA_NO_ROOM 13u
 /* Comparing: a list is no assignment, it does not give each job one bench that it allows (0 for the
  * first list, 1 for the second). */
@@ -361,6 +362,104 @@ uint64_t yinqocha_write(uint64_t benches, uint64_t p, uint64_t q, uint64_t targe
 #define YINQOCHA_ANSWER_ENTRIES 3u
 
 uint64_t yinqocha_plan(const uint8_t *sheet, size_t sheet_len,
+                       void *places, size_t places_len,
+                       void *loads, size_t loads_len,
+                       void *answer, size_t answer_len);
+
+/*
+ * FINDING THE BEST TARGET
+ *
+ * The search looks for a low target that the planner can vouch for. It plans the sheet with other
+ * targets than its own, which is not looked at. The first is the total of all jobs' minutes plus
+ * the largest booking, and gives a plan always. The others lie in the middle, rounded down, between
+ * the lowest target that gave a plan and the one above the highest that was refused, which is 0
+ * before any was; long and none both refuse a target. Where the two meet the search ends, after 31
+ * targets at the most. There is an answer for every sheet without a fault.
+ *
+ * What holds of the target that is returned:
+ *
+ *   - Planning the sheet with this target gives the plan that is returned.
+ *   - The target is 0, or planning with the target one below gives long or none.
+ *   - No assignment has all loads below the target: every assignment has a largest load of at
+ *     least the target.
+ *   - So the plan's largest load is within (5/3 + p/(3q)) times the best possible one:
+ *     3q * load <= (5q + p) * (the largest load of any assignment)
+ *
+ * Refusal is not monotone: a target that is lower by two or more may give a plan too, and one that
+ * is higher may be refused. The search knows only the targets that it ran.
+ *
+ * In:
+ *   sheet     the bytes of a sheet, with any target
+ *
+ * Out:
+ *   places    a table: entry j is the bench of job j
+ *   loads     a table: entry b is the load of bench b in minutes, its booking included
+ *   answer    a table of five entries: the target; the largest load, the moves made and the fullest
+ *             bench of the plan with this target; the number of targets run, 1 to 31
+ *   result    YINQOCHA_BEST
+ *
+ * Every table must have its room: places one entry for each job, loads one for each bench, answer
+ * five. Later bytes of a table keep their contents.
+ *
+ * Faults: those of planning in the same order, 1, then 2 to 9, 11, 14 and 15 frame by frame, then
+ * 12, then 13. After a fault all three tables keep their contents. YINQOCHA_MAX_JOBS places and
+ * YINQOCHA_MAX_BENCHES loads always have room.
+ *
+ * Example: the jobs and bookings of the example above. A target has to be given and is not used.
+ *
+ *     #include "yinqocha.h"
+ *
+ *     #include <inttypes.h>
+ *     #include <stdio.h>
+ *
+ *     int main(void)
+ *     {
+ *         const uint64_t both = YINQOCHA_BENCH(0) | YINQOCHA_BENCH(1);
+ *         const uint64_t booked[] = { 2, 3 };
+ *         const uint64_t minutes[] = { 2, 2, 2, 2, 0 };
+ *         const uint64_t allowed[] = { both, both, both, both, both };
+ *         uint8_t sheet[YINQOCHA_SHEET_BYTES(2, 5)];
+ *         uint64_t places[5], loads[2], answer[YINQOCHA_BEST_ENTRIES];
+ *
+ *         uint64_t word = yinqocha_write(2, 4, 7, 0, booked, sizeof booked,
+ *                                        minutes, sizeof minutes, allowed, sizeof allowed,
+ *                                        sheet, sizeof sheet);
+ *         if (YINQOCHA_FAULT(word) == YINQOCHA_OK)
+ *             word = yinqocha_best(sheet, sizeof sheet, places, sizeof places,
+ *                                  loads, sizeof loads, answer, sizeof answer);
+ *         if (YINQOCHA_FAULT(word) != YINQOCHA_OK) {
+ *             printf("fault %" PRIu32 ", place %" PRIu32 "\n",
+ *                    YINQOCHA_FAULT(word), YINQOCHA_VALUE(word));
+ *             return 1;
+ *         }
+ *         printf("target %" PRIu64 " after %" PRIu64 " runs\n", answer[0], answer[4]);
+ *         printf("largest load %" PRIu64 ", %" PRIu64 " moves, fullest bench %" PRIu64 "\n",
+ *                answer[1], answer[2], answer[3]);
+ *         for (unsigned j = 0; j < 5; j++)
+ *             printf("job %u on bench %" PRIu64 "\n", j, places[j]);
+ *         for (unsigned b = 0; b < 2; b++)
+ *             printf("bench %u has %" PRIu64 " minutes\n", b, loads[b]);
+ *         return 0;
+ *     }
+ *
+ * It prints:
+ *
+ *     target 4 after 5 runs
+ *     largest load 7, 2 moves, fullest bench 1
+ *     job 0 on bench 1
+ *     job 1 on bench 1
+ *     job 2 on bench 0
+ *     job 3 on bench 0
+ *     job 4 on bench 0
+ *     bench 0 has 6 minutes
+ *     bench 1 has 7 minutes
+ */
+#define YINQOCHA_BEST 1u
+
+/* The entries of an answer table of the best target. */
+#define YINQOCHA_BEST_ENTRIES 5u
+
+uint64_t yinqocha_best(const uint8_t *sheet, size_t sheet_len,
                        void *places, size_t places_len,
                        void *loads, size_t loads_len,
                        void *answer, size_t answer_len);

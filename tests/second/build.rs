@@ -9,8 +9,11 @@ const SHEETS: [(&str, &[&str]); 2] = [
     ("sheet_times", &["libyinqocha.a", "libinspect.a"]),
 ];
 /// The same for those that call them with the feature `library` only.
-const PLANS: [(&str, &[&str]); 2] =
-    [("plans", &["libyinqocha.a"]), ("plan_times", &["libyinqocha.a"])];
+const PLANS: [(&str, &[&str]); 3] = [
+    ("plans", &["libyinqocha.a"]),
+    ("plan_times", &["libyinqocha.a"]),
+    ("best_times", &["libyinqocha.a"]),
+];
 
 fn main() {
     println!("cargo:rerun-if-changed=build.rs");

@@ -1,6 +1,8 @@
 pub mod BoardLaws
 pub mod SheetDay
+pub mod BestLaws
 pub mod ExampleLaws
+pub mod BestExampleLaws
 pub mod GrowthLaws
 pub mod StepLaws
 pub mod TurnLaws

@@ -8,6 +8,8 @@ pub mod Start
 pub mod Run
 pub mod Properties
 pub mod Answer
+pub mod Best
 pub mod Examples
+pub mod BestExamples
 pub mod SoundDay
 pub mod States

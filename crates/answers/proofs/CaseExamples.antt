@@ -1,11 +1,16 @@
 -- Number and values of each answer.
 --     plan-case, long-case, none-case     three values, in the order in which they are told; 0 where there are fewer
 --     fault-case                          a fault has its own number, and its place
+--     best-case, best-fault-case          the same of the search for the best target: five values
+--     only-a-plan-is-one, only-long-is-long     what counts as a plan, and as long
 use mathlib.Core.Path.{_≡_, refl}
+use mathlib.Core.Bool.{true, false}
 use mathlib.Core.List.{[], _∷_}
 use Rattle.fields.specs.declared.fault.Fault.the-variants.{Truncated}
 use Rattle.answers.specs.declared.answer.Answer.the-variants.{Plan, Long, None, Fault as Faulty}
-use Rattle.answers.specs.Answers.{caseOf}
+use Rattle.answers.specs.declared.best.BestAnswer.the-variants.{Best, Fault as BestFaulty}
+use Rattle.answers.specs.Answers.{caseOf, isPlan, isLong}
+use Rattle.answers.specs.BestAnswers.{bestCaseOf}
 
 -- Largest load 7, two moves, bench 1 the fullest.
 pub plan-case : caseOf (Plan (record { largest = 7; moves = 2; fullest = 1 }))
@@ -20,3 +25,24 @@ none-case = refl
 
 pub fault-case : caseOf (Faulty (Truncated 9)) ≡ record { number = 2; values = 9 ∷ [] }
 fault-case = refl
+
+-- Target 5, then the plan of before, after eleven runs.
+pub best-case : bestCaseOf
+    (Best (record { target = 5; plan = record { largest = 7; moves = 2; fullest = 1 }; runs = 11 }))
+    ≡ record { number = 1; values = 5 ∷ 7 ∷ 2 ∷ 1 ∷ 11 ∷ [] }
+best-case = refl
+
+pub best-fault-case : bestCaseOf (BestFaulty (Truncated 9)) ≡ record { number = 2; values = 9 ∷ [] }
+best-fault-case = refl
+
+pub only-a-plan-is-one : (isPlan (Plan (record { largest = 7; moves = 2; fullest = 1 })) ≡ true)
+    × (isPlan (Long (record { job = 4 })) ≡ false)
+    × (isPlan (None (record { set = 5; moves = 3 })) ≡ false)
+    × (isPlan (Faulty (Truncated 9)) ≡ false)
+only-a-plan-is-one = (refl, refl, refl, refl)
+
+pub only-long-is-long : (isLong (Plan (record { largest = 7; moves = 2; fullest = 1 })) ≡ false)
+    × (isLong (Long (record { job = 4 })) ≡ true)
+    × (isLong (None (record { set = 5; moves = 3 })) ≡ false)
+    × (isLong (Faulty (Truncated 9)) ≡ false)
+only-long-is-long = (refl, refl, refl, refl)

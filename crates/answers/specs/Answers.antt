@@ -4,12 +4,13 @@
 --     Reply                   an answer, with the numbers at the front of both tables: a plan has them, no other does
 --     unwritten a             an answer that leaves both tables as they were
 --     planReply, longReply, noneReply, faultReply     each with the values that the paper gives it
+--     isPlan a, isLong a      the answer is a plan; it is long
 --     Case, caseOf            the number of an answer, and its values
 --     front xs before         a table after xs were put at its front
 --     Answered                what a call answers, and what it leaves in both tables
 use Prim.Native.Nat.{ℕ, _+_, _-_, _^_}
 use mathlib.Core.Path.{_≡_}
-use mathlib.Core.Bool.{Bool}
+use mathlib.Core.Bool.{Bool, true, false}
 use mathlib.Core.List.{List, [], _∷_, _++_}
 use lib.ListN.{length, getD, drop}
 use lib.Dec.{eqb}
@@ -54,6 +55,18 @@ noneReply benches moves = unwritten (None (record { set = setOf benches; moves =
 
 abbrev pub faultReply : Fault → Reply
 faultReply f = unwritten (Faulty f)
+
+abbrev pub isPlan : Answer → Bool
+isPlan (Plan p) = true
+isPlan (Long l) = false
+isPlan (None n) = false
+isPlan (Faulty f) = false
+
+abbrev pub isLong : Answer → Bool
+isLong (Plan p) = false
+isLong (Long l) = true
+isLong (None n) = false
+isLong (Faulty f) = false
 
 -- ── number and values of each case ──
 

@@ -15,3 +15,4 @@ pub mod NoneBlocks
 pub mod StateOfRun
 pub mod ShownLaws
 pub mod Theorems
+pub mod BestTheorems

@@ -25,7 +25,7 @@ use Rattle.algorithm.specs.Start.{State, component, crowded, crowdedBench}
 use Rattle.algorithm.specs.Run.{long, blocked, boardOf, placesOf, explored, congested, canMove, nextState, answerAt, run}
 use Rattle.algorithm.specs.States.{Reached, at-start, by-move, levelOf, RunFrom}
 use Rattle.algorithm.specs.Push.{pushJob, pushBench}
-use Rattle.answers.specs.Answers.{Reply}
+use Rattle.answers.specs.Answers.{Reply, isPlan, isLong}
 use Rattle.algorithm.specs.Answer.{shown, answerTo}
 use Rattle.algorithm.specs.SoundDay.{AcceptedDay, SoundDay, Uncrowded}
 use Rattle.algorithm.proofs.RockGraph.{uncrowded-test, crowded-bench}
@@ -35,7 +35,7 @@ use Rattle.algorithm.proofs.SpreadLaws.{spreadOf}
 use Rattle.algorithm.proofs.Budget.{TurnsEnd, run-long, run-crowded, run-turns, movesOf, moves-bound, next-good}
 use Rattle.algorithm.proofs.DayFacts.{good-sound, good-facts, good-spread, reached-good, reached-run, run-ends}
 use Rattle.demand.specs.Demand.{Assignment, keepsTarget, withinTarget, SomeOver, LongJob, EachFits}
-use Rattle.argument.specs.Answers.{SoundAnswer, plan-sound, long-sound, none-sound, isPlan, isLong, WholeClaim, RunEnd, long-job, crowded-component, no-move-left}
+use Rattle.argument.specs.Answers.{SoundAnswer, plan-sound, long-sound, none-sound, WholeClaim, RunEnd, long-job, crowded-component, no-move-left}
 use Rattle.algorithm.proofs.SheetDay.{sound-day, none-long}
 use Rattle.argument.proofs.LongFound.{long-found}
 use Rattle.argument.proofs.Rival.{blocking-overloads, long-overloads}

@@ -1,21 +1,18 @@
 -- What the reply to a day must be (document 01, demand 3 and "The three answers").
 --     SoundPlan, SoundNone    what holds of a plan, and of a none (of long: demand's SoundLong)
 --     SoundAnswer d r         r is one of the three answers, and right for the day d
---     isPlan r, isLong r      the answer is a plan; it is long
 --     WholeClaim d r          demand 3
 --     RunEnd d o              how a run comes to its outcome
 use Prim.Native.Nat.{ℕ, _≤_, _<_}
 use mathlib.Core.Path.{_≡_}
-use mathlib.Core.Bool.{Bool, true, false}
+use mathlib.Core.Bool.{true, false}
 use mathlib.Core.List.{List}
 use lib.ListN.{length, getD}
 use lib.Dec.{ltb}
 use Rattle.day.specs.Day.{Day, placeIn, loadOf, withinBound, longJob, moveBound}
 use Rattle.demand.specs.Demand.{Assignment, keepsTarget, SomeOver, Blocking, LongJob, EachFits, SoundLong}
-use Rattle.answers.specs.declared.answer.Answer.{Answer}
-use Rattle.answers.specs.declared.answer.Answer.the-variants.{Plan, Long, None, Fault}
 use Rattle.answers.specs.declared.answer.PlanAnswer.{PlanAnswer}
-use Rattle.answers.specs.Answers.{oneOf, Reply, planReply, longReply, noneReply}
+use Rattle.answers.specs.Answers.{oneOf, Reply, planReply, longReply, noneReply, isPlan, isLong}
 use Rattle.algorithm.specs.Start.{State, component, crowded}
 use Rattle.algorithm.specs.Run.{Outcome, long, blocked, canMove, answerAt, budget}
 use Rattle.algorithm.specs.States.{Reached}
@@ -54,18 +51,6 @@ pub data SoundAnswer (d : Day) : Reply → Type 0 where
   none-sound : {benches : List ℕ} {moves : ℕ} → SoundNone d benches moves → SoundAnswer d (noneReply benches moves)
 
 -- ── demand 3 ──
-
-abbrev pub isPlan : Answer → Bool
-isPlan (Plan p) = true
-isPlan (Long l) = false
-isPlan (None n) = false
-isPlan (Fault f) = false
-
-abbrev pub isLong : Answer → Bool
-isLong (Plan p) = false
-isLong (Long l) = true
-isLong (None n) = false
-isLong (Fault f) = false
 
 -- "The rival may try every assignment; it is not held to placements or to the run."
 pub record WholeClaim (d : Day) (r : Reply) : Type 0 where

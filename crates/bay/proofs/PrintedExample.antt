@@ -1,7 +1,6 @@
 -- Example 2 of document 01, from the bytes of its sheet to the two lines.
-use Prim.Native.Nat.{ℕ}
 use mathlib.Core.Path.{_≡_, refl}
-use mathlib.Core.List.{List, [], _∷_}
+use mathlib.Core.List.{[], _∷_}
 use Rattle.bits.specs.Bits.{bit, bits, isSet}
 use Rattle.sums.specs.Members.{members}
 use Rattle.sums.specs.Sum.{fullest}
@@ -18,17 +17,11 @@ use Rattle.algorithm.specs.Start.{crowdedBench, oneCycle, peel, start}
 use Rattle.algorithm.specs.Run.{ownMinutes, answerAt, turns, run}
 use Rattle.algorithm.specs.Answer.{answerFor}
 use Rattle.lines.specs.Lines.{digitsWithin, digits, spaced, line, jobLines, linesOf}
+use Rattle.printing.specs.ExampleSheet.{oneJob}
 use Rattle.bay.specs.Printed.{printedLines}
 
--- Its frames: head, job and end.
-abbrev sheet : List ℕ
-sheet =
-    17 ∷ 0 ∷ 7 ∷ 2 ∷ 16 ∷ 56 ∷ 0 ∷ 0 ∷ 0 ∷ 160
-    ∷ 18 ∷ 0 ∷ 11 ∷ 0 ∷ 0 ∷ 88 ∷ 0 ∷ 0 ∷ 0 ∷ 0 ∷ 0 ∷ 0 ∷ 0 ∷ 0
-    ∷ 19 ∷ 0 ∷ 0 ∷ []
-
 -- "For example 2 it prints exactly two lines", `plan 5 0 0` (largest load, moves, fullest bench) and `0 0`.
-pub example-2 : printedLines sheet ≡
+pub example-2 : printedLines oneJob ≡
     112 ∷ 108 ∷ 97 ∷ 110 ∷ 32 ∷ 53 ∷ 32 ∷ 48 ∷ 32 ∷ 48 ∷ 10 ∷ 48 ∷ 32 ∷ 48 ∷ 10 ∷ []
 unfolding printedLines linesOf jobLines line spaced digits digitsWithin
     fullest answerFor readSheet readFrom frameFaults after hyperEdgeVerdict bit bits isSet members grow closure reach

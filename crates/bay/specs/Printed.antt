@@ -2,16 +2,13 @@
 --     printedLines s          the text of the answer to the sheet s, with tables for 512 jobs and 64 benches
 --     Prints s out out′ r     `out′` is the buffer `out` after the whole text for s, of r bytes, was put at its front
 use Prim.Native.Nat.{ℕ}
-use mathlib.Core.Path.{_≡_}
 use mathlib.Core.List.{List}
-use lib.ListN.{length, take, drop}
 use Rattle.algorithm.specs.Answer.{answerFor}
+use Rattle.lines.specs.Buffer.{Whole}
 use Rattle.lines.specs.Lines.{linesOf}
 
 unfoldable pub printedLines : List ℕ → List ℕ
 printedLines s = linesOf (answerFor s 512 64 .answer) (answerFor s 512 64 .places)
 
-pub record Prints (s out out′ : List ℕ) (r : ℕ) : Type 0 where
-  pub end : r ≡ length (printedLines s)
-  pub bytes : take r out′ ≡ printedLines s
-  pub behind : drop r out′ ≡ drop r out
+abbrev pub Prints : List ℕ → List ℕ → List ℕ → ℕ → Type 0
+Prints s out out′ r = Whole (printedLines s) out out′ r

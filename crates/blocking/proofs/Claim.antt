@@ -1,5 +1,7 @@
 -- Demand 3, proved of the planner's reply: specs/Claim has the claim, algorithm's specs/Answer the reply.
+--     short-tested, room-tested     the test for fault 13, by the lengths of the tables
 --     answer-given        an accepted sheet and tables with room: the reply is that to the sheet's day
+--     plan-tables         a plan, once it stands at the front of both tables
 --     named-set           the set of a none, as a number
 --     planner-claim       the claim holds of the reply to any bytes and any two tables, and of the tables after it
 --     answered-claim      so it holds of whatever call is answered so: `Answered` is what the planner's contract ensures
@@ -33,12 +35,12 @@ use Rattle.answers.specs.declared.answer.PlanAnswer.{PlanAnswer}
 use Rattle.answers.specs.declared.answer.LongAnswer.{LongAnswer}
 use Rattle.answers.specs.declared.answer.NoneAnswer.{NoneAnswer}
 use Rattle.answers.specs.declared.answer.Filled.{Filled}
-use Rattle.answers.specs.Answers.{oneOf, setOf, Reply, faultReply, front, Answered}
+use Rattle.answers.specs.Answers.{oneOf, setOf, Reply, faultReply, isPlan, isLong, front, Answered}
 use Rattle.algorithm.specs.Answer.{answerTo, shortTables, answerFor}
 use Rattle.algorithm.specs.SoundDay.{AcceptedDay}
 use Rattle.algorithm.proofs.SheetDay.{accepted-day}
 use Rattle.argument.specs.Answers.{SoundPlan, SoundNone, SoundAnswer, plan-sound, long-sound, none-sound}
-use Rattle.argument.specs.Answers.{isPlan, isLong, WholeClaim}
+use Rattle.argument.specs.Answers.{WholeClaim}
 use Rattle.argument.proofs.ShownLaws.{blocking-cong}
 use Rattle.answers.proofs.SetLaws.{setOf-lt, isSet-setOf}
 use Rattle.argument.proofs.Theorems.{whole-claim}
@@ -82,23 +84,26 @@ answer-refused : (s : List ℕ) (np nl : ℕ) (f : Fault) → readSheet s ≡ re
 unfolding answerFor
 answer-refused s np nl f e = rw (e, answerFor)
 
+module _ (c : Contents) (np nl : ℕ) where
+  pub short-tested : (np < length (c .jobs)) ⊎ (nl < c .head .benches) → shortTables c np nl ≡ true
+  short-tested short = elim short [
+    | inl l ↦ or-left (ltb nl (c .head .benches)) (lt-ltb np (length (c .jobs)) l)
+    | inr l ↦ or-right (ltb np (length (c .jobs))) (lt-ltb nl (c .head .benches) l)
+  ]
+
+  pub room-tested : length (c .jobs) ≤ np → c .head .benches ≤ nl → shortTables c np nl ≡ false
+  room-tested lp ll = or-false (le-ltb np (length (c .jobs)) lp) (le-ltb nl (c .head .benches) ll)
+
 answer-short : (s : List ℕ) (np nl : ℕ) (c : Contents) → readSheet s ≡ accepted c → (np < length (c .jobs)) ⊎ (nl < c .head .benches)
     → answerFor s np nl ≡ faultReply (Table 0)
 unfolding answerFor
-answer-short s np nl c e short =
-    let tested : shortTables c np nl ≡ true = elim short [
-      | inl l ↦ or-left (ltb nl (c .head .benches)) (lt-ltb np (length (c .jobs)) l)
-      | inr l ↦ or-right (ltb np (length (c .jobs))) (lt-ltb nl (c .head .benches) l)
-    ] in
-    rw (e, tested, answerFor)
+answer-short s np nl c e short = rw (e, short-tested c np nl short, answerFor)
 
 pub answer-given : (s : List ℕ) (np nl : ℕ) (c : Contents) → readSheet s ≡ accepted c → length (c .jobs) ≤ np
     → c .head .benches ≤ nl
     → answerFor s np nl ≡ answerTo (dayOf c)
 unfolding answerFor
-answer-given s np nl c e lp ll =
-    let tested : shortTables c np nl ≡ false = or-false (le-ltb np (length (c .jobs)) lp) (le-ltb nl (c .head .benches) ll) in
-    rw (e, tested, answerFor)
+answer-given s np nl c e lp ll = rw (e, room-tested c np nl lp ll, answerFor)
 
 -- ── the three answers, with the tables after them ──
 
@@ -109,7 +114,7 @@ module _ (d : Day) where
   three (none-sound {benches = benches} {moves = moves} sound) = a-none (record { set = setOf benches; moves = moves })
 
   -- An entry of a list does not change by what stands behind the list.
-  plan-tables : (places loads : List ℕ) → d .jobs ≤ length places → d .benches ≤ length loads → (p : PlanAnswer) (ps ls : List ℕ)
+  pub plan-tables : (places loads : List ℕ) → d .jobs ≤ length places → d .benches ≤ length loads → (p : PlanAnswer) (ps ls : List ℕ)
       → SoundPlan d p ps ls → PlanInTables d p places loads (front ps places) (front ls loads)
   plan-tables places loads lp ll p ps ls sound =
       record {

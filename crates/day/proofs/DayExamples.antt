@@ -10,13 +10,16 @@
 --     booked-light, booked-not-long, booked-moves     heavy, long and the bound of moves do not know bookings
 --     bound-within, bound-above, load-at-bound    the demand's bound
 --     bound-of-moves, checks-counted      benches × light jobs that have a choice, those of 0 minutes too
+--     start-of-search, start-of-nothing   the total of all minutes plus the largest booking
+--     another-target                      another target makes a job long, and leaves the loads
 use Prim.Native.Nat.{ℕ, _-_, _/_}
 use mathlib.Core.Path.{_≡_, refl}
 use mathlib.Core.Bool.{true, false}
 use mathlib.Core.List.{[], _∷_}
 use Rattle.bits.specs.Bits.{isSet}
 use Rattle.sums.specs.Sum.{fullest}
-use Rattle.day.specs.Day.{Day, heavy, loadOf, fullestOf, withinBound, tooLong, moveBound}
+use Rattle.day.specs.Day.{Day, heavy, loadOf, largestLoad, fullestOf, withinBound, tooLong, moveBound}
+use Rattle.day.specs.Day.{withTarget, startTarget}
 use Rattle.day.specs.SmallSheets.{dayWith, bookedDay, bay, first, second, both, three, last}
 
 -- ── jobs ──
@@ -144,3 +147,18 @@ pub booked-moves :
     moveBound (bookedDay (bay 3 4 7 7) (4 ∷ 5 ∷ 2 ∷ []) (three 4 ∷ both 5 ∷ first 2 ∷ both 2 ∷ [])) ≡ 6
 unfolding isSet
 booked-moves = refl
+
+-- ── other targets ──
+
+-- Request S-4: "the total of all minutes plus the largest booking": 5 + 6 + 0 and 4. The sum of the bookings is 7.
+pub start-of-search : startTarget (bookedDay (bay 2 4 7 9) (3 ∷ 4 ∷ []) (both 5 ∷ first 6 ∷ second 0 ∷ [])) ≡ 15
+start-of-search = refl
+
+-- Without jobs it is the largest booking, and 0 without bookings.
+pub start-of-nothing : (startTarget (bookedDay (bay 2 4 7 9) (8 ∷ 2 ∷ []) []) ≡ 8)
+    × (startTarget (dayWith (bay 2 4 7 9) []) ≡ 0)
+start-of-nothing = (refl, refl)
+
+pub another-target : (tooLong (withTarget (dayWith (bay 2 4 7 9) (first 6 ∷ [])) 5) 0 ≡ true)
+    × (largestLoad (withTarget (dayWith (bay 2 4 7 9) (first 6 ∷ [])) 5) (λ j. 0) ≡ 6)
+another-target = (refl, refl)

@@ -11,11 +11,15 @@
 --     placeIn places      the bench that a table of places has for each job
 --     loadOf d a v        the load of bench v under the assignment a
 --     loadsOf, largestOf  the loads of a table of places, bench by bench; the greatest of them
+--     largestLoad d a     the greatest load under the assignment a
 --     fullestOf d places  the lowest bench that has the greatest load
 --     scale, bound        3q and (5q + p) × T
 --     withinBound d n     the load n is within the demand's bound
 --     tooLong, longJob    a job longer than T; the lowest such job, and the number of jobs where there is none
 --     moveBound d         benches × light jobs that have a choice
+--     withTarget d t      the day with the target t in place of its own
+--     totalMinutes, largestBooking    the minutes of all jobs together; the longest booking of a bench
+--     startTarget d       their sum, where the search for the best target starts
 use Prim.Native.Nat.{ℕ, _+_, _*_, _<_}
 use mathlib.Core.Path.{_≡_}
 use mathlib.Core.Bool.{Bool, true, not, _&&_}
@@ -94,8 +98,11 @@ abbrev pub loadsOf : Day → List ℕ → List ℕ
 loadsOf d places = table (d .benches) (loadOf d (placeIn places))
 
 -- "the largest load is the greatest of them"
+abbrev pub largestLoad : Day → (ℕ → ℕ) → ℕ
+largestLoad d a = largest (d .benches) (loadOf d a)
+
 abbrev pub largestOf : Day → List ℕ → ℕ
-largestOf d places = largest (d .benches) (loadOf d (placeIn places))
+largestOf d places = largestLoad d (placeIn places)
 
 -- Request S-2: "the fullest bench, the lowest on a tie"
 abbrev pub fullestOf : Day → List ℕ → ℕ
@@ -126,3 +133,29 @@ longJob d = least (d .jobs) (tooLong d)
 -- "Moves ≤ benches × light jobs that have a choice."
 abbrev pub moveBound : Day → ℕ
 moveBound d = d .benches * count (d .jobs) (pebble d)
+
+-- ── other targets ──
+
+-- Request S-4: "Ignoring the sheet's own target, return a target with its plan"
+abbrev pub withTarget : Day → ℕ → Day
+withTarget d t =
+    record {
+      benches = d .benches;
+      p = d .p;
+      q = d .q;
+      target = t;
+      booked = d .booked;
+      jobs = d .jobs;
+      minutes = d .minutes;
+      allows = d .allows;
+    }
+
+-- "The search starts at the total of all minutes plus the largest booking"; booked minutes are not among the total.
+abbrev pub totalMinutes : Day → ℕ
+totalMinutes d = sum (d .jobs) (d .minutes)
+
+abbrev pub largestBooking : Day → ℕ
+largestBooking d = largest (d .benches) (d .booked)
+
+abbrev pub startTarget : Day → ℕ
+startTarget d = totalMinutes d + largestBooking d

@@ -2,8 +2,8 @@
 --     replyOn c short             the reply to the contents c: fault 13 where a table is short
 --     door-refused, door-read     the reply by whether the sheet is read
 --     answer-refused, answer-read     the same of the planner's reply
---     Faulted, Roomy              a fault, with a place of at most 65536; or the sheet is read, every table has room,
---                                 and the reply is right
+--     Faulted, Roomy              a fault, with a place of at most 65536; or the sheet is read, every table has room
+--                                 (RoomLaws), and the reply is right
 --     fault-or-room               every reply is one of these
 --     places-few, loads-few       the reply has at most 512 places and 64 loads, and no more than there is room for
 use Prim.Native.Nat.{ℕ, _≤_}
@@ -11,21 +11,15 @@ use native.Mathlib.Nat.{le-trans}
 use native.Mathlib.Omega.{arith}
 use mathlib.Core.Path.{_≡_, sym, ap, subst, _∙_}
 use mathlib.Core.Logic.{_⊎_, inl, inr}
-use mathlib.Core.Bool.{Bool, false, cond, _||_}
+use mathlib.Core.Bool.{Bool, cond, _||_}
 use mathlib.Core.List.{List}
 use lib.ListN.{length}
 use lib.Dec.{ltb}
-use borrow.Author.Tests.{ltb-false}
-use Rattle.bools.proofs.BoolLaws.{split, or-false-left, or-false-right}
 use Rattle.fields.specs.declared.fault.Fault.{Fault}
 use Rattle.fields.specs.declared.fault.Fault.the-variants.{Table}
 use Rattle.fields.specs.Contents.{Contents}
 use Rattle.fields.specs.Numbers.{placeOf}
 use Rattle.frame.specs.Reading.{accepted, refused, readSheet}
-use Rattle.frame.specs.Sound.{SoundSheet}
-use Rattle.frame.proofs.AcceptedLaws.{accepted-sound}
-use Rattle.frame.proofs.Places.{read-place}
-use Rattle.frame.proofs.Stored.{read-cases}
 use Rattle.day.specs.Day.{Day, dayOf}
 use Rattle.answers.specs.Answers.{Reply, faultReply}
 use Rattle.algorithm.specs.Answer.{answerTo, shortTables, answerFor}
@@ -33,6 +27,7 @@ use Rattle.algorithm.proofs.SheetDay.{accepted-day}
 use Rattle.argument.specs.Answers.{SoundAnswer, plan-sound, long-sound, none-sound}
 use Rattle.argument.proofs.Theorems.{whole-claim}
 use Rattle.door.specs.PlanDoor.{doorAnswer}
+use Rattle.door.proofs.RoomLaws.{ReadRoom, RoomCase, sheet-refused, tables-short, room-there, room-case}
 
 abbrev pub replyOn : Contents → Bool → Reply
 replyOn c short = cond short (faultReply (Table 0)) (answerTo (dayOf c))
@@ -54,12 +49,8 @@ pub record Faulted (s : List ℕ) (np nl na : ℕ) : Type 0 where
   pub replies : doorAnswer s np nl na ≡ faultReply fault
 
 pub record Roomy (s : List ℕ) (np nl na : ℕ) : Type 0 where
-  pub contents : Contents
-  pub sound-sheet : SoundSheet contents
-  pub jobs-fit : length (contents .jobs) ≤ np
-  pub benches-fit : contents .head .benches ≤ nl
-  pub numbers-fit : 3 ≤ na
-  pub sound-answer : SoundAnswer (dayOf contents) (doorAnswer s np nl na)
+  pub room : ReadRoom 3 s np nl na
+  pub sound-answer : SoundAnswer (dayOf (room .contents)) (doorAnswer s np nl na)
 
 module _ (s : List ℕ) (np nl na : ℕ) where
   pub door-refused : (f : Fault) → readSheet s ≡ refused f → doorAnswer s np nl na ≡ faultReply f
@@ -71,28 +62,18 @@ module _ (s : List ℕ) (np nl na : ℕ) where
   unfolding doorAnswer
   door-read c e = rw (e, doorAnswer)
 
+  by-room : RoomCase 3 s np nl na → Faulted s np nl na ⊎ Roomy s np nl na
+  by-room (sheet-refused f e near) = inl (record { fault = f; near = near; replies = door-refused f e })
+  by-room (tables-short c e b) =
+      inl (record { fault = Table 0; near = omega arith; replies = door-read c e ∙ ap (replyOn c) b })
+  by-room (room-there r) =
+      let c = r .contents in
+      let given = whole-claim (dayOf c) (accepted-day c (r .sound-sheet)) .sound in
+      let replies = door-read c (r .sheet-read) ∙ ap (replyOn c) (r .tested) in
+      inr (record { room = r; sound-answer = subst (SoundAnswer (dayOf c)) (sym replies) given })
+
   pub fault-or-room : Faulted s np nl na ⊎ Roomy s np nl na
-  fault-or-room = elim (read-cases (readSheet s)) [
-    | inl (f, e) ↦ inl (record { fault = f; near = read-place s f e; replies = door-refused f e })
-    | inr (c, e) ↦
-        elim (split (shortTables c np nl || ltb na 3)) [
-          | inl b ↦ inl (record { fault = Table 0; near = omega arith; replies = door-read c e ∙ ap (replyOn c) b })
-          | inr b ↦
-              let tables : shortTables c np nl ≡ false = or-false-left (shortTables c np nl) (ltb na 3) b in
-              let few-places : Bool = ltb np (length (c .jobs)) in
-              let few-loads : Bool = ltb nl (c .head .benches) in
-              let sound = accepted-sound s c e in
-              let given = whole-claim (dayOf c) (accepted-day c sound) .sound in
-              inr (record {
-                contents = c;
-                sound-sheet = sound;
-                jobs-fit = ltb-false np (length (c .jobs)) (or-false-left few-places few-loads tables);
-                benches-fit = ltb-false nl (c .head .benches) (or-false-right few-places few-loads tables);
-                numbers-fit = ltb-false na 3 (or-false-right (shortTables c np nl) (ltb na 3) b);
-                sound-answer = subst (SoundAnswer (dayOf c)) (sym (door-read c e ∙ ap (replyOn c) b)) given;
-              })
-        ]
-  ]
+  fault-or-room = by-room (room-case 3 s np nl na)
 
 -- ── how many places and loads a reply has ──
 
@@ -107,14 +88,14 @@ module _ (s : List ℕ) (np nl na : ℕ) where
   places-few = elim (fault-or-room s np nl na) [
     | inl f ↦ rw (f .replies) (omega arith, omega arith)
     | inr r ↦
-        let few = few-entries (dayOf (r .contents)) (r .sound-answer) .0 in
-        (le-trans few (r .jobs-fit), le-trans few (r .sound-sheet .at-most-512-jobs))
+        let few = few-entries (dayOf (r .room .contents)) (r .sound-answer) .0 in
+        (le-trans few (r .room .jobs-fit), le-trans few (r .room .sound-sheet .at-most-512-jobs))
   ]
 
   pub loads-few : (length (doorAnswer s np nl na .loads) ≤ nl) × (length (doorAnswer s np nl na .loads) ≤ 64)
   loads-few = elim (fault-or-room s np nl na) [
     | inl f ↦ rw (f .replies) (omega arith, omega arith)
     | inr r ↦
-        let few = few-entries (dayOf (r .contents)) (r .sound-answer) .1 in
-        (le-trans few (r .benches-fit), le-trans few (r .sound-sheet .head .at-most-64-benches))
+        let few = few-entries (dayOf (r .room .contents)) (r .sound-answer) .1 in
+        (le-trans few (r .room .benches-fit), le-trans few (r .room .sound-sheet .head .at-most-64-benches))
   ]

@@ -1,5 +1,6 @@
 -- Demand 3 over the bytes of the door (specs/DoorClaim), from the equation that a call ensures (specs/PlanDoor).
 --     one-case              every call is one of three, and no call is two of them
+--     plan-bytes            a right plan, put to the tables, is what a caller reads there
 --     room-answer           an accepted sheet and tables with room: the reply is that to the sheet's day
 --     door-claim            the claim holds of what a call returns and leaves in the three tables
 --     with-claim            the equation, and the claim with it
@@ -8,31 +9,27 @@ use Prim.Native.Nat.{ℕ, _+_, _*_, _≤_, _<_}
 use native.Mathlib.Omega.{arith}
 use mathlib.Core.Path.{_≡_, refl, sym, ap, subst, _∙_}
 use mathlib.Core.Logic.{_⊎_, inl, inr}
-use mathlib.Core.Bool.{Bool, true, false, _||_}
+use mathlib.Core.Bool.{true, false}
 use mathlib.Core.List.{List, [], _∷_}
 use lib.ListN.{length, getD, drop}
-use lib.Dec.{ltb}
-use borrow.Author.Tests.{lt-ltb, le-ltb}
-use Rattle.bools.proofs.BoolLaws.{clash, or-left, or-right, or-false}
-use Rattle.bools.proofs.OrderLaws.{lt-or-le}
+use Rattle.bools.proofs.BoolLaws.{clash}
 use Rattle.sums.proofs.SumLaws.{sum-cong}
 use Rattle.fields.specs.declared.fault.Fault.{Fault}
 use Rattle.fields.specs.declared.fault.Fault.the-variants.{Table}
 use Rattle.fields.specs.Contents.{Contents}
 use Rattle.frame.specs.Reading.{accepted, readSheet}
 use Rattle.frame.proofs.AcceptedLaws.{accepted-sound}
-use Rattle.frame.proofs.Stored.{read-cases, not-both-read, same-read}
 use Rattle.day.specs.Day.{Day, dayOf, placeIn, loadOf}
 use Rattle.demand.specs.Demand.{SoundLong}
 use Rattle.answers.specs.declared.answer.Answer.{Answer}
 use Rattle.answers.specs.declared.answer.Answer.the-variants.{Plan, Long, None, Fault as Faulty}
 use Rattle.answers.specs.declared.answer.PlanAnswer.{PlanAnswer}
-use Rattle.answers.specs.Answers.{setOf, Reply, faultReply, planReply}
-use Rattle.algorithm.specs.Answer.{answerTo, shortTables}
+use Rattle.answers.specs.Answers.{setOf, Reply, faultReply, planReply, isPlan, isLong}
+use Rattle.algorithm.specs.Answer.{answerTo}
 use Rattle.algorithm.specs.SoundDay.{AcceptedDay}
 use Rattle.algorithm.proofs.SheetDay.{accepted-day}
 use Rattle.argument.specs.Answers.{SoundPlan, SoundAnswer, plan-sound, long-sound, none-sound}
-use Rattle.argument.specs.Answers.{isPlan, isLong, WholeClaim}
+use Rattle.argument.specs.Answers.{WholeClaim}
 use Rattle.argument.proofs.Theorems.{whole-claim}
 use Rattle.blocking.specs.Claim.{SheetRefused, OneCase, Untouched, NamedSet}
 use Rattle.blocking.proofs.Claim.{named-set}
@@ -45,47 +42,30 @@ use Rattle.door.specs.DoorClaim.{NoRoomFor, TablesShort, RoomFor, CanAns
 use Rattle.door.specs.PlanDoor.{doorAnswer, planWord, answerNumbers, Called}
 use Rattle.door.proofs.PlanLaws.{ReplyFits, reply-fits}
 use Rattle.door.proofs.AnswerLaws.{replyOn, door-refused, door-read}
+use Rattle.door.proofs.RoomLaws.{Enough, short-or-enough, not-both, short-tested, enough-tested, one-case-of}
 
 -- ── the three kinds of calls ──
 
 module _ (s places loads numbers : List ℕ) where
+  enough : {c : Contents} → RoomFor s places loads numbers c → Enough 3 c places loads numbers
+  enough t = record { places-enough = omega arith; loads-enough = omega arith; numbers-enough = omega arith }
+
   room-or-not : (c : Contents) → readSheet s ≡ accepted c
-      → TablesShort s places loads numbers ⊎ CanAnswer s places loads numbers
-  room-or-not c e = elim (lt-or-le (length places) (8 * length (c .jobs))) [
-    | inl p ↦ inl (c, e, inl (omega arith))
-    | inr p ↦ elim (lt-or-le (length loads) (8 * c .head .benches)) [
-      | inl l ↦ inl (c, e, inr (inl (omega arith)))
-      | inr l ↦ elim (lt-or-le (length numbers) 24) [
-        | inl n ↦ inl (c, e, inr (inr (omega arith)))
-        | inr n ↦ inr (
-          c,
-          record {
-            sheet-accepted = e;
-            place-to-a-job = omega arith;
-            load-to-a-bench = omega arith;
-            three-numbers = omega arith;
-          },
-        )
-      ]
-    ]
+      → NoRoomFor c places loads numbers ⊎ RoomFor s places loads numbers c
+  room-or-not c e = elim (short-or-enough 3 c places loads numbers) [
+    | inl short ↦ inl short
+    | inr t ↦ inr (record {
+      sheet-accepted = e;
+      place-to-a-job = omega arith;
+      load-to-a-bench = omega arith;
+      three-numbers = omega arith;
+    })
   ]
 
-  short-or-not : TablesShort s places loads numbers → CanAnswer s places loads numbers → ⊥
-  short-or-not (c, e, short) (k, t) =
-      let same = same-read e (t .sheet-accepted) in
-      elim short [
-        | inl l ↦ omega (arith, t .place-to-a-job, ap (λ (x : Contents). length (x .jobs)) same)
-        | inr (inl l) ↦ omega (arith, t .load-to-a-bench, ap (λ (x : Contents). x .head .benches) same)
-        | inr (inr l) ↦ omega (arith, t .three-numbers)
-      ]
-
   pub one-case : OneCase (SheetRefused s) (TablesShort s places loads numbers) (CanAnswer s places loads numbers)
-  one-case = record {
-    some = elim (read-cases (readSheet s)) [ inl faulty ↦ inl faulty | inr (c, e) ↦ inr (room-or-not c e) ];
-    not-first-second = λ (f, p) (c, q, short). not-both-read p q;
-    not-first-third = λ (f, p) (c, t). not-both-read p (t .sheet-accepted);
-    not-second-third = short-or-not;
-  }
+  one-case =
+      one-case-of s (λ c. NoRoomFor c places loads numbers) (RoomFor s places loads numbers)
+      room-or-not (λ c t. t .sheet-accepted) (λ c short t. not-both 3 c places loads numbers short (enough t))
 
 -- ── the three answers, with the tables after them ──
 
@@ -93,18 +73,13 @@ module _ (s places loads numbers : List ℕ) where
 abbrev planNumbers : PlanAnswer → List ℕ
 planNumbers p = answerNumbers (Plan p)
 
-module _ (d : Day) (places loads numbers : List ℕ) where
-  three : {a : Reply} → SoundAnswer d a
-      → (planWord (a .answer) ≡ 1) ⊎ ((planWord (a .answer) ≡ 2) ⊎ (planWord (a .answer) ≡ 3))
-  three (plan-sound p) = inl refl
-  three (long-sound l) = inr (inl refl)
-  three (none-sound n) = inr (inr refl)
-
-  plan-bytes : 8 * d .jobs ≤ length places → 8 * d .benches ≤ length loads → (p : PlanAnswer) (ps ls : List ℕ)
-      → ReplyFits (planReply p ps ls) → SoundPlan d p ps ls
-      → PlanInBytes d places loads
-      (putNumbers ps places) (putNumbers ls loads) (putNumbers (planNumbers p) numbers)
-  plan-bytes lp ll p ps ls fits right =
+module _ (d : Day) (places loads : List ℕ) where
+  -- Whatever else stands in the answer's table.
+  pub plan-bytes : 8 * d .jobs ≤ length places → 8 * d .benches ≤ length loads → (p : PlanAnswer) (ps ls : List ℕ)
+      → ReplyFits (planReply p ps ls) → SoundPlan d p ps ls → (numbers′ : List ℕ)
+      → entryOf numbers′ 0 ≡ p .largest → entryOf numbers′ 1 ≡ p .moves → entryOf numbers′ 2 ≡ p .fullest
+      → PlanInBytes d places loads (putNumbers ps places) (putNumbers ls loads) numbers′
+  plan-bytes lp ll p ps ls fits right numbers′ first second third =
       record {
         assignment = record { on-allowed = λ j l. rw (place j l) (right .assignment .on-allowed j l) };
         its-loads = λ v l. load v l ∙ right .its-loads v l ∙ sym (same-load v);
@@ -129,17 +104,15 @@ module _ (d : Day) (places loads numbers : List ℕ) where
       load : (v : ℕ) → v < d .benches → entryOf (putNumbers ls loads) v ≡ getD ls v 0
       load v l = entry-put ls loads v (fits .loads-fit) (omega (arith, right .one-to-a-bench))
 
-      first : entryOf (putNumbers (planNumbers p) numbers) 0 ≡ p .largest
-      first = entry-put (planNumbers p) numbers 0 (fits .numbers-fit) (omega arith)
-
-      second : entryOf (putNumbers (planNumbers p) numbers) 1 ≡ p .moves
-      second = entry-put (planNumbers p) numbers 1 (fits .numbers-fit) (omega arith)
-
-      third : entryOf (putNumbers (planNumbers p) numbers) 2 ≡ p .fullest
-      third = entry-put (planNumbers p) numbers 2 (fits .numbers-fit) (omega arith)
-
       same-load : (v : ℕ) → loadOf d (entryOf (putNumbers ps places)) v ≡ loadOf d (placeIn ps) v
       same-load v = ap (λ (k : ℕ). d .booked v + k) (sum-cong (d .jobs) _ _ (λ j l. rw (place j l)))
+
+module _ (d : Day) (places loads numbers : List ℕ) where
+  three : {a : Reply} → SoundAnswer d a
+      → (planWord (a .answer) ≡ 1) ⊎ ((planWord (a .answer) ≡ 2) ⊎ (planWord (a .answer) ≡ 3))
+  three (plan-sound p) = inl refl
+  three (long-sound l) = inr (inl refl)
+  three (none-sound n) = inr (inr refl)
 
   abbrev placesThen : Reply → List ℕ
   placesThen a = putNumbers (a .places) places
@@ -152,7 +125,11 @@ module _ (d : Day) (places loads numbers : List ℕ) where
 
   plan-after : 8 * d .jobs ≤ length places → 8 * d .benches ≤ length loads → {a : Reply} → ReplyFits a → SoundAnswer d a
       → planWord (a .answer) ≡ 1 → PlanInBytes d places loads (placesThen a) (loadsThen a) (numbersThen a)
-  plan-after lp ll fits (plan-sound {p = p} {places = ps} {loads = ls} right) e = plan-bytes lp ll p ps ls fits right
+  plan-after lp ll fits (plan-sound {p = p} {places = ps} {loads = ls} right) e =
+      plan-bytes d places loads lp ll p ps ls fits right (putNumbers (planNumbers p) numbers)
+      (entry-put (planNumbers p) numbers 0 (fits .numbers-fit) (omega arith))
+      (entry-put (planNumbers p) numbers 1 (fits .numbers-fit) (omega arith))
+      (entry-put (planNumbers p) numbers 2 (fits .numbers-fit) (omega arith))
   plan-after lp ll fits (long-sound right) e = absurd (omega arith)
   plan-after lp ll fits (none-sound right) e = absurd (omega arith)
 
@@ -250,16 +227,8 @@ module _ (s places loads numbers : List ℕ) where
   reply-short : (c : Contents) → readSheet s ≡ accepted c → NoRoomFor c places loads numbers
       → reply ≡ faultReply (Table 0)
   reply-short c e short =
-      let few-places : Bool = ltb (roomOf places) (length (c .jobs)) in
-      let few-loads : Bool = ltb (roomOf loads) (c .head .benches) in
-      let few-numbers : Bool = ltb (roomOf numbers) 3 in
-      let tested : ((few-places || few-loads) || few-numbers) ≡ true = elim short [
-        | inl l ↦ or-left few-numbers (or-left few-loads (lt-ltb (roomOf places) (length (c .jobs)) (omega arith)))
-        | inr (inl l) ↦
-            or-left few-numbers (or-right few-places (lt-ltb (roomOf loads) (c .head .benches) (omega arith)))
-        | inr (inr l) ↦ or-right (few-places || few-loads) (lt-ltb (roomOf numbers) 3 (omega arith))
-      ] in
-      door-read s (roomOf places) (roomOf loads) (roomOf numbers) c e ∙ ap (replyOn c) tested
+      door-read s (roomOf places) (roomOf loads) (roomOf numbers) c e
+      ∙ ap (replyOn c) (short-tested 3 c places loads numbers short)
 
   module _ (c : Contents) (t : RoomFor s places loads numbers c) where
     day-accepted : AcceptedDay (dayOf c)
@@ -270,14 +239,8 @@ module _ (s places loads numbers : List ℕ) where
 
     pub room-answer : reply ≡ answerTo (dayOf c)
     room-answer =
-        let enough : (shortTables c (roomOf places) (roomOf loads) || ltb (roomOf numbers) 3) ≡ false =
-        or-false
-        (or-false
-        (le-ltb (roomOf places) (length (c .jobs)) (omega (arith, t .place-to-a-job)))
-        (le-ltb (roomOf loads) (c .head .benches) (omega (arith, t .load-to-a-bench))))
-        (le-ltb (roomOf numbers) 3 (omega (arith, t .three-numbers))) in
-        let read = door-read s (roomOf places) (roomOf loads) (roomOf numbers) c (t .sheet-accepted) in
-        read ∙ ap (replyOn c) enough
+        door-read s (roomOf places) (roomOf loads) (roomOf numbers) c (t .sheet-accepted)
+        ∙ ap (replyOn c) (enough-tested 3 c places loads numbers (enough s places loads numbers t))
 
     whole : WholeClaim (dayOf c) reply
     whole = subst (WholeClaim (dayOf c)) (sym room-answer) (whole-claim (dayOf c) day-accepted)

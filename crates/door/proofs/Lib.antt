@@ -4,4 +4,5 @@ pub mod DoorDemand
 pub mod DoorExamples
 pub mod DoorRefusals
 pub mod PlanLaws
+pub mod RoomLaws
 pub mod WordLaws

@@ -1,5 +1,6 @@
 -- What a caller of planning reads: the entries of the tables are the answer's numbers, none of them cut to its 8 bytes.
 --     ReplyFits, reply-fits     the numbers of every reply have at most 8 bytes
+--     plan-fits                 so have those of a right plan, whatever target its day is given
 --     entries-read              so after a call the entries of the three tables are the reply's places and loads, and
 --                               the answer's three numbers
 --     isFault                   the answer is a fault
@@ -25,11 +26,11 @@ use Rattle.fields.specs.Format.{allows as allowsBench}
 use Rattle.fields.specs.Numbers.{numberOf, placeOf}
 use Rattle.fields.specs.Tests.{jobAt}
 use Rattle.frame.specs.Sound.{SoundSheet}
-use Rattle.day.specs.Day.{dayOf, pebble, placeIn, moveBound}
+use Rattle.day.specs.Day.{dayOf, pebble, placeIn, moveBound, withTarget}
 use Rattle.answers.specs.declared.answer.Answer.{Answer}
 use Rattle.answers.specs.declared.answer.Answer.the-variants.{Plan, Long, None, Fault as Faulty}
 use Rattle.answers.specs.declared.answer.PlanAnswer.{PlanAnswer}
-use Rattle.answers.specs.Answers.{Reply}
+use Rattle.answers.specs.Answers.{Reply, planReply}
 use Rattle.argument.specs.Answers.{SoundPlan, SoundAnswer, plan-sound, long-sound, none-sound}
 use Rattle.answers.proofs.SetLaws.{setOf-lt}
 use Rattle.tables.specs.Tables.{entryOf}
@@ -55,51 +56,57 @@ pub record ReplyFits (a : Reply) : Type 0 where
   pub numbers-fit : Fit (answerNumbers (a .answer))
 
 module _ (c : Contents) (sound : SoundSheet c) where
-  moves-fit : (moves : ℕ) → moves ≤ moveBound (dayOf c) → moves < 2 ^ 64
-  moves-fit moves few =
-      let pebbles : ℕ = count (length (c .jobs)) (pebble (dayOf c)) in
-      let one : pebbles ≤ 512 = le-trans (count-le (length (c .jobs)) (pebble (dayOf c))) (sound .at-most-512-jobs) in
-      let two : c .head .benches * pebbles ≤ c .head .benches * 512 = mul-le-mul-left (c .head .benches) one in
-      omega (arith, sound .head .at-most-64-benches)
-
-  module _ (p : PlanAnswer) (ps ls : List ℕ) (right : SoundPlan (dayOf c) p ps ls) where
-    -- A bench of the head, and there are at most 64.
-    place-fits : Fit ps
-    place-fits j l =
-        let here = right .assignment .on-allowed j (omega (arith, right .one-to-a-job)) in
-        let below : getD ps j 0 < c .head .benches =
-        ltb-true (getD ps j 0) (c .head .benches)
-        (and-left (ltb (getD ps j 0) (c .head .benches)) (allowsBench (jobAt (c .jobs) j) (getD ps j 0)) here) in
+  -- Whatever target the day is given.
+  module _ (t : ℕ) where
+    moves-fit : (moves : ℕ) → moves ≤ moveBound (withTarget (dayOf c) t) → moves < 2 ^ 64
+    moves-fit moves few =
+        let light : ℕ → Bool = pebble (withTarget (dayOf c) t) in
+        let pebbles : ℕ = count (length (c .jobs)) light in
+        let one : pebbles ≤ 512 = le-trans (count-le (length (c .jobs)) light) (sound .at-most-512-jobs) in
+        let two : c .head .benches * pebbles ≤ c .head .benches * 512 = mul-le-mul-left (c .head .benches) one in
         omega (arith, sound .head .at-most-64-benches)
 
-    -- Each job has fewer than 2 ^ 20 minutes, and there are at most 512; a booking has fewer than 2 ^ 20 too.
-    load-fits : Fit ls
-    load-fits v l =
-        let there : ℕ → ℕ = λ j. on (eqb (placeIn ps j) v) (jobAt (c .jobs) j .minutes) in
-        let short : (j : ℕ) → j < length (c .jobs) → there j ≤ 1048576 =
-        λ j h. omega (arith, on-le (eqb (placeIn ps j) v) (jobAt (c .jobs) j .minutes), sound .jobs j h .minutes-fit) in
-        let placed = sum-bound (length (c .jobs)) 1048576 there short in
-        omega (
-          arith,
-          right .its-loads v (omega (arith, right .one-to-a-bench)),
-          sound .at-most-512-jobs,
-          sound .bookings .booked-fit v,
-        )
+    module _ (p : PlanAnswer) (ps ls : List ℕ) (right : SoundPlan (withTarget (dayOf c) t) p ps ls) where
+      -- A bench of the head, and there are at most 64.
+      place-fits : Fit ps
+      place-fits j l =
+          let here = right .assignment .on-allowed j (omega (arith, right .one-to-a-job)) in
+          let below : getD ps j 0 < c .head .benches =
+          ltb-true (getD ps j 0) (c .head .benches)
+          (and-left (ltb (getD ps j 0) (c .head .benches)) (allowsBench (jobAt (c .jobs) j) (getD ps j 0)) here) in
+          omega (arith, sound .head .at-most-64-benches)
 
-    largest-fits : p .largest < 2 ^ 64
-    largest-fits =
-        let (v, l, e) = right .one-of-them in
-        omega (arith, e, load-fits v (omega (arith, right .one-to-a-bench)))
+      -- Each job has fewer than 2 ^ 20 minutes, and there are at most 512; a booking has fewer than 2 ^ 20 too.
+      load-fits : Fit ls
+      load-fits v l =
+          let there : ℕ → ℕ = λ j. on (eqb (placeIn ps j) v) (jobAt (c .jobs) j .minutes) in
+          let short : (j : ℕ) → j < length (c .jobs) → there j ≤ 1048576 =
+          λ j h.
+          omega (arith, on-le (eqb (placeIn ps j) v) (jobAt (c .jobs) j .minutes), sound .jobs j h .minutes-fit) in
+          let placed = sum-bound (length (c .jobs)) 1048576 there short in
+          omega (
+            arith,
+            right .its-loads v (omega (arith, right .one-to-a-bench)),
+            sound .at-most-512-jobs,
+            sound .bookings .booked-fit v,
+          )
 
-  sound-fits : {a : Reply} → SoundAnswer (dayOf c) a → ReplyFits a
-  sound-fits (plan-sound {p = p} {places = ps} {loads = ls} right) =
-      record {
-        places-fit = place-fits p ps ls right;
-        loads-fit = load-fits p ps ls right;
+      largest-fits : p .largest < 2 ^ 64
+      largest-fits =
+          let (v, l, e) = right .one-of-them in
+          omega (arith, e, load-fits v (omega (arith, right .one-to-a-bench)))
+
+      pub plan-fits : ReplyFits (planReply p ps ls)
+      plan-fits = record {
+        places-fit = place-fits;
+        loads-fit = load-fits;
         numbers-fit =
-            three-fit (largest-fits p ps ls right) (moves-fit (p .moves) (right .few-moves))
+            three-fit largest-fits (moves-fit (p .moves) (right .few-moves))
             (omega (arith, right .fullest-bench, sound .head .at-most-64-benches));
       }
+
+  sound-fits : {a : Reply} → SoundAnswer (dayOf c) a → ReplyFits a
+  sound-fits (plan-sound {p = p} {places = ps} {loads = ls} right) = plan-fits (c .head .target) p ps ls right
   sound-fits (long-sound {j = j} right) =
       let job = right .is-long .is-job in
       let numbers : Fit (j ∷ 0 ∷ 0 ∷ []) =
@@ -109,7 +116,7 @@ module _ (c : Contents) (sound : SoundSheet c) where
       let below : (i : ℕ) → i < length bs → getD bs i 0 < 64 =
       λ i l. omega (arith, right .of-the-day i l, sound .head .at-most-64-benches) in
       let set-fits = setOf-lt 0 bs (right .rising) (λ i l. omega arith) below in
-      let numbers = three-fit {e = 0} set-fits (moves-fit moves (right .few-moves)) (omega arith) in
+      let numbers = three-fit {e = 0} set-fits (moves-fit (c .head .target) moves (right .few-moves)) (omega arith) in
       record { places-fit = none-fit; loads-fit = none-fit; numbers-fit = numbers }
 
 -- ── the three answers and the faults ──
@@ -132,7 +139,7 @@ module _ (s : List ℕ) (np nl na : ℕ) where
   pub reply-fits : ReplyFits (doorAnswer s np nl na)
   reply-fits = elim (fault-or-room s np nl na) [
     | inl f ↦ rw (f .replies) (record { places-fit = none-fit; loads-fit = none-fit; numbers-fit = none-fit })
-    | inr r ↦ sound-fits (r .contents) (r .sound-sheet) (r .sound-answer)
+    | inr r ↦ sound-fits (r .room .contents) (r .room .sound-sheet) (r .sound-answer)
   ]
 
   -- ── what a caller reads ──
@@ -161,7 +168,7 @@ module _ (s : List ℕ) (np nl na : ℕ) where
     | inl g ↦
         let same = same-fault (sym (ap (λ (a : Reply). a .answer) (g .replies)) ∙ e) in
         subst (λ (x : Fault). placeOf x ≤ 65536) same (g .near)
-    | inr r ↦ clash (ap isFault e) (no-fault (r .contents) (r .sound-answer))
+    | inr r ↦ clash (ap isFault e) (no-fault (r .room .contents) (r .sound-answer))
   ]
 
   pub plan-word-fault : (f : Fault) → reply .answer ≡ Faulty f

@@ -9,15 +9,18 @@
 --     puts-as         the same bytes, said in another way
 --     puts-moved      the same buffer and place, under other names
 --     puts-text       bytes from place 0 on
+--     front-whole     bytes that fit are put whole
+--     whole-as        the same bytes, said in another way
 use Prim.Native.Nat.{ℕ, suc, _+_, _≤_, _<_, min}
 use native.Mathlib.Omega.{arith}
 use mathlib.Core.Path.{_≡_, refl, sym, ap, _∙_}
 use mathlib.Core.List.{List, [], _∷_, _++_, append-nil}
 use mathlib.Core.Logic.{inl, inr}
 use lib.ListN.{length, take, drop, set, length-append, length-drop, take-append-drop}
-use lib.Seq.{sets, sets-eq, set-out, length-sets, take-all, take-append-le, drop-length, length-take-le}
+use lib.Seq.{sets, sets-eq, set-out, length-sets, take-all, take-at, take-append-le, drop-at, drop-length}
+use lib.Seq.{length-take-le}
 use Rattle.bools.proofs.OrderLaws.{lt-or-le}
-use Rattle.lines.specs.Buffer.{Puts, Front}
+use Rattle.lines.specs.Buffer.{Puts, Front, Whole}
 
 -- ── runs of stores ──
 
@@ -94,3 +97,20 @@ puts-moved e f p = record { bytes = e ∙ p .bytes; end = f ∙ p .end }
 
 pub puts-text : {out xs after : List ℕ} {r : ℕ} → Puts out 0 xs after r → Front out xs after r
 puts-text {out} {xs} p = record { bytes = p .bytes ∙ sets-front xs out; end = omega (arith, p .end) }
+
+-- ── bytes put whole ──
+
+pub front-whole : {out xs after : List ℕ} {r : ℕ} → Front out xs after r → length xs ≤ length out → Whole xs out after r
+front-whole {out} {xs} {after} {r} f fits =
+    let kept = drop (length xs) out in
+    let end : r ≡ length xs = omega (arith, f .end) in
+    let room : length (xs ++ kept) ≤ length out = omega (arith, length-append xs kept, length-drop (length xs) out) in
+    let whole : after ≡ xs ++ kept = f .bytes ∙ take-all (length out) (xs ++ kept) room in
+    record {
+      end = end;
+      bytes = ap (take r) whole ∙ take-at xs kept r (sym end);
+      behind = ap (drop r) whole ∙ drop-at xs kept r (sym end) ∙ ap (λ (k : ℕ). drop k out) (sym end);
+    }
+
+pub whole-as : {xs ys out after : List ℕ} {r : ℕ} → xs ≡ ys → Whole xs out after r → Whole ys out after r
+whole-as e w = record { end = w .end ∙ ap length e; bytes = w .bytes ∙ e; behind = w .behind }

@@ -1,3 +1,4 @@
+pub mod BestSteps
 pub mod BufferLaws
 pub mod DigitLaws
 pub mod LineExamples

@@ -1,7 +1,9 @@
--- The lines of the bay examples of document 01, byte for byte.
+-- The lines of the bay examples of document 01, and of a best target, byte for byte.
 --     example-2, example-3, example-4     `plan 5 0 0` and `0 0`; `long 0`; `none 0 0 1`
 --     three-numbers                       `plan 7 2 1`: largest load, moves and fullest bench, in this order
 --     example-11                          `fault 2 0`
+--     best-lines                          `best 3 2`, and then `plan 5 1 0` and `0 0`: target and runs, then the plan
+--     best-fault                          `fault 2 0` again
 --     three-digits                        `480`
 use Prim.Native.Nat.{_*_, _^_}
 use mathlib.Core.Path.{_≡_, refl}
@@ -10,6 +12,8 @@ use Rattle.sums.specs.Members.{members}
 use Rattle.bits.specs.Bits.{isSet}
 use Rattle.fields.specs.declared.fault.Fault.the-variants.{Truncated}
 use Rattle.answers.specs.declared.answer.Answer.the-variants.{Plan, Long, None, Fault}
+use Rattle.answers.specs.declared.best.BestAnswer.the-variants.{Best, Fault as BestFault}
+use Rattle.lines.specs.BestLines.{bestLinesOf}
 use Rattle.lines.specs.Lines.{digitsWithin, digits, spaced, line, jobLines, linesOf}
 
 pub example-2 : linesOf (Plan (record { largest = 5; moves = 0; fullest = 0 })) (0 ∷ [])
@@ -35,6 +39,18 @@ example-4 = refl
 pub example-11 : linesOf (Fault (Truncated 0)) [] ≡ 102 ∷ 97 ∷ 117 ∷ 108 ∷ 116 ∷ 32 ∷ 50 ∷ 32 ∷ 48 ∷ 10 ∷ []
 unfolding linesOf line spaced digits digitsWithin
 example-11 = refl
+
+pub best-lines :
+    bestLinesOf (Best (record { target = 3; plan = record { largest = 5; moves = 1; fullest = 0 }; runs = 2 })) (0 ∷ [])
+    ≡ 98 ∷ 101 ∷ 115 ∷ 116 ∷ 32 ∷ 51 ∷ 32 ∷ 50 ∷ 10
+    ∷ 112 ∷ 108 ∷ 97 ∷ 110 ∷ 32 ∷ 53 ∷ 32 ∷ 49 ∷ 32 ∷ 48 ∷ 10 ∷ 48 ∷ 32 ∷ 48 ∷ 10 ∷ []
+unfolding bestLinesOf linesOf jobLines line spaced digits digitsWithin
+best-lines = refl
+
+pub best-fault : bestLinesOf (BestFault (Truncated 0)) []
+    ≡ 102 ∷ 97 ∷ 117 ∷ 108 ∷ 116 ∷ 32 ∷ 50 ∷ 32 ∷ 48 ∷ 10 ∷ []
+unfolding bestLinesOf linesOf line spaced digits digitsWithin
+best-fault = refl
 
 -- Digits 480, with no zero in front and with the zero at the end.
 pub three-digits : digits 480 ≡ 52 ∷ 56 ∷ 48 ∷ []

@@ -4,7 +4,9 @@
 --     line-word, line-pair    a word before a line; a line of two words
 --     jobs-none, jobs-more    the line of one job more
 --     benches-none, bench-in, bench-out     one bench more, in the set and not in it
---     plan-text, long-text, none-text, fault-text     the text of each answer
+--     plan-put, long-put, none-put, fault-put     the lines of each answer
+--     fault-alone             those of a fault, which are the same for any places
+--     text-put                the text of an answer
 use Prim.Native.Nat.{ℕ, _+_, _-_, _/_, _%_, _^_, _<_}
 use native.Mathlib.Numerals.{add-one}
 use mathlib.Core.Path.{_≡_, refl, sym, ap, _∙_}
@@ -94,37 +96,43 @@ bench-out set b n =
     ] in
     sym (ap (benchesBelow set) (add-one b) ∙ ap (λ (bs : List ℕ). spaced (map digits bs)) (members-snoc-false b (isSet 64 set) is))
 
--- ── the text of an answer ──
+-- ── the lines of an answer ──
 
-module _ {answer : Answer} (places : List ℕ) {out one two : List ℕ} {a b : ℕ} {after : List ℕ} {r : ℕ} where
-  pub plan-text : {g : PlanAnswer} → answer ≡ Plan g → Puts out 0 (planLetters ++ space ∷ []) one a
-      → Puts one a (line (digits (g .largest) ∷ digits (g .moves) ∷ digits (g .fullest) ∷ [])) two b
-      → Puts two b (jobLines (length places) places) after r → Front out (linesOf answer places) after r
+module _ (places : List ℕ) {out : List ℕ} {at : ℕ} {one two : List ℕ} {m n : ℕ} {after : List ℕ} {r : ℕ} where
+  pub plan-put : (a : PlanAnswer) → Puts out at (planLetters ++ space ∷ []) one m
+      → Puts one m (line (digits (a .largest) ∷ digits (a .moves) ∷ digits (a .fullest) ∷ [])) two n
+      → Puts two n (jobLines (length places) places) after r → Puts out at (linesOf (Plan a) places) after r
   unfolding linesOf
-  plan-text {g} e p q s =
-      let first = line-word planLetters (digits (g .largest)) (digits (g .moves) ∷ digits (g .fullest) ∷ []) in
-      puts-text
-      (puts-as (ap (λ (l : List ℕ). l ++ jobLines (length places) places) first ∙ rw e) (puts-then (puts-then p q) s))
+  plan-put a p q s =
+      let first = line-word planLetters (digits (a .largest)) (digits (a .moves) ∷ digits (a .fullest) ∷ []) in
+      puts-as (ap (λ (l : List ℕ). l ++ jobLines (length places) places) first) (puts-then (puts-then p q) s)
 
-  pub long-text : {g : LongAnswer} → answer ≡ Long g → Puts out 0 longLetters one a
-      → Puts one a (space ∷ digits (g .job)) two b → Puts two b (newline ∷ []) after r
-      → Front out (linesOf answer places) after r
+  pub long-put : (a : LongAnswer) → Puts out at longLetters one m → Puts one m (space ∷ digits (a .job)) two n
+      → Puts two n (newline ∷ []) after r → Puts out at (linesOf (Long a) places) after r
   unfolding linesOf
-  long-text {g} e p q s =
-      puts-text (puts-as (line-pair longLetters (digits (g .job)) ∙ rw e) (puts-then (puts-then p q) s))
+  long-put a p q s = puts-as (line-pair longLetters (digits (a .job))) (puts-then (puts-then p q) s)
 
-  pub none-text : {g : NoneAnswer} {three : List ℕ} {c : ℕ} → answer ≡ None g → Puts out 0 noneLetters one a
-      → Puts one a (space ∷ digits (g .moves)) two b → Puts two b (benchesBelow (g .set) 64) three c
-      → Puts three c (newline ∷ []) after r → Front out (linesOf answer places) after r
+  pub none-put : (a : NoneAnswer) {three : List ℕ} {o : ℕ} → Puts out at noneLetters one m
+      → Puts one m (space ∷ digits (a .moves)) two n → Puts two n (benchesBelow (a .set) 64) three o
+      → Puts three o (newline ∷ []) after r → Puts out at (linesOf (None a) places) after r
   unfolding linesOf
-  none-text {g} e p q s t =
-      let words = line-words noneLetters (digits (g .moves)) (map digits (members 64 (isSet 64 (g .set)))) in
-      puts-text (puts-as (words ∙ rw e) (puts-then (puts-then (puts-then p q) s) t))
+  none-put a p q s t =
+      puts-as (line-words noneLetters (digits (a .moves)) (map digits (members 64 (isSet 64 (a .set)))))
+      (puts-then (puts-then (puts-then p q) s) t)
 
-pub fault-text : {answer : Answer} (places : List ℕ) {out one : List ℕ} {a : ℕ} {after : List ℕ} {r : ℕ}
-    {f : AnyFault} {n m : ℕ} → answer ≡ Fault f → n ≡ numberOf f → m ≡ placeOf f
-    → Puts out 0 (faultLetters ++ space ∷ []) one a → Puts one a (line (digits n ∷ digits m ∷ [])) after r
-    → Front out (linesOf answer places) after r
+pub fault-put : (f : AnyFault) {x y : ℕ} {out : List ℕ} {at : ℕ} {one : List ℕ} {m : ℕ} {after : List ℕ} {r : ℕ}
+    → x ≡ numberOf f → y ≡ placeOf f → Puts out at (faultLetters ++ space ∷ []) one m
+    → Puts one m (line (digits x ∷ digits y ∷ [])) after r → Puts out at (linesOf (Fault f) []) after r
 unfolding linesOf
-fault-text places {f = f} {n = n} {m = m} e x y p q =
-    puts-text (puts-as (line-word faultLetters (digits n) (digits m ∷ []) ∙ rw (e, x, y)) (puts-then p q))
+fault-put f {x} {y} e g p q =
+    puts-as (line-word faultLetters (digits x) (digits y ∷ []) ∙ rw (e, g)) (puts-then p q)
+
+-- A fault has no places.
+pub fault-alone : (f : AnyFault) (places : List ℕ) → linesOf (Fault f) [] ≡ linesOf (Fault f) places
+unfolding linesOf
+fault-alone f places = refl
+
+-- The whole text, which stands at the front.
+pub text-put : {answer case : Answer} (places : List ℕ) {out after : List ℕ} {r : ℕ} → answer ≡ case
+    → Puts out 0 (linesOf case places) after r → Front out (linesOf answer places) after r
+text-put places e p = puts-text (puts-as (ap (λ (a : Answer). linesOf a places) (sym e)) p)

@@ -1,7 +1,9 @@
--- How long a text is. Every number of the program is below 10 ^ 20, so the text of 512 jobs fits 32,768 bytes.
+-- How long a text is. Every number of the program is below 10 ^ 20, so the text of 512 jobs fits 32,000 bytes, and with
+-- the line of the best target 32,768.
 --     length-digits       a number below 10 ^ (k + 1) has at most k + 1 digits
 --     Narrow a            the numbers of an answer are below 10 ^ 20
 --     text-size           the length of the text of an answer and of the places of its jobs
+--     BestNarrow a, best-text-size    the same for an answer of the search for the best target
 use Prim.Native.Nat.{ℕ, zero, suc, _+_, _*_, _/_, _%_, _^_, _≤_, _<_}
 use native.Mathlib.Omega.{arith}
 use mathlib.Core.Path.{_≡_, refl, ap, _∙_}
@@ -17,6 +19,9 @@ use Rattle.bits.specs.Bits.{isSet}
 use Rattle.fields.specs.Numbers.{numberOf, placeOf}
 use Rattle.answers.specs.declared.answer.Answer.{Answer}
 use Rattle.answers.specs.declared.answer.Answer.the-variants.{Plan, Long, None, Fault}
+use Rattle.answers.specs.declared.best.BestAnswer.{BestAnswer}
+use Rattle.answers.specs.declared.best.BestAnswer.the-variants.{Best, Fault as BestFault}
+use Rattle.lines.specs.BestLines.{bestLetters, bestLinesOf}
 use Rattle.lines.specs.Lines.{digits, newline, spaced, line, jobLines, linesOf}
 use Rattle.lines.specs.Lines.{planLetters, longLetters, noneLetters, faultLetters}
 use Rattle.lines.proofs.DigitLaws.{digits-small, digits-more}
@@ -88,7 +93,7 @@ Narrow (None a) = a .moves < 10 ^ 20
 Narrow (Fault f) = (numberOf f < 10 ^ 20) × (placeOf f < 10 ^ 20)
 
 pub text-size : (a : Answer) (places : List ℕ) → Narrow a → length places ≤ 512
-    → ((j : ℕ) → j < length places → getD places j 0 < 10 ^ 20) → length (linesOf a places) ≤ 32768
+    → ((j : ℕ) → j < length places → getD places j 0 < 10 ^ 20) → length (linesOf a places) ≤ 32000
 unfolding linesOf
 text-size (Plan a) places (l, m, f) h narrow =
     let largest = digits (a .largest) in
@@ -126,3 +131,27 @@ text-size (Fault f) places (l, m) h narrow =
       length-digits 19 (numberOf f) l,
       length-digits 19 (placeOf f) m,
     )
+
+-- ── lines of the best target ──
+
+abbrev pub BestNarrow : BestAnswer → Type 0
+BestNarrow (Best b) = (b .target < 10 ^ 20) × (b .runs < 10 ^ 20) × Narrow (Plan (b .plan))
+BestNarrow (BestFault f) = Narrow (Fault f)
+
+pub best-text-size : (a : BestAnswer) (places : List ℕ) → BestNarrow a → length places ≤ 512
+    → ((j : ℕ) → j < length places → getD places j 0 < 10 ^ 20) → length (bestLinesOf a places) ≤ 32768
+unfolding bestLinesOf
+best-text-size (Best b) places (t, n, p) h narrow =
+    let target = digits (b .target) in
+    let runs = digits (b .runs) in
+    omega (
+      arith,
+      length-append (line (bestLetters ∷ target ∷ runs ∷ [])) (linesOf (Plan (b .plan)) places),
+      text-size (Plan (b .plan)) places p h narrow,
+      length-line bestLetters (target ∷ runs ∷ []),
+      length-spaced target (runs ∷ []),
+      length-one runs,
+      length-digits 19 (b .target) t,
+      length-digits 19 (b .runs) n,
+    )
+best-text-size (BestFault f) places p h narrow = omega (arith, text-size (Fault f) places p h narrow)

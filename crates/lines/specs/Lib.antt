@@ -1,2 +1,3 @@
+pub mod BestLines
 pub mod Buffer
 pub mod Lines

@@ -2,6 +2,8 @@
 use crate::buffer;
 use crate::decimal;
 use answers::Answer;
+use answers::PlanAnswer;
+use fields::Fault;
 ghost use mathlib.Core.List.{[], _∷_, map};
 ghost use lib.ListN.{length};
 ghost use Rattle.sums.specs.Members.{members};
@@ -15,11 +17,7 @@ pub fn text(answer: Answer, places: &[u64], out: &mut [u8]) -> usize
     ensures { λ r. ⌜ Front (now (out .entry)) (linesOf answer (now (places .entry))) (now (out .exit)) r ⌝ }
 {
     match answer {
-        Answer::Plan(a) => {
-            let mut end = buffer::bytes(out, 0, b"plan ");
-            end = triple(out, end, a.largest, a.moves, a.fullest);
-            jobs(out, end, places)
-        }
+        Answer::Plan(a) => plan_lines(out, 0, a, places),
         Answer::Long(a) => {
             let mut end = buffer::bytes(out, 0, b"long");
             end = word(out, end, a.job);
@@ -31,15 +29,29 @@ pub fn text(answer: Answer, places: &[u64], out: &mut [u8]) -> usize
             end = benches(out, end, a.set);
             end_line(out, end)
         }
-        Answer::Fault(f) => {
-            let end = buffer::bytes(out, 0, b"fault ");
-            pair(out, end, f.number(), f.place() as u64)
-        }
+        Answer::Fault(f) => fault_line(out, 0, f),
     }
 }
 
+// Puts the lines of a plan.
+pub fn plan_lines(out: &mut [u8], at: usize, a: PlanAnswer, places: &[u64]) -> usize
+    ensures { λ r. ⌜ Puts (now (out .entry)) at (linesOf (Answer.Plan a) (now (places .entry))) (now (out .exit)) r ⌝ }
+{
+    let mut end = buffer::bytes(out, at, b"plan ");
+    end = triple(out, end, a.largest, a.moves, a.fullest);
+    jobs(out, end, places)
+}
+
+// Puts the line of a fault, which has no places.
+pub fn fault_line(out: &mut [u8], at: usize, f: Fault) -> usize
+    ensures { λ r. ⌜ Puts (now (out .entry)) at (linesOf (Answer.Fault f) []) (now (out .exit)) r ⌝ }
+{
+    let end = buffer::bytes(out, at, b"fault ");
+    pair(out, end, f.number(), f.place() as u64)
+}
+
 // Puts a line of two numbers.
-fn pair(out: &mut [u8], at: usize, x: u64, y: u64) -> usize
+pub fn pair(out: &mut [u8], at: usize, x: u64, y: u64) -> usize
     ensures { λ r. ⌜ Puts (now (out .entry)) at (line (digits x ∷ digits y ∷ [])) (now (out .exit)) r ⌝ }
 {
     let mut end = decimal::number(out, at, x);

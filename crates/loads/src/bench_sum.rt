@@ -24,7 +24,7 @@ fn with_bench(sum: BenchSum, bench: usize, load: usize) -> BenchSum
 }
 
 // The largest of the first loads, and the first bench that has it.
-fn fullest(benches: usize, load: &[usize]) -> BenchSum
+pub fn fullest(benches: usize, load: &[usize]) -> BenchSum
     ensures { λ r. ⌜ r ≡ sumOf benches (now (load .entry)) ⌝ }
 {
     let mut sum = BenchSum {

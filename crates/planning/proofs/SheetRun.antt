@@ -1,20 +1,21 @@
 -- From the bytes of a sheet to the answer.
 --     refusal f            a fault, with nothing written
---     day-lent             the arrays filled with a sheet hold its day
---     short-places, short-loads     fault 13
---     long-enough          with tables that are long enough the answer is that of the day
+--     day-lent-at, day-lent     the arrays filled with a sheet hold its day, with any target and with its own
+--     places-short, loads-short, tables-fit     whether a table is too short for a sheet
+--     short-answer         then the answer is fault 13
+--     long-enough          with tables that are long enough it is that of the day
 --     decided-long, decided-none, decided-plan     the answer, by what is decided
 --     refused-answer, accepted-answer     the answer by whether the sheet is read
-use Prim.Native.Nat.{ℕ, _≤_, _<_}
+use Prim.Native.Nat.{ℕ, _^_, _≤_, _<_}
 use mathlib.Core.Path.{_≡_, refl, sym, ap, subst, _∙_}
-use mathlib.Core.Bool.{Bool, true, false, cond, _&&_, _||_}
+use mathlib.Core.Bool.{Bool, true, false, cond, _&&_}
 use mathlib.Core.Logic.{inl, inr}
 use mathlib.Core.List.{List}
 use native.Mathlib.Omega.{arith}
 use lib.ListN.{length, getD, replicate, length-replicate}
 use lib.Dec.{ltb}
 use borrow.Author.Tests.{lt-ltb, le-ltb}
-use Rattle.bools.proofs.BoolLaws.{split, clash}
+use Rattle.bools.proofs.BoolLaws.{split, clash, or-left, or-right, or-false}
 use Rattle.bits.specs.Bits.{isSet}
 use Rattle.fields.specs.Contents.{Contents}
 use Rattle.fields.specs.declared.sheet.Head.{Head}
@@ -29,8 +30,10 @@ use Rattle.frame.specs.Tables.{Tables}
 use Rattle.frame.proofs.AcceptedLaws.{accepted-sound}
 use Rattle.frame.proofs.SheetTables.{tables-of}
 use Rattle.frame.proofs.Stored.{verdict-refused, verdict-accepted}
-use Rattle.day.specs.Day.{Day, dayOf}
-use Rattle.answers.specs.declared.answer.Answer.the-variants.{Long, None, Fault as Faulty}
+use Rattle.sums.proofs.TableLaws.{length-table}
+use Rattle.day.specs.Day.{Day, dayOf, placeIn, loadOf, withTarget}
+use Rattle.answers.specs.declared.answer.Answer.the-variants.{Plan, Long, None, Fault as Faulty}
+use Rattle.answers.specs.declared.answer.PlanAnswer.{PlanAnswer}
 use Rattle.answers.specs.declared.answer.LongAnswer.{LongAnswer}
 use Rattle.answers.specs.declared.answer.NoneAnswer.{NoneAnswer}
 use Rattle.answers.specs.declared.answer.Filled.{Filled}
@@ -38,7 +41,7 @@ use Rattle.sums.specs.Members.{members}
 use Rattle.answers.specs.Answers.{setOf, Reply, faultReply, Answered}
 use Rattle.algorithm.specs.Run.{Outcome, planned, long, blocked, run}
 use Rattle.algorithm.specs.Answer.{planShown, shown, answerTo, shortTables, answerFor}
-use Rattle.algorithm.proofs.SheetDay.{accepted-day}
+use Rattle.algorithm.proofs.SheetDay.{accepted-at}
 use Rattle.arrays.specs.Arrays.{filled}
 use Rattle.arrays.proofs.FilledLaws.{getD-filled}
 use Rattle.start.specs.StartArrays.{Fields}
@@ -46,6 +49,7 @@ use Rattle.deciding.specs.declared.decision.Decision.the-variants.{Plan as Deci
 use Rattle.deciding.specs.declared.decision.Decision.the-variants.{None as DecidedNone}
 use Rattle.deciding.specs.declared.decision.PlanMoves.{PlanMoves}
 use Rattle.deciding.specs.Decision.{decisionOf, placesIn, Lent}
+use Rattle.planning.specs.Places.{PlanWritten}
 
 abbrev refusal : Fault → Filled
 refusal f = record { answer = Faulty f; places = 0; loads = 0 }
@@ -69,7 +73,7 @@ module _ (d : Day) where
       let same : n ≡ record { set = setOf (members (d .benches) set); moves = moves } = cc in
       record { answer = ap None same; places-written = refl; loads-written = refl; new-places = refl; new-loads = refl }
 
-  plan-shown : (o : Outcome) (p : PlanMoves) → DecidedPlan p ≡ decisionOf d o
+  pub plan-shown : (o : Outcome) (p : PlanMoves) → DecidedPlan p ≡ decisionOf d o
       → shown d o
       ≡ planShown d (placesIn o) (p .moves)
   plan-shown (planned ps moves) p e =
@@ -86,12 +90,21 @@ module _ (d : Day) where
       → Answered (answerTo d) (record { answer = None n; places = 0; loads = 0 }) places loads places loads
   decided-none = none-shown (run d)
 
-  pub decided-plan : (p : PlanMoves) → DecidedPlan p ≡ decisionOf d (run d)
-      → {r : Filled} {places loads places′ loads′ : List ℕ}
-      → Answered (planShown d (placesIn (run d)) (p .moves)) r places loads places′ loads′
-      → Answered (answerTo d) r places loads places′ loads′
-  decided-plan p e {r} {places} {loads} {places′} {loads′} =
-      subst (λ (a : Reply). Answered a r places loads places′ loads′) (sym (plan-shown (run d) p e))
+  pub decided-plan : (p : PlanMoves) → DecidedPlan p ≡ decisionOf d (run d) → length (placesIn (run d)) ≡ d .jobs
+      → {jobs benches : ℕ} → jobs ≡ d .jobs → benches ≡ d .benches
+      → {r : PlanAnswer} {places loads places′ loads′ : List ℕ}
+      → PlanWritten (planShown d (placesIn (run d)) (p .moves)) r places loads places′ loads′
+      → Answered (answerTo d) (record { answer = Plan r; places = jobs; loads = benches }) places loads places′ loads′
+  decided-plan p e one {jobs} {benches} ej eb {r} {places} {loads} {places′} {loads′} W =
+      let filled : Filled = record { answer = Plan r; places = jobs; loads = benches } in
+      subst (λ (a : Reply). Answered a filled places loads places′ loads′) (sym (plan-shown (run d) p e))
+      (record {
+        answer = W .numbers;
+        places-written = ej ∙ sym one;
+        loads-written = eb ∙ sym (length-table (d .benches) (loadOf d (placeIn (placesIn (run d)))));
+        new-places = W .new-places;
+        new-loads = W .new-loads;
+      })
 
 -- ── the day of a sheet ──
 
@@ -107,12 +120,12 @@ module _ (s : List ℕ) (c : Contents) (x : Sheet) (read : readSheet s ≡ accep
       ∙ getD-filled (λ i. getD from i 0) (x .count) to₀ j 0
       (omega (arith, T .jobs-are)) (omega (arith, T .sound .at-most-512-jobs))
 
-  fields-of : (minutes₀ allowed₀ : List ℕ) {minutes allowed : List ℕ}
+  fields-at : (t : ℕ) → t < 2 ^ 30 → (minutes₀ allowed₀ : List ℕ) {minutes allowed : List ℕ}
       → 512 ≤ length minutes₀ → 512 ≤ length allowed₀
       → minutes ≡ filled (x .count) (λ i. getD (x .minutes) i 0) minutes₀
       → allowed ≡ filled (x .count) (λ i. getD (x .allowed) i 0) allowed₀
-      → Fields (dayOf c) (x .count) minutes allowed
-  fields-of minutes₀ allowed₀ {minutes} {allowed} rm ra em ea =
+      → Fields (withTarget (dayOf c) t) (x .count) minutes allowed
+  fields-at t small minutes₀ allowed₀ {minutes} {allowed} rm ra em ea =
       let set-is : (j : ℕ) → j < length (c .jobs) → getD allowed j 0 ≡ jobAt (c .jobs) j .allowed =
       λ j l. entry-is (x .allowed) allowed₀ ra ea j l ∙ T .allowed-are j l in
       record {
@@ -121,7 +134,7 @@ module _ (s : List ℕ) (c : Contents) (x : Sheet) (read : readSheet s ≡ accep
           few-jobs = T .sound .at-most-512-jobs;
           p-small = T .sound .head .p-fits;
           q-small = T .sound .head .q-fits;
-          target-small = T .sound .head .target-fits;
+          target-small = small;
           minutes-small = λ j l. T .sound .jobs j l .minutes-fit;
           booked-small = λ v. omega (arith, T .sound .bookings .booked-fit v);
         };
@@ -134,63 +147,81 @@ module _ (s : List ℕ) (c : Contents) (x : Sheet) (read : readSheet s ≡ accep
         ];
       }
 
-  pub day-lent : {minutes allowed booked : List ℕ}
-      → minutes ≡ filled (x .count) (λ i. getD (x .minutes) i 0) (replicate 512 0)
-      → allowed ≡ filled (x .count) (λ i. getD (x .allowed) i 0) (replicate 512 0)
-      → booked ≡ filled (x .head .benches) (λ i. getD (x .booked) i 0) (replicate 64 0)
-      → Lent (dayOf c) (x .head) (x .count) minutes allowed booked
-  day-lent em ea eb =
-      let head-is : x .head ≡ c .head = ap (λ (y : Sheet). y .head) same in
-      let wide : 512 ≤ length (replicate {A = ℕ} 512 0) = omega (arith, length-replicate {A = ℕ} 512 0) in
-      let F = fields-of (replicate 512 0) (replicate 512 0) wide wide em ea in
-      record {
-        accepted = accepted-day c (accepted-sound s c read);
-        fields = F;
-        benches-are = ap (λ (k : Head). k .benches) head-is;
-        p-is = ap (λ (k : Head). k .p) head-is;
-        q-is = ap (λ (k : Head). k .q) head-is;
-        target-is = ap (λ (k : Head). k .target) head-is;
-        booked-are = λ v h.
-            ap (λ (xs : List ℕ). getD xs v 0) eb
-            ∙ getD-filled (λ i. getD (x .booked) i 0) (x .head .benches) (replicate 64 0) v 0
-            (omega (arith, h, T .benches-are))
-            (omega (arith, h, F .bounded .few-benches, length-replicate {A = ℕ} 64 0))
-            ∙ T .booked-are v;
-      }
+  module _ {minutes allowed booked : List ℕ}
+      (em : minutes ≡ filled (x .count) (λ i. getD (x .minutes) i 0) (replicate 512 0))
+      (ea : allowed ≡ filled (x .count) (λ i. getD (x .allowed) i 0) (replicate 512 0))
+      (eb : booked ≡ filled (x .head .benches) (λ i. getD (x .booked) i 0) (replicate 64 0)) where
+    head-is : x .head ≡ c .head
+    head-is = ap (λ (y : Sheet). y .head) same
+
+    pub day-lent-at : (t : ℕ) → t < 2 ^ 30
+        → Lent (withTarget (dayOf c) t)
+        (record { benches = x .head .benches; p = x .head .p; q = x .head .q; target = t })
+        (x .count) minutes allowed booked
+    day-lent-at t small =
+        let wide : 512 ≤ length (replicate {A = ℕ} 512 0) = omega (arith, length-replicate {A = ℕ} 512 0) in
+        let F = fields-at t small (replicate 512 0) (replicate 512 0) wide wide em ea in
+        record {
+          accepted = accepted-at c (accepted-sound s c read) t;
+          fields = F;
+          benches-are = ap (λ (k : Head). k .benches) head-is;
+          p-is = ap (λ (k : Head). k .p) head-is;
+          q-is = ap (λ (k : Head). k .q) head-is;
+          target-is = refl;
+          booked-are = λ v h.
+              ap (λ (xs : List ℕ). getD xs v 0) eb
+              ∙ getD-filled (λ i. getD (x .booked) i 0) (x .head .benches) (replicate 64 0) v 0
+              (omega (arith, h, T .benches-are))
+              (omega (arith, h, F .bounded .few-benches, length-replicate {A = ℕ} 64 0))
+              ∙ T .booked-are v;
+        }
+
+    pub day-lent : Lent (dayOf c) (x .head) (x .count) minutes allowed booked
+    day-lent =
+        let own : ℕ = c .head .target in
+        let L = day-lent-at own (T .sound .head .target-fits) in
+        record {
+          accepted = L .accepted;
+          fields = L .fields;
+          benches-are = L .benches-are;
+          p-is = L .p-is;
+          q-is = L .q-is;
+          target-is = ap (λ (k : Head). k .target) head-is;
+          booked-are = L .booked-are;
+        }
 
   module _ (np nl : ℕ) where
+    pub places-short : np < x .count → shortTables c np nl ≡ true
+    places-short below =
+        or-left (ltb nl (c .head .benches)) (lt-ltb np (length (c .jobs)) (omega (arith, T .jobs-are)))
+
+    pub loads-short : nl < x .head .benches → shortTables c np nl ≡ true
+    loads-short below =
+        or-right (ltb np (length (c .jobs))) (lt-ltb nl (c .head .benches) (omega (arith, T .benches-are)))
+
+    pub tables-fit : x .count ≤ np → x .head .benches ≤ nl → shortTables c np nl ≡ false
+    tables-fit jobs-fit benches-fit =
+        or-false (le-ltb np (length (c .jobs)) (omega (arith, T .jobs-are)))
+        (le-ltb nl (c .head .benches) (omega (arith, T .benches-are)))
+
     read-answer : answerFor s np nl ≡ cond (shortTables c np nl) (faultReply (Table 0)) (answerTo (dayOf c))
     unfolding answerFor
     read-answer = rw (read, answerFor)
 
-    faulty : shortTables c np nl ≡ true → (places loads : List ℕ)
+    pub short-answer : shortTables c np nl ≡ true → (places loads : List ℕ)
         → Answered (answerFor s np nl) (refusal (Table 0)) places loads places loads
-    faulty short places loads =
+    short-answer short places loads =
         let answers : answerFor s np nl ≡ faultReply (Table 0) =
         read-answer ∙ ap (λ (b : Bool). cond b (faultReply (Table 0)) (answerTo (dayOf c))) short in
         subst (λ (a : Reply). Answered a (refusal (Table 0)) places loads places loads) (sym answers)
         (record { answer = refl; places-written = refl; loads-written = refl; new-places = refl; new-loads = refl })
 
-    pub short-places : np < x .count → (places loads : List ℕ)
-        → Answered (answerFor s np nl) (refusal (Table 0)) places loads places loads
-    short-places below =
-        let one : ltb np (length (c .jobs)) ≡ true = lt-ltb np (length (c .jobs)) (omega (arith, T .jobs-are)) in
-        faulty (ap (λ (b : Bool). b || ltb nl (c .head .benches)) one)
-
-    pub short-loads : x .count ≤ np → nl < x .head .benches → (places loads : List ℕ)
-        → Answered (answerFor s np nl) (refusal (Table 0)) places loads places loads
-    short-loads enough below =
-        let one : ltb np (length (c .jobs)) ≡ false = le-ltb np (length (c .jobs)) (omega (arith, T .jobs-are)) in
-        let two : ltb nl (c .head .benches) ≡ true = lt-ltb nl (c .head .benches) (omega (arith, T .benches-are)) in
-        faulty (rw (one, two))
-
-    pub long-enough : x .count ≤ np → x .head .benches ≤ nl → (r : Filled) (places loads places′ loads′ : List ℕ)
+    pub long-enough : shortTables c np nl ≡ false → (r : Filled) (places loads places′ loads′ : List ℕ)
         → Answered (answerTo (dayOf c)) r places loads places′ loads′
         → Answered (answerFor s np nl) r places loads places′ loads′
-    long-enough jobs-fit benches-fit r places loads places′ loads′ =
-        let one : ltb np (length (c .jobs)) ≡ false = le-ltb np (length (c .jobs)) (omega (arith, T .jobs-are)) in
-        let two : ltb nl (c .head .benches) ≡ false = le-ltb nl (c .head .benches) (omega (arith, T .benches-are)) in
-        let answers : answerFor s np nl ≡ answerTo (dayOf c) = read-answer ∙ rw (one, two) in
+    long-enough enough r places loads places′ loads′ =
+        let answers : answerFor s np nl ≡ answerTo (dayOf c) =
+        read-answer ∙ ap (λ (b : Bool). cond b (faultReply (Table 0)) (answerTo (dayOf c))) enough in
         subst (λ (a : Reply). Answered a r places loads places′ loads′) (sym answers)
 
 module _ (s : List ℕ) (np nl : ℕ) (places loads : List ℕ) where

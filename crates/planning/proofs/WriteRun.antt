@@ -1,6 +1,6 @@
 -- The tables of a plan.
 --     filled-front         a table whose front is filled
---     plan-written         both tables and the answer, from the places and the loads
+--     plan-written         both tables and the numbers of a plan, from the places and the loads
 use Prim.Native.Nat.{ℕ, _+_, _-_, _*_, _≤_, _<_, _^_}
 use mathlib.Core.Path.{_≡_, sym, ap, ap₂, _∙_}
 use mathlib.Core.Bool.{Bool, true, false}
@@ -19,14 +19,13 @@ use Rattle.sums.proofs.LargestLaws.{largest-cong, fullest-cong}
 use Rattle.sums.proofs.TableLaws.{length-table, getD-table, table-cong, table-getD}
 use Rattle.day.specs.Day.{Day, placeIn, loadOf, largestOf, fullestOf}
 use Rattle.answers.specs.declared.answer.Answer.the-variants.{Plan}
-use Rattle.answers.specs.Answers.{Answered}
 use Rattle.algorithm.specs.Answer.{planShown}
 use Rattle.arrays.specs.Arrays.{filled}
 use Rattle.loads.specs.declared.bench_sum.BenchSum.{BenchSum}
 use Rattle.loads.specs.BenchSum.{sumOf}
 use Rattle.loads.specs.Loads.{minutesOn}
 use Rattle.arrays.proofs.FilledLaws.{length-filled, getD-filled, filled-rest}
-use Rattle.planning.specs.Places.{Places}
+use Rattle.planning.specs.Places.{Places, PlanWritten}
 
 -- ── a table whose front is filled ──
 
@@ -84,12 +83,7 @@ module _ (d : Day) (jobs benches : ℕ) (minutes booked place ps : List ℕ)
       → d .jobs ≤ length places → d .benches ≤ length loads
       → places′ ≡ filled jobs (λ i. getD bench i 0) places → loads′ ≡ filled benches (λ i. getD load i 0) loads
       → s ≡ sumOf benches load
-      → Answered (planShown d ps moves)
-      (record {
-        answer = Plan (record { largest = s .largest; moves = moves; fullest = s .fullest });
-        places = jobs;
-        loads = benches;
-      })
+      → PlanWritten (planShown d ps moves) (record { largest = s .largest; moves = moves; fullest = s .fullest })
       places loads places′ loads′
   plan-written moves load places loads {places′} {loads′} {s} sums rp rl ep el es =
       let load-is : (v : ℕ) → v < d .benches → getD load v 0 ≡ loadOf d (placeIn ps) v =
@@ -104,9 +98,7 @@ module _ (d : Day) (jobs benches : ℕ) (minutes booked place ps : List ℕ)
       ap (λ (x : BenchSum). x .fullest) sum-is
       ∙ fullest-cong (d .benches) (λ v. getD load v 0) (loadOf d (placeIn ps)) load-is in
       record {
-        answer = ap₂ (λ (k v : ℕ). Plan (record { largest = k; moves = moves; fullest = v })) largest-is fullest-is;
-        places-written = P .fields .jobs-are ∙ sym (P .one-to-a-job);
-        loads-written = P .benches-are ∙ sym (length-table (d .benches) (loadOf d (placeIn ps)));
+        numbers = ap₂ (λ (k v : ℕ). Plan (record { largest = k; moves = moves; fullest = v })) largest-is fullest-is;
         new-places =
             ep ∙ ap (λ (k : ℕ). filled k (λ i. getD bench i 0) places) (P .fields .jobs-are)
             ∙ filled-front (d .jobs) (λ i. getD bench i 0) places rp

@@ -3,3 +3,4 @@ mod planner;
 mod write;
 
 pub use planner::plan;
+pub use write::write_plan;

@@ -52,16 +52,23 @@ fn plan_sheet(s: Sheet, places: &mut [u64], loads: &mut [u64]) -> Filled
     match decision {
         Decision::Long(a) => unwritten(Answer::Long(a)),
         Decision::None(a) => unwritten(Answer::None(a)),
-        Decision::Plan(p) => write::write_plan(
-            jobs,
-            benches,
-            p.moves,
-            &minutes,
-            booked,
-            &decided.places,
-            places,
-            loads,
-        ),
+        Decision::Plan(p) => {
+            let plan = write::write_plan(
+                jobs,
+                benches,
+                p.moves,
+                &minutes,
+                booked,
+                &decided.places,
+                places,
+                loads,
+            );
+            Filled {
+                answer: Answer::Plan(plan),
+                places: jobs,
+                loads: benches,
+            }
+        }
     }
 }
 

@@ -1,16 +1,13 @@
 // The tables of a plan.
-use answers::Answer;
-use answers::Filled;
 use answers::PlanAnswer;
 ghost use Prim.Native.Nat.{ℕ, _≤_};
 ghost use mathlib.Core.List.{List};
 ghost use lib.ListN.{length};
 ghost use Rattle.day.specs.Day.{Day};
-ghost use Rattle.answers.specs.Answers.{Answered};
 ghost use Rattle.algorithm.specs.Answer.{planShown};
-ghost use Rattle.planning.specs.Places.{Places};
+ghost use Rattle.planning.specs.Places.{Places, PlanWritten};
 
-// The plan with these places: both tables, and the answer.
+// The plan with these places: both tables, and its numbers.
 pub fn write_plan<'a>(
     jobs: usize,
     benches: usize,
@@ -20,12 +17,12 @@ pub fn write_plan<'a>(
     place: &'a [u8],
     places: &mut [u64],
     loads: &mut [u64],
-) -> Filled
+) -> PlanAnswer
     ensures { λ r. ⌜ ((d : Day) → (ps : List ℕ)
         → Places d jobs benches (now (minutes .entry)) booked (now (place .entry)) ps
         → jobs ≤ length (now (place .entry))
         → d .jobs ≤ length (now (places .entry)) → d .benches ≤ length (now (loads .entry))
-        → Answered (planShown d ps moves) r
+        → PlanWritten (planShown d ps moves) r
         (now (places .entry)) (now (loads .entry)) (now (places .exit)) (now (loads .exit))) ⌝ }
 {
     let mut bench = [0usize; 512];
@@ -36,13 +33,9 @@ pub fn write_plan<'a>(
     arrays::widen(benches, &load, loads);
     let largest = sum.largest as u64;
     let fullest = sum.fullest as u64;
-    Filled {
-        answer: Answer::Plan(PlanAnswer {
-            largest,
-            moves,
-            fullest,
-        }),
-        places: jobs,
-        loads: benches,
+    PlanAnswer {
+        largest,
+        moves,
+        fullest,
     }
 }

@@ -2,6 +2,7 @@
 --     Fit ns                every number of the list has at most 8 bytes
 --     entry-put             an entry that was put, if its number has at most 8 bytes
 --     later-kept            every byte after the numbers is as before
+--     entry-after           an entry of a table without its first n entries
 use Prim.Native.Nat.{ℕ, zero, suc, _+_, _*_, _^_, _<_}
 use native.Mathlib.Omega.{arith}
 use mathlib.Core.Path.{_≡_, sym, ap, _∙_}
@@ -39,3 +40,9 @@ pub later-kept : (ns t : List ℕ) (n : ℕ) → length ns ≡ n → drop (8 * n
 unfolding putNumbers
 later-kept ns t n e =
     drop-at (littleAll 8 ns) (drop (8 * length ns) t) (8 * n) (omega (arith, length-littleAll 8 ns, e)) ∙ ap (λ (k : ℕ). drop (8 * k) t) e
+
+pub entry-after : (n i : ℕ) (t : List ℕ) → entryOf (drop (8 * n) t) i ≡ entryOf t (n + i)
+unfolding entryOf
+entry-after n i t =
+    let here : 8 * n + 8 * i ≡ 8 * (n + i) = omega arith in
+    ap (λ (xs : List ℕ). little xs 8) (drop-drop (8 * i) (8 * n) t ∙ ap (λ (k : ℕ). drop k t) here)

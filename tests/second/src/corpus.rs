@@ -13,14 +13,26 @@
 //! A plan has the largest load, the moves and the fullest bench. The other answers are
 //! `none MOVES; benches B ...`, `long JOB` and `fault NUMBER PLACE`. Lines that start with # and
 //! empty lines say nothing.
+//!
+//! The days of tests/plans/best.txt have their best targets, with a line `tried` before the answer:
+//! the targets in the order of their runs, + for a plan and - for one that is refused.
+//!
+//! ```text
+//! tried: 8+ 4+ 2- 3-
+//! answer: best 4 4; plan 6 1 0; places 1 0 0 0; loads 6 2
+//! ```
+//!
+//! An answer there has the target and the number of targets run, then the plan of that target.
 
 use crate::codec::fault::Fault;
 use crate::codec::sheet::{Booked, Head, Job, NOTHING_BOOKED};
 use crate::gen::day::Day;
 use crate::planner::algorithm::Answer;
+use crate::planner::best::Best;
 use crate::planner::set::Set;
 
 pub const TEXT: &str = include_str!("../../plans/expected.txt");
+pub const BEST_TEXT: &str = include_str!("../../plans/best.txt");
 
 /// Full sheets with a long run, found by `search`.
 pub const SLOW: [(&str, &[u8]); 3] = [
@@ -35,6 +47,7 @@ pub struct Case {
     pub name: String,
     pub day: Day,
     pub without: Option<String>,
+    pub tried: Option<String>,
     pub answer: String,
 }
 
@@ -61,6 +74,7 @@ fn case(lines: &[&str]) -> Case {
             jobs: rows(value("jobs:")).map(job).collect(),
         },
         without: find("without:").map(str::to_string),
+        tried: find("tried:").map(str::to_string),
         answer: value("answer:").to_string(),
     }
 }
@@ -97,6 +111,16 @@ pub fn print_answer(answer: Result<Answer, Fault>) -> String {
     }
 }
 
+/// A best target as the text has it.
+pub fn print_best(best: Result<Best, Fault>) -> String {
+    match best {
+        Err(fault) => print_answer(Err(fault)),
+        Ok(best) => {
+            format!("best {} {}; {}", best.target, best.runs, print_answer(Ok(best.plan())))
+        }
+    }
+}
+
 fn row<N: ToString>(numbers: impl IntoIterator<Item = N>) -> String {
     numbers.into_iter().map(|number| format!(" {}", number.to_string())).collect()
 }
@@ -106,14 +130,17 @@ pub fn print_case(case: &Case) -> String {
     let Head { benches, p, q, target } = case.day.head;
     let job = |job: &Job| format!("{} on{}", job.minutes, row(Set(job.allowed)));
     let jobs: Vec<String> = case.day.jobs.iter().map(job).collect();
-    let without = case.without.as_ref().map(|answer| format!("without: {answer}\n"));
+    let line = |key: &str, text: &Option<String>| {
+        text.as_ref().map(|text| format!("{key}: {text}\n")).unwrap_or_default()
+    };
     format!(
         "case: {}\nhead: {benches} benches, share {p}/{q}, target {target}\n\
-         {}jobs: {}\n{}answer: {}\n",
+         {}jobs: {}\n{}{}answer: {}\n",
         case.name,
         booked_line(&case.day.booked),
         jobs.join("; "),
-        without.unwrap_or_default(),
+        line("without", &case.without),
+        line("tried", &case.tried),
         case.answer
     )
 }
@@ -133,7 +160,9 @@ fn booked_line(booked: &Booked) -> String {
 #[cfg(test)]
 mod tests {
     use super::*;
+    use crate::codec::door::Codec;
     use crate::planner::algorithm::{Planner, Rooms};
+    use crate::planner::best::{search, start};
 
     #[test]
     fn the_corpus_has_these_answers() {
@@ -160,9 +189,41 @@ mod tests {
     }
 
     #[test]
+    fn days_have_these_best_targets() {
+        let mut planner = Planner::new();
+        let cases = cases(BEST_TEXT);
+        assert!(cases.len() >= 10);
+        for case in cases {
+            let best = planner.best(&case.day.draft().bytes(), Rooms::FULL);
+            assert_eq!(print_best(best), case.answer, "{}", case.name);
+        }
+    }
+
+    #[test]
+    fn these_targets_are_tried() {
+        let (mut planner, mut codec) = (Planner::new(), Codec::default());
+        let cases: Vec<Case> = cases(BEST_TEXT);
+        assert!(cases.iter().filter(|case| case.tried.is_some()).count() >= 10);
+        for Case { name, day, tried, .. } in cases {
+            let bytes = day.draft().bytes();
+            let Ok(sheet) = codec.read(&bytes) else { continue };
+            let mut found = Vec::new();
+            search(start(sheet), |target| {
+                let is_plan = matches!(planner.plan_at(sheet, target), Answer::Plan { .. });
+                found.push(format!("{target}{}", if is_plan { '+' } else { '-' }));
+                is_plan.then_some(())
+            });
+            assert_eq!(Some(found.join(" ")), tried, "{name}");
+        }
+    }
+
+    #[test]
     fn cases_are_printed_as_they_are_read() {
-        let printed: String = cases(TEXT).iter().map(|case| print_case(case) + "\n").collect();
-        let reread: String = cases(&printed).iter().map(|case| print_case(case) + "\n").collect();
-        assert_eq!(printed, reread);
+        for text in [TEXT, BEST_TEXT] {
+            let printed: String = cases(text).iter().map(|case| print_case(case) + "\n").collect();
+            let reread: String =
+                cases(&printed).iter().map(|case| print_case(case) + "\n").collect();
+            assert_eq!(printed, reread);
+        }
     }
 }

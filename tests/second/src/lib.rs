@@ -5,7 +5,7 @@
 //! - `codec`: the second codec, reader and writer of sheets, from document 01.
 //! - `planner`: the second planner, from document 01 and its source.
 //! - `judge`: what an answer must be, by search, without the run.
-//! - `printed`: what the programs behind `./bay` and `./show` print.
+//! - `printed`: what the programs behind `./bay`, `./show` and `./best` print.
 //! - `gen`: generators of sheets and tables, good and damaged.
 //! - `corpus`: small days with their answers, and slow full sheets.
 //! - `samples`: the sheets of the folder samples/.

@@ -1,9 +1,10 @@
-//! What the programs behind `./bay` and `./show` print for a sheet.
+//! What the programs behind `./bay`, `./show` and `./best` print for a sheet.
 
 use crate::codec::door::Codec;
 use crate::codec::fault::Fault;
 use crate::codec::sheet::{Head, Sheet};
 use crate::planner::algorithm::{Answer, Planner, Rooms};
+use crate::planner::best::Best;
 use crate::planner::set::Set;
 
 /// The text of the bay program: "`plan 5 0` (largest load, moves) and `0 0` (job, bench; one line a
@@ -16,9 +17,18 @@ pub fn bay(planner: &mut Planner, sheet: &[u8]) -> String {
         Ok(Answer::Long { job }) => format!("long {job}\n"),
         Ok(Answer::None { benches, moves }) => format!("none {moves}{}\n", spaced(benches)),
         Ok(Answer::Plan { largest, moves, fullest, places, .. }) => {
-            let line = |(job, bench)| format!("{job} {bench}\n");
-            let lines: String = places.iter().enumerate().map(line).collect();
-            format!("plan {largest} {moves} {fullest}\n{lines}")
+            plan_lines(largest, moves, fullest, places)
+        }
+    }
+}
+
+/// The text of the best program: `best`, the target and the number of targets run, then the lines
+/// of that target's plan; or the fault's.
+pub fn best(planner: &mut Planner, sheet: &[u8]) -> String {
+    match planner.best(sheet, Rooms::FULL) {
+        Err(fault) => fault_line(fault),
+        Ok(Best { target, runs, largest, moves, fullest, places, .. }) => {
+            format!("best {target} {runs}\n") + &plan_lines(largest, moves, fullest, places)
         }
     }
 }
@@ -53,6 +63,12 @@ fn job_lines(sheet: &Sheet) -> String {
     .collect()
 }
 
+fn plan_lines(largest: u64, moves: u64, fullest: usize, places: &[u64]) -> String {
+    let line = |(job, bench)| format!("{job} {bench}\n");
+    let lines: String = places.iter().enumerate().map(line).collect();
+    format!("plan {largest} {moves} {fullest}\n{lines}")
+}
+
 fn fault_line(Fault { number, place }: Fault) -> String {
     format!("fault {number} {place}\n")
 }
@@ -82,6 +98,20 @@ mod tests {
         assert_eq!(bay(&mut planner, &example("example 3")), "long 0\n");
         assert_eq!(bay(&mut planner, &example("example 4")), "none 0 0 1\n");
         assert_eq!(bay(&mut planner, &[]), "fault 2 0\n");
+    }
+
+    #[test]
+    fn the_best_program_prints_the_target_and_the_plan() {
+        let mut planner = Planner::new();
+        for name in ["example 2", "example 3"] {
+            assert_eq!(best(&mut planner, &example(name)), "best 5 3\nplan 5 0 0\n0 0\n");
+        }
+        assert_eq!(best(&mut planner, &example("example 1")), "best 0 1\nplan 0 0 0\n");
+        assert_eq!(best(&mut planner, &example("example 7")), "best 5 3\nplan 5 0 1\n0 1\n");
+        let lines = "best 4 4\nplan 6 1 0\n0 1\n1 0\n2 0\n3 0\n";
+        assert_eq!(best(&mut planner, &example("example 8")), lines);
+        assert_eq!(best(&mut planner, &[]), "fault 2 0\n");
+        assert_eq!(best(&mut planner, &samples::faulty()), "fault 6 24\n");
     }
 
     #[test]

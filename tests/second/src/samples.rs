@@ -181,7 +181,7 @@ mod tests {
     use super::*;
     use crate::codec::door::Codec;
     use crate::codec::fault::Fault;
-    use crate::corpus::print_answer;
+    use crate::corpus::{print_answer, print_best};
     use crate::planner::algorithm::{Planner, Rooms};
 
     #[test]
@@ -212,5 +212,16 @@ mod tests {
         planned(&booked(), "plan 870 11 0; places", "loads 870 600 365 505 350");
         planned(&checks(), "plan 860 7 0; places 1 2 3 4 1 2", "0 3; loads 860 485 365 360 320");
         assert_eq!(plan(&none()), "none 37; benches 0 1");
+    }
+    #[test]
+    fn the_bay_samples_have_the_best_targets_that_are_described() {
+        let best = |sheet: &[u8], front: &str, loads: &str| {
+            let answer = print_best(Planner::new().best(sheet, Rooms::FULL));
+            assert!(answer.starts_with(front) && answer.ends_with(loads), "{answer}");
+        };
+        best(&bay(), "best 323 13; plan 580 12 0; places", "loads 580 440 455 410 505");
+        best(&booked(), "best 377 12; plan 700 13 0; places", "loads 700 485 500 480 525");
+        best(&none(), "best 517 13; plan 960 38 0; places", "loads 960 710 500 635 785");
+        best(&example_12(), "best 9 5; plan 15 0 0; places 0 0 0; ", "loads 15 0");
     }
 }

@@ -1,12 +1,13 @@
--- The buffer has more than 65,536 bytes, so what it holds of the input is read as the whole input (frame ReadPrefix).
+-- The buffer has more than 65,536 bytes, so what it holds of the input gives the text of the whole input (InputText).
 use Prim.Native.Nat.{_≤_}
 use native.Mathlib.Omega.{arith}
 use mathlib.Core.Path.{sym}
 use lib.ListN.{length}
 use lib.Seq.{length-take-le}
 use denote.Ref.{now}
-use Rattle.frame.proofs.ReadPrefix.{buffer-read, full-buffer-read}
-use Rattle.bay.proofs.PrintedLaws.{prints-read}
+use Rattle.printing.proofs.InputText.{part-text, full-text}
+use Rattle.bay.specs.Printed.{printedLines}
+use Rattle.bay.proofs.PrintedLaws.{lines-read}
 use borrow.Author.Needs.{needs}
 use Rattle.bay.proofs.printed.Statement.{statement}
 use Rattle.bay.proofs.printed.Tie as tie
@@ -24,8 +25,8 @@ returns : tie.Need-returns
 returns c s held =
     let whole = c .before .before .before .before .whole in
     let args = c .before .before .before .before .before .args in
-    let alike = buffer-read (now (args .buffer)) s (args .n) (omega (arith, whole .given)) held in
-    prints-read alike (c .text-of .ensures)
+    part-text printedLines lines-read (now (args .buffer)) s (args .n) (omega (arith, whole .given)) held
+    (c .text-of .ensures)
 
 text-of-requires-2 : tie.Need-text-of-requires-2
 text-of-requires-2 c κs = search needs
@@ -35,8 +36,8 @@ returns-2 c s held =
     let whole = c .before .before .before .whole in
     let args = c .before .before .before .before .args in
     let full : length (now (args .buffer)) ≤ args .n = omega (arith, c .before .before .if1 .left, whole .given) in
-    let alike = full-buffer-read (now (args .buffer)) s (args .n) (omega (arith, whole .given)) held full in
-    prints-read alike (c .text-of2 .ensures)
+    full-text printedLines lines-read (now (args .buffer)) s (args .n) (omega (arith, whole .given)) held full
+    (c .text-of2 .ensures)
 
 pub printed-spec : {M : Type 1} → statement M
 printed-spec =

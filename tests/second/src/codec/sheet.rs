@@ -61,6 +61,7 @@ pub fn first_benches(benches: u64) -> u64 {
 }
 
 /// A sheet that is read or to be written: "0 to 512" jobs, "numbered in sheet order".
+#[derive(Clone)]
 pub struct Sheet {
     head: Head,
     benches: u64,
@@ -93,6 +94,13 @@ impl Sheet {
 
     pub fn jobs(&self) -> &[Job] {
         &self.jobs[..self.count]
+    }
+
+    /// The same sheet with another target.
+    pub fn with_target(&self, target: u64) -> Sheet {
+        let mut sheet = self.clone();
+        sheet.head.target = target;
+        sheet
     }
 
     /// Takes the head, with no booking and no job yet, or gives the number of its fault: tests 7

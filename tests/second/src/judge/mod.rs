@@ -4,7 +4,13 @@
 //! names the fullest bench, a none's set is blocking, long is the lowest job above T. Of a sheet
 //! with few assignments besides: where one of them keeps every bench within T, the answer is a
 //! plan.
+//!
+//! - `best`: what a best target must be.
 
+pub mod best;
+
+#[cfg(test)]
+mod best_tests;
 #[cfg(test)]
 mod judge_tests;
 

@@ -47,49 +47,46 @@ pub struct Counts {
     pub budget: u64,
 }
 
-/// The planner with places to work in, so that a call takes nothing from the heap.
-pub struct Planner {
-    codec: Codec,
+/// The places and loads of the last plan.
+pub(super) struct Tables {
     places: [u64; MAX_JOBS],
     loads: [u64; 64],
-    counts: Counts,
+}
+
+impl Tables {
+    /// The places of a sheet's jobs and the loads of its benches.
+    pub(super) fn of(&self, sheet: &Sheet) -> (&[u64], &[u64]) {
+        (&self.places[..sheet.jobs().len()], &self.loads[..sheet.head().benches as usize])
+    }
+}
+
+/// The planner with places to work in, so that a call takes nothing from the heap.
+pub struct Planner {
+    pub(super) codec: Codec,
+    pub(super) tables: Tables,
+    pub(super) counts: Counts,
 }
 
 impl Planner {
     pub fn new() -> Planner {
-        let counts = Counts::default();
-        Planner { codec: Codec::default(), places: [0; MAX_JOBS], loads: [0; 64], counts }
+        let tables = Tables { places: [0; MAX_JOBS], loads: [0; 64] };
+        Planner { codec: Codec::default(), tables, counts: Counts::default() }
     }
 
-    /// What the last call did.
+    /// What the last run did; nothing after a fault.
     pub fn counts(&self) -> &Counts {
         &self.counts
     }
 
     pub fn plan(&mut self, bytes: &[u8], rooms: Rooms) -> Result<Answer<'_>, Fault> {
-        let Planner { codec, places, loads, counts } = self;
-        *counts = Counts::default();
-        let sheet = codec.read(bytes)?;
-        let (jobs, benches) = (sheet.jobs().len(), sheet.head().benches as usize);
-        // "The table of places is shorter than the jobs, or the table of loads shorter than the
-        // benches (place 0)."
-        if rooms.places < jobs || rooms.loads < benches {
-            return Err(Fault::new(NO_ROOM, 0));
-        }
-        // "Long: the lowest job with more than T minutes. Tried before the run."
-        let target = sheet.head().target;
-        if let Some(job) = sheet.jobs().iter().position(|job| job.minutes > target) {
-            return Ok(Answer::Long { job });
-        }
-        match run(sheet, places, counts) {
-            Err((benches, moves)) => Ok(Answer::None { benches, moves }),
-            Ok(moves) => {
-                add_loads(sheet, places, loads);
-                let (places, loads) = (&places[..jobs], &loads[..benches]);
-                let (fullest, largest) = fullest(loads);
-                Ok(Answer::Plan { largest, moves, fullest, places, loads })
-            }
-        }
+        self.counts = Counts::default();
+        let sheet = read(&mut self.codec, bytes, rooms)?;
+        Ok(answer(sheet, &mut self.tables, &mut self.counts))
+    }
+
+    /// Plans a sheet that was read, with another target.
+    pub fn plan_at(&mut self, sheet: &Sheet, target: u64) -> Answer<'_> {
+        answer(&sheet.with_target(target), &mut self.tables, &mut self.counts)
     }
 
     /// "Two plans of one sheet count as the same when every bench has the same load."
@@ -117,6 +114,40 @@ impl Planner {
 impl Default for Planner {
     fn default() -> Planner {
         Planner::new()
+    }
+}
+
+/// Reads a sheet for which the tables have room.
+pub(super) fn read<'a>(
+    codec: &'a mut Codec,
+    bytes: &[u8],
+    rooms: Rooms,
+) -> Result<&'a Sheet, Fault> {
+    let sheet = codec.read(bytes)?;
+    // "The table of places is shorter than the jobs, or the table of loads shorter than the benches
+    // (place 0)."
+    if rooms.places < sheet.jobs().len() || rooms.loads < sheet.head().benches as usize {
+        return Err(Fault::new(NO_ROOM, 0));
+    }
+    Ok(sheet)
+}
+
+/// The answer to a sheet. Only a plan is put in the tables.
+pub(super) fn answer<'a>(sheet: &Sheet, tables: &'a mut Tables, counts: &mut Counts) -> Answer<'a> {
+    *counts = Counts::default();
+    // "Long: the lowest job with more than T minutes. Tried before the run."
+    let target = sheet.head().target;
+    if let Some(job) = sheet.jobs().iter().position(|job| job.minutes > target) {
+        return Answer::Long { job };
+    }
+    match run(sheet, &mut tables.places, counts) {
+        Err((benches, moves)) => Answer::None { benches, moves },
+        Ok(moves) => {
+            add_loads(sheet, &tables.places, &mut tables.loads);
+            let (places, loads) = tables.of(sheet);
+            let (fullest, largest) = fullest(loads);
+            Answer::Plan { largest, moves, fullest, places, loads }
+        }
     }
 }
 

@@ -1,13 +1,18 @@
-//! Planning and comparing as the static library offers them: tables of 8-byte numbers, least
-//! significant byte first, and a result word. The layout of the answer table stands here alone.
+//! Planning, finding the best target and comparing as the static library offers them: tables of
+//! 8-byte numbers, least significant byte first, and a result word. The layouts of the two answer
+//! tables stand here alone.
 
 use super::algorithm::{Answer, Comparison, Planner, Rooms};
+use super::best::Best;
 use crate::codec::door::{numbers, word, ENTRY_BYTES};
 
 /// The value of the result word for each answer.
 pub const PLAN: u64 = 1;
 pub const LONG: u64 = 2;
 pub const NONE: u64 = 3;
+
+/// The value of the result word for a best target.
+pub const BEST: u64 = 1;
 
 /// The value of the result word for each outcome of a comparison.
 pub const DIFFERENT: u64 = 0;
@@ -17,9 +22,20 @@ pub const SAME: u64 = 1;
 /// of a long one; set of benches, moves and 0 of a none.
 pub const ANSWER_ENTRIES: usize = 3;
 
+/// The entries of the answer table of a best target: target, largest load, moves and fullest bench
+/// of its plan, and the number of targets run.
+pub const BEST_ENTRIES: usize = 5;
+
 /// The entries that a table has room for: a begun one is no room.
 fn room(table: &[u8]) -> usize {
     table.len() / ENTRY_BYTES
+}
+
+/// The room for places and loads. A short answer table is tried with the others: every sheet has a
+/// bench, so that a table of loads without room is fault 13.
+fn rooms(places: &[u8], loads: &[u8], answer: &[u8], entries: usize) -> Rooms {
+    let has_answer = room(answer) >= entries;
+    Rooms { places: room(places), loads: if has_answer { room(loads) } else { 0 } }
 }
 
 fn put(table: &mut [u8], values: &[u64]) {
@@ -37,11 +53,7 @@ pub fn plan(
     loads: &mut [u8],
     answer: &mut [u8],
 ) -> u64 {
-    // A short answer table is tried with the others. Every sheet has a bench, so that a table of
-    // loads without room is fault 13.
-    let has_answer = room(answer) >= ANSWER_ENTRIES;
-    let rooms = Rooms { places: room(places), loads: if has_answer { room(loads) } else { 0 } };
-    match planner.plan(sheet, rooms) {
+    match planner.plan(sheet, rooms(places, loads, answer, ANSWER_ENTRIES)) {
         Err(fault) => word(Err(fault)),
         Ok(Answer::Long { job }) => {
             put(answer, &[job as u64, 0, 0]);
@@ -56,6 +68,26 @@ pub fn plan(
             put(places, benches);
             put(loads, minutes);
             PLAN
+        }
+    }
+}
+
+/// Finds the best target of a sheet. Later bytes of each table keep their contents, and after a
+/// fault all do.
+pub fn best(
+    planner: &mut Planner,
+    sheet: &[u8],
+    places: &mut [u8],
+    loads: &mut [u8],
+    answer: &mut [u8],
+) -> u64 {
+    match planner.best(sheet, rooms(places, loads, answer, BEST_ENTRIES)) {
+        Err(fault) => word(Err(fault)),
+        Ok(Best { target, runs, largest, moves, fullest, places: benches, loads: minutes }) => {
+            put(answer, &[target, largest, moves, fullest as u64, runs]);
+            put(places, benches);
+            put(loads, minutes);
+            BEST
         }
     }
 }

@@ -1,11 +1,12 @@
 //! Planning through tables: layouts, room, and bytes that keep their contents.
 
 use super::algorithm::Planner;
-use super::door::{self, LONG, NONE, PLAN};
-use super::example_tests::{head, job};
+use super::door::{self, BEST, LONG, NONE, PLAN};
+use super::example_tests::{booked, head, job};
 use crate::codec::door::word;
 use crate::codec::fault::Fault;
 use crate::codec::sheet::{Head, Job};
+use crate::gen::day::Day;
 use crate::gen::draft::Draft;
 
 const FILL: u8 = 0xA5;
@@ -16,6 +17,14 @@ fn plan(head: Head, jobs: &[Job], rooms: [usize; 3]) -> (u64, [Vec<u8>; 3]) {
     let [places, loads, answer] = &mut tables;
     let sheet = Draft::new(head, jobs).bytes();
     (door::plan(&mut Planner::new(), &sheet, places, loads, answer), tables)
+}
+
+/// The same for the best target.
+fn best(day: &Day, rooms: [usize; 3]) -> (u64, [Vec<u8>; 3]) {
+    let mut tables = rooms.map(|room| vec![FILL; room]);
+    let [places, loads, answer] = &mut tables;
+    let sheet = day.draft().bytes();
+    (door::best(&mut Planner::new(), &sheet, places, loads, answer), tables)
 }
 
 /// These entries, and so many bytes behind them that keep their contents.
@@ -70,4 +79,36 @@ fn a_begun_entry_is_no_room() {
             assert_eq!(answer, (no_room, untouched));
         }
     }
+}
+
+#[test]
+fn a_best_target_fills_three_tables() {
+    // Example 8, whatever the sheet's target is: tried are 8, 4, 2 and 3.
+    for target in [0, 4, 8] {
+        let day = Day::new(head(2, target), vec![job(2, &[0, 1]); 4]);
+        let expected = [table(&[1, 0, 0, 0], 9), table(&[6, 2], 8), table(&[4, 6, 1, 0, 4], 7)];
+        assert_eq!(best(&day, [41, 24, 47]), (BEST, expected));
+    }
+    // The fullest bench is another than 0, and the plan is not that of the start.
+    let day = booked(head(2, 9), &[(1, 4)], &[job(5, &[0, 1])]);
+    let expected = [table(&[1], 0), table(&[0, 9], 0), table(&[5, 9, 0, 1, 5], 0)];
+    assert_eq!(best(&day, [8, 16, 40]), (BEST, expected));
+    let day = Day::new(head(1, 9), vec![]);
+    let expected = [table(&[], 0), table(&[0], 1), table(&[0, 0, 0, 0, 1], 40)];
+    assert_eq!(best(&day, [0, 9, 80]), (BEST, expected));
+}
+
+#[test]
+fn a_best_target_has_five_entries() {
+    let no_room = word(Err(Fault::new(13, 0)));
+    let day = Day::new(head(2, 9), vec![job(5, &[0, 1]); 3]);
+    let short = [[23, 16, 40], [24, 15, 40], [24, 16, 39], [24, 16, 32], [24, 16, 24], [0, 0, 0]];
+    for rooms in short {
+        let untouched = rooms.map(|room| table(&[], room));
+        assert_eq!(best(&day, rooms), (no_room, untouched));
+    }
+    assert_eq!(best(&day, [24, 16, 40]).0, BEST);
+    // Fault 12 comes before the tables.
+    let day = Day::new(head(3, 9), vec![job(7, &[0]), job(5, &[0, 1, 2])]);
+    assert_eq!(best(&day, [0, 0, 0]).0, word(Err(Fault::new(12, 1))));
 }

@@ -1,4 +1,4 @@
-//! The second planner: document 01's run, written from that document, requests S-1 to S-3 of
+//! The second planner: document 01's run, written from that document, requests S-1 to S-4 of
 //! document 02 and chapter 4 of source document 000. Sentences in quotation marks are theirs. Every
 //! weight is multiplied by 3q when it enters the run, so that each comparison is exact.
 //!
@@ -9,6 +9,7 @@
 //! - `explore`: EXPLORE2 with conflict set, activated set and levels.
 //! - `push`: the PUSH operation.
 //! - `algorithm`: Algorithm 2, from bytes to the answer; the comparison of two plans.
+//! - `best`: the search for the best target.
 //! - `door`: the same through tables and result words, as the static library has them.
 //!
 //! Words of chapter 4: a *rock* is a heavy job with two benches, a *pebble* a light job with two or
@@ -17,6 +18,7 @@
 
 pub mod algorithm;
 pub mod bay;
+pub mod best;
 pub mod door;
 pub mod explore;
 pub mod orientation;
@@ -24,6 +26,8 @@ pub mod push;
 pub mod rocks;
 pub mod set;
 
+#[cfg(test)]
+mod best_tests;
 #[cfg(test)]
 mod booking_tests;
 #[cfg(test)]

@@ -1,4 +1,4 @@
-//! One sheet through both programs and through the second implementation. The first difference
+//! One sheet through the three programs and through the second implementation. The first difference
 //! ends the run.
 
 use crate::process::{self, Feed};
@@ -12,6 +12,9 @@ use std::process::Command;
 use std::{env, process::exit};
 
 const ROOT: &str = concat!(env!("CARGO_MANIFEST_DIR"), "/../..");
+
+/// The programs of target/bin, and the scripts that run them.
+const PROGRAMS: [&str; 3] = ["bay", "show", "best"];
 
 pub struct Check {
     pub rng: Rng,
@@ -45,11 +48,11 @@ impl Check {
         self.class = class;
     }
 
-    /// Runs both programs on a sheet; what they print, bay first.
-    pub fn sheet(&mut self, sheet: &[u8], feed: Feed) -> [String; 2] {
+    /// Runs the programs on a sheet; what they print, in the order of `PROGRAMS`.
+    pub fn sheet(&mut self, sheet: &[u8], feed: Feed) -> [String; 3] {
         self.tally.count_sheet(self.class);
         let texts = self.texts(sheet);
-        for (program, text) in ["bay", "show"].into_iter().zip(&texts) {
+        for (program, text) in PROGRAMS.into_iter().zip(&texts) {
             let mut command = Command::new(self.folder.join(program));
             self.prints(&mut command, sheet, feed, text);
             self.expect("no sheet meets fault 10", !text.starts_with("fault 10 "), sheet);
@@ -58,22 +61,27 @@ impl Check {
         texts
     }
 
-    /// Runs both scripts from the folder samples/, on a file of it and on standard input.
+    /// Runs the scripts from the folder samples/, on a file of it and on standard input.
     pub fn scripts(&mut self, file: &str, sheet: &[u8]) {
         self.tally.count_sheet(self.class);
         let texts = self.texts(sheet);
-        for (script, text) in ["../bay", "../show"].into_iter().zip(&texts) {
+        let folder = Path::new(ROOT).join("samples");
+        for (program, text) in PROGRAMS.into_iter().zip(&texts) {
             for arguments in [&[file][..], &[]] {
-                let mut command = Command::new(Path::new(ROOT).join("samples").join(script));
-                command.args(arguments).current_dir(Path::new(ROOT).join("samples"));
+                let mut command = Command::new(folder.join("..").join(program));
+                command.args(arguments).current_dir(&folder);
                 let input = if arguments.is_empty() { sheet } else { b"" };
                 self.prints(&mut command, input, Feed::AtOnce, text);
             }
         }
     }
 
-    fn texts(&mut self, sheet: &[u8]) -> [String; 2] {
-        [printed::bay(&mut self.planner, sheet), printed::show(&mut self.codec, sheet)]
+    fn texts(&mut self, sheet: &[u8]) -> [String; 3] {
+        [
+            printed::bay(&mut self.planner, sheet),
+            printed::show(&mut self.codec, sheet),
+            printed::best(&mut self.planner, sheet),
+        ]
     }
 
     /// The program ends with status 0, prints this text, and says nothing else.

@@ -27,23 +27,29 @@ fn examples(check: &mut Check) {
     let head = Head { benches: 1, p: 4, q: 7, target: 5 };
     let example_2 = Day::new(head, vec![Job { minutes: 5, allowed: bench_bit(0) }]);
     let sheet = example_2.draft().bytes();
-    let [bay, _] = check.sheet(&sheet, Feed::AtOnce);
+    let [bay, _, best] = check.sheet(&sheet, Feed::AtOnce);
     check.expect("example 2", bay == "plan 5 0 0\n0 0\n", &sheet);
-    let [bay, show] = check.sheet(&[], Feed::AtOnce);
-    check.expect("example 11", bay == "fault 2 0\n" && bay == show, &[]);
+    check.expect("example 2, best", best == "best 5 3\nplan 5 0 0\n0 0\n", &sheet);
+    for text in check.sheet(&[], Feed::AtOnce) {
+        check.expect("example 11", text == "fault 2 0\n", &[]);
+    }
     let plain = samples::example_12();
     let mut longer = plain.clone();
     longer.splice(10..10, hex::parse("21 00 01 FF"));
     for sheet in [plain, longer] {
-        let [bay, _] = check.sheet(&sheet, Feed::AtOnce);
-        check.expect("example 12", bay == "plan 15 0 0\n0 0\n1 0\n2 0\n", &sheet);
+        let [bay, _, best] = check.sheet(&sheet, Feed::AtOnce);
+        let lines = "plan 15 0 0\n0 0\n1 0\n2 0\n";
+        check.expect("example 12", bay == lines, &sheet);
+        check.expect("example 12, best", best == format!("best 9 5\n{lines}"), &sheet);
     }
 }
 
 fn corpus(check: &mut Check) {
     check.class("the corpus");
-    for case in corpus::cases(corpus::TEXT) {
-        check.sheet(&case.day.draft().bytes(), Feed::AtOnce);
+    for text in [corpus::TEXT, corpus::BEST_TEXT] {
+        for case in corpus::cases(text) {
+            check.sheet(&case.day.draft().bytes(), Feed::AtOnce);
+        }
     }
     check.class("the folder samples/");
     for (_, sheet) in samples::all() {
@@ -87,8 +93,13 @@ fn full(check: &mut Check) {
     let mut all_benches = Day { booked: [MOST_MINUTES; 64], ..Day::new(head, vec![choice; 512]) };
     all_benches.jobs[511] = longest;
     let sheet = last_bench.draft().bytes();
-    let [bay, _] = check.sheet(&sheet, Feed::AtOnce);
+    let [bay, _, best] = check.sheet(&sheet, Feed::AtOnce);
     check.expect("the last bench", bay.starts_with("plan 536870400 0 63\n0 63\n"), &sheet);
+    check.expect(
+        "the same plan",
+        best.split_once('\n').is_some_and(|(_, rest)| rest == bay),
+        &sheet,
+    );
     let mut days = vec![all_benches];
     for _ in 0..4 {
         let size = days::full(&mut check.rng);
@@ -108,7 +119,7 @@ fn blocked(check: &mut Check) {
     jobs.push(pair(0, 32));
     let sheet = Day::new(head, jobs).draft().bytes();
     let benches: String = (0..64).map(|bench| format!(" {bench}")).collect();
-    let [bay, _] = check.sheet(&sheet, Feed::AtOnce);
+    let [bay, _, _] = check.sheet(&sheet, Feed::AtOnce);
     check.expect("the set", bay == format!("none 0{benches}\n"), &sheet);
 }
 
@@ -119,7 +130,7 @@ fn check_only(check: &mut Check) {
     for target in [0, 9] {
         let head = Head { benches: 2, p: 4, q: 7, target };
         let sheet = Day::new(head, vec![one, two, one]).draft().bytes();
-        let [bay, show] = check.sheet(&sheet, Feed::AtOnce);
+        let [bay, show, _] = check.sheet(&sheet, Feed::AtOnce);
         check.expect("a line for each", bay == "plan 0 0 0\n0 1\n1 0\n2 1\n", &sheet);
         let lines = "job 0: 0 minutes, benches 1\njob 1: 0 minutes, benches 0 1\n";
         check.expect("0 minutes are shown", show.contains(lines), &sheet);
@@ -127,7 +138,7 @@ fn check_only(check: &mut Check) {
     let head = Head { benches: 64, p: 4, q: 7, target: 0 };
     let full = vec![Job { minutes: 0, allowed: u64::MAX }; 512];
     let sheet = Day::new(head, full).draft().bytes();
-    let [bay, _] = check.sheet(&sheet, Feed::AtOnce);
+    let [bay, _, _] = check.sheet(&sheet, Feed::AtOnce);
     check.expect("512 lines", bay.starts_with("plan 0 0 0\n0 0\n"), &sheet);
     check.expect("512 lines", bay.ends_with("\n511 0\n"), &sheet);
 }
@@ -146,7 +157,7 @@ fn pieces(check: &mut Check) {
 }
 
 fn scripts(check: &mut Check) {
-    check.class("./bay and ./show from another folder");
+    check.class("the scripts from another folder");
     check.scripts("bay.sheet", &samples::bay());
     check.scripts("booked.sheet", &samples::booked());
 }

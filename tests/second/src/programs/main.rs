@@ -1,6 +1,6 @@
-//! Runs the programs behind `./bay` and `./show` on sheets, and compares what they print with what
-//! the second implementation says, byte by byte. They are those of target/bin, which `rt check`
-//! makes; YINQOCHA_PROGRAMS names another folder.
+//! Runs the programs behind `./bay`, `./show` and `./best` on sheets, and compares what they print
+//! with what the second implementation says, byte by byte. They are those of target/bin, which `rt
+//! check` makes; YINQOCHA_PROGRAMS names another folder.
 //!
 //! Arguments: the seed (default 1) and the least number of sheets (default 600).
 
@@ -35,7 +35,7 @@ fn main() -> ExitCode {
         return ExitCode::FAILURE;
     }
     println!(
-        "programs: both print what the second implementation says on all {} sheets \
+        "programs: all print what the second implementation says on all {} sheets \
          (seed {seed}, {:.1} s)",
         check.tally.sheets,
         start.elapsed().as_secs_f64()

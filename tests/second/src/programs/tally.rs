@@ -26,21 +26,25 @@ fn wanted() -> Vec<String> {
         "show: sheet",
         "show: booked sheet",
         "show: sheet with check-only jobs",
+        "best: target 0",
+        "best: target above 0",
     ];
     let answers = answers.map(String::from);
-    let faults = FAULTS
-        .into_iter()
-        .flat_map(|number| ["bay", "show"].map(|program| format!("{program}: fault {number}")));
+    let faults = FAULTS.into_iter().flat_map(|number| {
+        ["bay", "show", "best"].map(|program| format!("{program}: fault {number}"))
+    });
     answers.into_iter().chain(faults).collect()
 }
 
 /// The kind of a text: its first word; of a fault also the number, of a plan also the fullest
-/// bench, behind two numbers; a sheet's head is a number, and its bookings have lines of their own.
-/// Jobs of 0 minutes come before the bookings.
+/// bench, behind two numbers, of a best target whether it is 0; a sheet's head is a number, and its
+/// bookings have lines of their own. Jobs of 0 minutes come before the bookings.
 fn kind(text: &str) -> String {
     let mut words = text.split_whitespace();
     match words.next() {
         Some("fault") => format!("fault {}", words.next().unwrap_or("")),
+        Some("best") if words.next() == Some("0") => "target 0".to_string(),
+        Some("best") => "target above 0".to_string(),
         Some("plan") if words.nth(2) == Some("0") => "plan, bench 0 the fullest".to_string(),
         Some("plan") => "plan, another bench the fullest".to_string(),
         Some(word) if word.parse::<u64>().is_err() => word.to_string(),

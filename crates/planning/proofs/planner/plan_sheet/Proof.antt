@@ -6,7 +6,7 @@ use Rattle.day.specs.Day.{dayOf}
 use Rattle.algorithm.specs.Run.{run}
 use Rattle.deciding.specs.Decision.{placesIn}
 use Rattle.planning.specs.Places.{Places}
-use Rattle.planning.proofs.SheetRun.{day-lent, short-places, short-loads, long-enough}
+use Rattle.planning.proofs.SheetRun.{day-lent, places-short, loads-short, tables-fit, short-answer, long-enough}
 use Rattle.planning.proofs.SheetRun.{decided-long, decided-none, decided-plan}
 use borrow.Author.Needs.{needs}
 use Rattle.planning.proofs.planner.plan_sheet.Statement.{statement}
@@ -23,8 +23,9 @@ returns c =
     let loads = at-args .loads .now in
     λ bytes sheet read same.
     rw (c .unwritten .ensures)
-    (short-places bytes sheet (at-args .t1) read same (length places) (length loads)
-    (omega (arith, after-if1 .if1 .taken)) places loads)
+    (short-answer bytes sheet (at-args .t1) read same (length places) (length loads)
+    (places-short bytes sheet (at-args .t1) read same (length places) (length loads)
+    (omega (arith, after-if1 .if1 .taken))) places loads)
 
 unwritten-requires-2 : tie.Need-unwritten-requires-2
 unwritten-requires-2 c κs = search needs
@@ -38,8 +39,9 @@ returns-2 c =
     let loads = at-args .loads .now in
     λ bytes sheet read same.
     rw (c .unwritten2 .ensures)
-    (short-loads bytes sheet (at-args .t1) read same (length places) (length loads)
-    (omega (arith, after-if1 .if1 .left)) (omega (arith, after-if2 .if2 .taken)) places loads)
+    (short-answer bytes sheet (at-args .t1) read same (length places) (length loads)
+    (loads-short bytes sheet (at-args .t1) read same (length places) (length loads)
+    (omega (arith, after-if2 .if2 .taken))) places loads)
 
 slice-aggregate-narrow : tie.Need-slice-aggregate-narrow
 slice-aggregate-narrow c = search needs
@@ -107,7 +109,8 @@ returns-3 c =
     (after-narrow3 .narrow3 .ensures) in
     let D = after-decide .decide .ensures (dayOf sheet) L in
     let enough = long-enough bytes sheet s read same (length places) (length loads)
-    (omega (arith, after-if1 .if1 .left)) (omega (arith, after-if2 .if2 .left)) in
+    (tables-fit bytes sheet s read same (length places) (length loads)
+    (omega (arith, after-if1 .if1 .left)) (omega (arith, after-if2 .if2 .left))) in
     let told = sym (after-decision .decision .given .1) ∙ D .decision in
     rw (c .unwritten3 .ensures) (enough _ places loads places loads (decided-long (dayOf sheet) _ told places loads))
 
@@ -129,7 +132,8 @@ returns-4 c =
     (after-narrow3 .narrow3 .ensures) in
     let D = after-decide .decide .ensures (dayOf sheet) L in
     let enough = long-enough bytes sheet s read same (length places) (length loads)
-    (omega (arith, after-if1 .if1 .left)) (omega (arith, after-if2 .if2 .left)) in
+    (tables-fit bytes sheet s read same (length places) (length loads)
+    (omega (arith, after-if1 .if1 .left)) (omega (arith, after-if2 .if2 .left))) in
     let told = sym (after-decision .decision2 .given .1) ∙ D .decision in
     rw (c .unwritten4 .ensures) (enough _ places loads places loads (decided-none (dayOf sheet) _ told places loads))
 
@@ -161,7 +165,8 @@ returns-5 c =
     (after-narrow3 .narrow3 .ensures) in
     let D = after-decide .decide .ensures (dayOf sheet) L in
     let enough = long-enough bytes sheet s read same (length places) (length loads)
-    (omega (arith, after-if1 .if1 .left)) (omega (arith, after-if2 .if2 .left)) in
+    (tables-fit bytes sheet s read same (length places) (length loads)
+    (omega (arith, after-if1 .if1 .left)) (omega (arith, after-if2 .if2 .left))) in
     let F = L .fields in
     let ps = placesIn (run (dayOf sheet)) in
     let P : Places (dayOf sheet) (s .count) (s .head .benches) _ _ place ps = record {
@@ -175,7 +180,9 @@ returns-5 c =
     let written = after-write-plan .write-plan .ensures (dayOf sheet) ps P
     (omega (arith, sized, F .jobs-are, F .bounded .few-jobs))
     (omega (arith, after-if1 .if1 .left, F .jobs-are)) (omega (arith, after-if2 .if2 .left, L .benches-are)) in
-    enough _ places loads _ _ (decided-plan (dayOf sheet) _ (sym told ∙ D .decision) written)
+    enough _ places loads _ _
+    (decided-plan (dayOf sheet) _ (sym told ∙ D .decision) (D .one-to-a-job _ told) (F .jobs-are) (L .benches-are)
+    written)
 
 pub plan-sheet-spec : {M : Type 1} → statement M
 plan-sheet-spec =

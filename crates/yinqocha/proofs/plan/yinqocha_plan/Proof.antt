@@ -12,8 +12,9 @@ use lib.Dec.{ltb}
 use lib.ListN.{length, take, drop, replicate}
 use Rattle.answers.specs.declared.answer.Answer.the-variants.{Plan, Long, None}
 use Rattle.tables.specs.Tables.{roomOf}
+use Rattle.tables.proofs.LentSteps.{front-length, still-inside}
 use Rattle.door.proofs.DoorDemand.{with-claim}
-use Rattle.yinqocha.proofs.PlanSteps.{front-length, still-inside, loads-room}
+use Rattle.door.proofs.RoomLaws.{loads-room}
 use Rattle.yinqocha.proofs.PlanSteps.{jobs-fit, benches-fit, answer-called, fault-called}
 use Rattle.yinqocha.proofs.plan.yinqocha_plan.Statement.{statement}
 use Rattle.yinqocha.proofs.plan.yinqocha_plan.Tie as tie
@@ -39,8 +40,9 @@ loads-handed : (c : tie.Joined1)
 loads-handed c =
     let a = c .before .before .before .before .before .before .args in
     sym (front-length (c .if1 .nl) (replicate 64 0) (loads-fit c))
-    ∙ loads-room (now (a .loads)) (now (a .answer))
-    (⊎-elim (λ w. inl (w .0 .taken, w .1)) (λ w. inr (w .0 .left, w .2 ∙ w .1 .ensures)) (c .if1 .came))
+    ∙ loads-room 3 (now (a .loads)) (now (a .answer))
+    (⊎-elim (λ w. inl (omega (arith, w .0 .taken), w .1))
+    (λ w. inr (omega (arith, w .0 .left), w .2 ∙ w .1 .ensures)) (c .if1 .came))
 
 -- What stands behind the part that is handed on.
 abbrev behind-places : tie.Joined1 → List ℕ

@@ -1,6 +1,8 @@
 //! One sheet through the second planner, through the library where it is linked, and before the
 //! judge. Tables are compared byte by byte. The first difference ends the run.
 
+mod best;
+
 use crate::kinds::kinds;
 use crate::library;
 use crate::planned::{words, Planned};
@@ -43,6 +45,9 @@ pub struct Check {
 /// The bytes of the tables of places, of loads and of the answer.
 pub type TableBytes = [usize; 3];
 
+/// A call of the library on a sheet and the three tables; its result word, if it is linked.
+type Call = fn(&[u8], [&mut [u8]; 3], Empty) -> Option<u64>;
+
 impl Check {
     pub fn new(seed: u64) -> Check {
         Check {
@@ -66,15 +71,20 @@ impl Check {
 
     /// Plans a sheet, with tables that have room for it, exactly or more.
     pub fn plan(&mut self, sheet: &[u8], rival: Rival) -> Planned {
+        let rooms = self.room_for(sheet, ANSWER_ENTRIES);
+        self.plan_into(sheet, rooms, rival)
+    }
+
+    /// Tables that have room for a sheet and so many entries of the answer, exactly or more.
+    fn room_for(&mut self, sheet: &[u8], answer: usize) -> TableBytes {
         let (jobs, benches) = match self.codec.read(sheet) {
             Ok(sheet) => (sheet.jobs().len(), sheet.head().benches as usize),
             Err(_) => (self.rng.below(4), self.rng.below(4)),
         };
-        let rooms = [jobs, benches, ANSWER_ENTRIES].map(|entries| {
+        [jobs, benches, answer].map(|entries| {
             let more = if self.rng.one_in(2) { 0 } else { self.rng.below(30) };
             ENTRY_BYTES * entries + more
-        });
-        self.plan_into(sheet, rooms, rival)
+        })
     }
 
     /// Plans a sheet, with tables of so many bytes.
@@ -83,7 +93,7 @@ impl Check {
         let before = expected.clone();
         let [places, loads, answer] = expected.each_mut().map(Guarded::inside_mut);
         let word = door::plan(&mut self.planner, sheet, places, loads, answer);
-        self.set_library_against(sheet, word, before, &expected);
+        self.set_library_against(library::plan, sheet, word, before, &expected);
         self.expect("no sheet meets fault 10", fault_number(word) != MINUTES, sheet);
         let planned = Planned::new(self.codec.read(sheet).ok(), word, &expected);
         if let Ok(answer) = planned.answer() {
@@ -96,6 +106,7 @@ impl Check {
 
     fn set_library_against(
         &mut self,
+        call: Call,
         sheet: &[u8],
         word: u64,
         mut found: [Guarded; 3],
@@ -105,7 +116,7 @@ impl Check {
         let lent = input.clone();
         let empty = self.rng.pick(&[Empty::Null, Empty::Pointer]);
         let tables = found.each_mut().map(Guarded::inside_mut);
-        let Some(library) = library::plan(lent.inside(), tables, empty) else { return };
+        let Some(library) = call(lent.inside(), tables, empty) else { return };
         self.same_word(library, word, sheet);
         let names = ["the table of places", "the table of loads", "the answer table"];
         for (name, (found, expected)) in names.into_iter().zip(found.iter().zip(expected)) {
@@ -194,5 +205,5 @@ fn case_of(sheet: &[u8]) -> Option<Case> {
     let read = codec.read(sheet).ok()?;
     let day = Day::of(read);
     let answer = print_answer(Planner::new().plan(sheet, Rooms::FULL));
-    Some(Case { name: "failed".to_string(), day, without: None, answer })
+    Some(Case { name: "failed".to_string(), day, without: None, tried: None, answer })
 }

@@ -29,7 +29,7 @@ pub fn tiny_day(check: &mut Check) -> Day {
     days::any(&mut check.rng, size)
 }
 
-fn middle_day(check: &mut Check) -> Day {
+pub fn middle_day(check: &mut Check) -> Day {
     let size = days::middle(&mut check.rng);
     days::any(&mut check.rng, size)
 }

@@ -1,13 +1,18 @@
-//! Plans random sheets by the second planner, has each answer judged, and, with the feature
-//! `library`, sets the static library against it: answers and tables, byte by byte.
+//! Plans random sheets by the second planner, finds best targets, has each answer judged, and, with
+//! the feature `library`, sets the static library against it: answers and tables, byte by byte.
 //!
 //! Arguments: the seed (default 1) and the least number of sheets (default 100,000).
 
+mod best;
+mod best_kinds;
+mod best_library;
+mod best_refused;
 mod check;
 mod check_only;
 mod classes;
 mod compare;
 mod fixed;
+mod fixed_best;
 mod fixed_check_only;
 mod fixed_fullest;
 mod kinds;
@@ -32,18 +37,7 @@ fn main() -> ExitCode {
     let start = Instant::now();
     println!("plans: seed {seed}");
     let mut check = Check::new(seed);
-    fixed::all(&mut check);
-    fixed_fullest::all(&mut check);
-    fixed_check_only::all(&mut check);
-    check.tally.forget_met();
-    let mut rounds = 0;
-    while rounds < ROUNDS || check.tally.sheets < sheets {
-        rounds += 1;
-        classes::round(&mut check);
-        check_only::round(&mut check);
-        refused::round(&mut check);
-        compare::round(&mut check);
-    }
+    all(&mut check, sheets);
     check.tally.print();
     let too_seldom = check.tally.too_seldom();
     if !too_seldom.is_empty() {
@@ -56,10 +50,31 @@ fn main() -> ExitCode {
         "the judge agrees with the second planner (library not linked)"
     };
     println!(
-        "plans: {subject} on all {} sheets and {} comparisons (seed {seed}, {:.1} s)",
+        "plans: {subject} on all {} sheets, {} comparisons and {} best targets \
+         (seed {seed}, {:.1} s)",
         check.tally.sheets,
         check.tally.comparisons,
+        check.tally.searches,
         start.elapsed().as_secs_f64()
     );
     ExitCode::SUCCESS
+}
+
+/// The fixed sheets, then rounds of random ones.
+fn all(check: &mut Check, sheets: u64) {
+    fixed::all(check);
+    fixed_fullest::all(check);
+    fixed_check_only::all(check);
+    fixed_best::all(check);
+    check.tally.forget_met();
+    let mut rounds = 0;
+    while rounds < ROUNDS || check.tally.sheets < sheets {
+        rounds += 1;
+        classes::round(check);
+        check_only::round(check);
+        refused::round(check);
+        compare::round(check);
+        best::round(check);
+        best_refused::round(check);
+    }
 }

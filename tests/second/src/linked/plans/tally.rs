@@ -1,13 +1,15 @@
 //! How many sheets of each class were met, and what their runs did.
 
 use second::codec::door::fault_number;
+use second::codec::fault::Fault;
 use second::planner::algorithm::Counts;
+use second::planner::best::Best;
 use second::planner::door::{LONG, PLAN, SAME};
 
 /// A run whose random sheets meet one of these less often has not tested it.
 const LEAST: u64 = 100;
 
-const WANTED: [&str; 70] = [
+const WANTED: [&str; 105] = [
     "plan at once",
     "plan after moves",
     "none of a crowded component",
@@ -78,6 +80,41 @@ const WANTED: [&str; 70] = [
     "comparison: fault 13, place 0",
     "comparison: fault 13, place 1",
     "comparison: of two plans",
+    "best: target 0",
+    "best: the start",
+    "best: between 0 and the start",
+    "best: the last run is refused",
+    "best: the last run is its plan",
+    "best: one below is long",
+    "best: one below is none",
+    "best: below the best possible largest load",
+    "best: at the best possible largest load",
+    "best: no job, no booking",
+    "best: bookings alone",
+    "best: check-only jobs alone",
+    "best: with check-only jobs",
+    "best: with bookings",
+    "best: plan after moves",
+    "best: fullest bench above 0",
+    "best: another plan than that of the start",
+    "best: 20 runs or more",
+    "best: full sheet",
+    "best: full sheet with bookings",
+    "best: full sheet with check-only jobs alone",
+    "best: fault 1",
+    "best: fault 2",
+    "best: fault 3",
+    "best: fault 4",
+    "best: fault 5",
+    "best: fault 6",
+    "best: fault 7",
+    "best: fault 8",
+    "best: fault 9",
+    "best: fault 11",
+    "best: fault 12",
+    "best: fault 13",
+    "best: fault 14",
+    "best: fault 15",
 ];
 
 #[derive(Default)]
@@ -86,6 +123,10 @@ pub struct Tally {
     met: Vec<(String, u64)>,
     pub sheets: u64,
     pub comparisons: u64,
+    pub searches: u64,
+    /// Targets run by the searches.
+    targets: u64,
+    most_targets: u64,
     moves: u64,
     most_moves: u64,
     explorations: u64,
@@ -147,6 +188,19 @@ impl Tally {
         self.highest_level = self.highest_level.max(explored.highest_level);
     }
 
+    /// Counts one search for the best target.
+    pub fn count_search(&mut self, class: &'static str, best: Result<Best, Fault>) {
+        self.searches += 1;
+        add(&mut self.classes, class);
+        match best {
+            Err(Fault { number, .. }) => self.meet(&format!("best: fault {number}")),
+            Ok(Best { runs, .. }) => {
+                self.targets += runs;
+                self.most_targets = self.most_targets.max(runs);
+            }
+        }
+    }
+
     pub fn count_comparison(&mut self, class: &'static str, word: u64) {
         self.comparisons += 1;
         add(&mut self.classes, class);
@@ -179,7 +233,11 @@ impl Tally {
             println!("{what:<52} {:>9}", self.times(what));
         }
         println!(
-            "\n{} moves, most in one run {}; {} explorations of {} rounds; highest level {}\n",
+            "\n{} searches run {} targets, most in one search {}",
+            self.searches, self.targets, self.most_targets
+        );
+        println!(
+            "{} moves, most in one run {}; {} explorations of {} rounds; highest level {}\n",
             self.moves, self.most_moves, self.explorations, self.rounds, self.highest_level
         );
     }

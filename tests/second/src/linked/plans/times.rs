@@ -9,65 +9,29 @@
 mod library;
 mod thread_time;
 mod timed_sheets;
+mod timing;
 
-use second::codec::door::entry;
-use second::codec::sheet::MAX_JOBS;
 use second::lent::empty::Empty;
 use second::planner::algorithm::Planner;
 use second::planner::door::{self, ANSWER_ENTRIES, PLAN};
+use std::env;
 use std::hint::black_box;
 use std::process::ExitCode;
-use std::time::{Duration, Instant};
-use std::{array, env};
+use std::time::Duration;
+use timing::{least, microseconds, time, Tables, WARM_UP};
 
-const WARM_UP: usize = 3;
 const SAMPLES: usize = 50;
 /// For the library alone: times stray more between two runs of the program than within one.
 const SAMPLES_ALONE: usize = 10;
-/// The bytes of the answer table that are compared: its first two entries, so that a library that
-/// does not name the fullest bench yet can be timed too.
-const COMPARED: usize = 8 * 2;
-
-/// The tables of places, of loads and of the answer.
-struct Tables {
-    places: [u8; 8 * MAX_JOBS],
-    loads: [u8; 8 * 64],
-    answer: [u8; 8 * ANSWER_ENTRIES],
-}
-
-impl Tables {
-    fn new() -> Tables {
-        Tables { places: [0; 8 * MAX_JOBS], loads: [0; 8 * 64], answer: [0; 8 * ANSWER_ENTRIES] }
-    }
-
-    fn all(&mut self) -> [&mut [u8]; 3] {
-        [&mut self.places, &mut self.loads, &mut self.answer]
-    }
-}
+/// The entries of the answer table that are compared: the first two, so that a library that does
+/// not name the fullest bench yet can be timed too.
+const COMPARED: usize = 2;
 
 /// The library and the second planner, on tables of their own.
 struct Pair {
     planner: Planner,
-    found: Tables,
-    expected: Tables,
-}
-
-/// The best of N times, each of them taken `samples` times, in turns.
-fn best<const N: usize>(samples: usize, mut time: impl FnMut(usize) -> Duration) -> [Duration; N] {
-    let mut best = [Duration::MAX; N];
-    for sample in 0..WARM_UP + samples {
-        let times: [Duration; N] = array::from_fn(&mut time);
-        if sample >= WARM_UP {
-            best = array::from_fn(|index| best[index].min(times[index]));
-        }
-    }
-    best
-}
-
-fn time<T>(call: impl FnOnce() -> T) -> Duration {
-    let start = Instant::now();
-    black_box(call());
-    start.elapsed()
+    found: Tables<ANSWER_ENTRIES>,
+    expected: Tables<ANSWER_ENTRIES>,
 }
 
 /// As `time`, while this thread has the processor.
@@ -93,8 +57,8 @@ impl Pair {
         let word = self.second(sheet);
         if let Some(found) = self.library(sheet) {
             assert_eq!(found, word, "{name}: the result words differ");
-            let [found, expected] = [&self.found, &self.expected].map(|of| &of.answer[..COMPARED]);
-            assert_eq!(found, expected, "{name}: the answers differ");
+            let [found, expected] = [&self.found, &self.expected].map(Tables::answer);
+            assert_eq!(found[..COMPARED], expected[..COMPARED], "{name}: the answers differ");
         }
         if word == PLAN {
             "plan"
@@ -104,24 +68,24 @@ impl Pair {
     }
 
     fn print(&mut self, name: &str, sheet: &[u8]) {
-        let [library, second] = best(SAMPLES, |index| match index {
+        let [library, second] = least(SAMPLES, |index| match index {
             0 => time(|| self.library(sheet)),
             _ => time(|| self.second(sheet)),
         });
         let answer = self.answer(name, sheet);
         let explored = self.planner.counts().explored;
-        let (moves, rounds) = (entry(&self.expected.answer, 1), explored.rounds);
+        let (moves, rounds) = (self.expected.answer()[1], explored.rounds);
         print!("{name:<24} {answer} {moves:>7} {rounds:>8} {:>6}", explored.highest_level);
-        print!(" {:>11.1}", second.as_nanos() as f64 / 1000.0);
+        let [library, second] = [library, second].map(microseconds);
+        print!(" {second:>11.1}");
         if library::LINKED {
-            let ratio = library.as_nanos() as f64 / second.as_nanos() as f64;
-            print!(" {:>11.1} {ratio:>7.2}", library.as_nanos() as f64 / 1000.0);
+            print!(" {library:>11.1} {:>7.2}", library / second);
         }
         println!();
     }
 
     fn print_library(&mut self, name: &str, sheet: &[u8]) {
-        let [library] = best(SAMPLES_ALONE, |_| thread_time(|| self.library(sheet)));
+        let [library] = least(SAMPLES_ALONE, |_| thread_time(|| self.library(sheet)));
         println!("{}\t{name}\t{}", library.as_nanos(), self.answer(name, sheet));
     }
 }

@@ -1,0 +1,2 @@
+pub mod PrintedExample
+pub mod PrintedLaws

@@ -1,0 +1,5 @@
+pub mod BestDemand
+pub mod BestDoorExamples
+pub mod BestDoorRefusals
+pub mod BestReplies
+pub mod BestSteps

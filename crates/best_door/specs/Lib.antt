@@ -1,0 +1,2 @@
+pub mod BestDoor
+pub mod BestDoorClaim

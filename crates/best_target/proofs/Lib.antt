@@ -1,0 +1,3 @@
+pub mod BestRun
+pub mod BestDemand
+pub mod BestRefusals

@@ -1,0 +1,3 @@
+pub mod InputText
+pub mod SheetReplies
+pub mod TextRoom

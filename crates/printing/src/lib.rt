@@ -1,0 +1,1 @@
+// What is replied to a sheet, and how long its text is: laws only.
