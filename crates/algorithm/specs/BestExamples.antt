@@ -27,8 +27,8 @@ bestBookedRow h bs js r = record { contents = bookedSheet h bs js; reply = r }
 abbrev pub best : ℕ → ℕ → ℕ → ℕ → ℕ → List ℕ → List ℕ → BestReply
 best target runs largest moves fullest places loads = bestReply target runs (plan largest moves fullest places loads)
 
--- Share 5/6, benches booked for 14 and 35, jobs of 6, 30 and 27 on both. The planner gives a plan at 32, 34, 35 and from
--- 37 on, and refuses 33 and 36: at 33 the job of 27 is light and lies on bench 0, at 36 that of 30 too.
+-- Share 5/6, benches booked for 14 and 35, jobs of 6, 30 and 27 on both. The planner gives a plan at 32, 34, 35 and
+-- from 37 on, and refuses 33 and 36: at 33 the job of 27 is light and lies on bench 0, at 36 that of 30 too.
 abbrev pub gapContents : Contents
 gapContents = bookedSheet (bay 2 5 6 9) (14 ∷ 35 ∷ []) (both 6 ∷ both 30 ∷ both 27 ∷ [])
 
