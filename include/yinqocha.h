@@ -117,8 +117,9 @@ extern "C" {
 /* Faults of the other buffers. They share their number, since no function has both. */
 
 /* Writing, planning, finding the best target: a table or an output that the call fills is too short
- * (0). Writing: the sheet does not fit. The other two: there are fewer places than jobs, fewer
- * loads than benches, or fewer numbers for the answer than three, or five for the best target. */
+ * (0). Writing: the sheet does not fit. Planning: there are fewer places than jobs, fewer loads
+ * than benches, or fewer than three numbers for the answer. The best target: there are fewer places
+ * than jobs, fewer loads than benches, or fewer than five numbers for the answer. */
 #define YINQOCHA_NO_ROOM 13u
 /* Comparing: a list is no assignment, it does not give each job one bench that it allows (0 for the
  * first list, 1 for the second). */
@@ -398,8 +399,8 @@ uint64_t yinqocha_plan(const uint8_t *sheet, size_t sheet_len,
  *             bench of the plan with this target; the number of targets run, 1 to 31
  *   result    YINQOCHA_BEST
  *
- * Every table must have its room: places one entry for each job, loads one for each bench, answer
- * five. Later bytes of a table keep their contents.
+ * Every table must have its room whatever the answer will be: places one entry for each job, loads
+ * one for each bench, answer five. Later bytes of a table keep their contents.
  *
  * Faults: those of planning in the same order, 1, then 2 to 9, 11, 14 and 15 frame by frame, then
  * 12, then 13. After a fault all three tables keep their contents. YINQOCHA_MAX_JOBS places and
