@@ -9,11 +9,15 @@ const SHEETS: [(&str, &[&str]); 2] = [
     ("sheet_times", &["libyinqocha.a", "libinspect.a"]),
 ];
 /// The same for those that call them with the feature `library` only.
-const PLANS: [(&str, &[&str]); 3] = [
+const PLANS: [(&str, &[&str]); 5] = [
     ("plans", &["libyinqocha.a"]),
     ("plan_times", &["libyinqocha.a"]),
     ("best_times", &["libyinqocha.a"]),
+    ("light_days", &["libyinqocha.a"]),
+    ("copies", &["libyinqocha.a"]),
 ];
+/// Functions of which `copies` counts the calls: it has a function of its own for each.
+const COUNTED: [&str; 2] = ["memcpy", "memmove"];
 
 fn main() {
     println!("cargo:rerun-if-changed=build.rs");
@@ -31,5 +35,8 @@ fn main() {
             println!("cargo:rerun-if-changed={}", path.display());
             println!("cargo:rustc-link-arg-bin={program}={}", path.display());
         }
+    }
+    for function in COUNTED {
+        println!("cargo:rustc-link-arg-bin=copies=-Wl,--wrap={function}");
     }
 }

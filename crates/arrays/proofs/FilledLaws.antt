@@ -2,14 +2,15 @@
 --     filled-none, filled-more, filled-end     no entry, one more, and all of them
 --     length-filled, getD-filled, filled-rest     length and entries
 --     filled-past, filled-cut     what would come past the end is left out
+--     all-filled, all-copied     a list whose every entry was filled in with one number, or from another list
 use Prim.Native.Nat.{ℕ, zero, suc, _+_, _≤_, _<_, min}
 use mathlib.Core.Path.{_≡_, refl, sym, ap, ap₂, subst, _∙_}
 use mathlib.Core.Logic.{inl, inr}
 use mathlib.Core.List.{List}
 use native.Mathlib.Numerals.{add-one}
 use native.Mathlib.Omega.{arith}
-use lib.ListN.{length, getD, set, length-set}
-use lib.Seq.{getD-set-same, getD-set-other, set-out}
+use lib.ListN.{length, getD, set, length-set, replicate, length-replicate, getD-replicate}
+use lib.Seq.{getD-set-same, getD-set-other, set-out, ext-getD}
 use Rattle.bools.proofs.OrderLaws.{lt-or-le, last-or-below}
 use Rattle.arrays.specs.Arrays.{filled}
 
@@ -59,3 +60,25 @@ filled-cut f n end i xs least h l e = elim (lt-or-le (length xs) n) [
   | inl long ↦ e ∙ sym (filled-past f n i xs (omega (arith, least)) (omega (arith, least)))
   | inr short ↦ filled-end f n i xs (omega (arith, least)) (omega (arith, least)) e
 ]
+
+-- The first i entries of a list are filled in, and there are no others.
+module _ (f : ℕ → ℕ) (i : ℕ) (xs ys : List ℕ) (all : length ys ≤ i) (same : length ys ≡ length xs)
+    (e : ys ≡ filled i f xs) where
+  entry-filled : (k : ℕ) → k < length ys → getD ys k 0 ≡ f k
+  entry-filled k h = ap (λ (zs : List ℕ). getD zs k 0) e ∙ getD-filled f i xs k 0 (omega arith) (omega (arith, same))
+
+  filled-is : (zs : List ℕ) → length zs ≡ length xs → ((k : ℕ) → k < length zs → getD zs k 0 ≡ f k) → ys ≡ zs
+  filled-is zs sized are =
+      ext-getD 0 ys zs (same ∙ sym sized) (λ k h. entry-filled k h ∙ sym (are k (omega (arith, same, sized))))
+
+pub all-filled : (v i : ℕ) (xs ys : List ℕ) → length ys ≤ i → length ys ≡ length xs → ys ≡ filled i (λ k. v) xs
+    → ys ≡ replicate (length xs) v
+all-filled v i xs ys all same e =
+    filled-is (λ k. v) i xs ys all same e (replicate (length xs) v) (length-replicate (length xs) v)
+    (λ k h. getD-replicate (length xs) k v 0 (omega (arith, length-replicate (length xs) v)))
+
+pub all-copied : (from xs ys : List ℕ) → ys ≡ filled (length xs) (λ k. getD from k 0) xs → length from ≡ length xs
+    → ys ≡ from
+all-copied from xs ys e sized =
+    let same : length ys ≡ length xs = ap length e ∙ length-filled (λ k. getD from k 0) (length xs) xs in
+    filled-is (λ k. getD from k 0) (length xs) xs ys (omega (arith, same)) same e from sized (λ k h. refl)

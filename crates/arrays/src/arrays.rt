@@ -3,7 +3,7 @@
 ghost use mathlib.Core.Path.{_≡_};
 ghost use Prim.Native.Nat.{ℕ, _+_, _-_, _%_, _<_, _≤_, min};
 ghost use mathlib.Core.Bool.{false, cond};
-ghost use lib.ListN.{getD, set, length};
+ghost use lib.ListN.{getD, set, length, replicate};
 ghost use lib.Dec.{ltb};
 ghost use Rattle.sums.specs.Sum.{on, count};
 ghost use Rattle.arrays.specs.Arrays.{timesOf, filled, plusOf, lowerOf};
@@ -119,6 +119,29 @@ pub fn least(a: usize, b: usize) -> usize
     ensures { λ r. ⌜ r ≡ min a b ⌝ }
 {
     if a < b { a } else { b }
+}
+
+// Every entry becomes v.
+pub fn fill(t: &mut [usize], v: usize)
+    ensures { λ _. ⌜ now (t .exit) ≡ replicate (length (now (t .entry))) v ⌝ }
+{
+    let mut i = 0;
+    while i < t.len() {
+        put(t, i, v);
+        i += 1;
+    }
+}
+
+// Every entry becomes that of the other table, and 0 past its end.
+pub fn copy(from: &[usize], to: &mut [usize])
+    ensures { λ _. ⌜ now (to .exit)
+        ≡ filled (length (now (to .entry))) (λ i. getD (now (from .entry)) i 0) (now (to .entry)) ⌝ }
+{
+    let mut i = 0;
+    while i < to.len() {
+        put(to, i, at(from, i));
+        i += 1;
+    }
 }
 
 // The first n entries of one table go to the other.

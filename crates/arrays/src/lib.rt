@@ -4,9 +4,11 @@ mod arrays;
 
 pub use arrays::at;
 pub use arrays::byte;
+pub use arrays::copy;
 pub use arrays::count;
 pub use arrays::entry;
 pub use arrays::exceeds;
+pub use arrays::fill;
 pub use arrays::from_bytes;
 pub use arrays::holds;
 pub use arrays::least;

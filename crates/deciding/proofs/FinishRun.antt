@@ -84,7 +84,8 @@ module _ (n : ℕ) (jobOf : ℕ → ℕ) (job dir place : List ℕ) (apart : (r 
 -- ── the decision at the last state ──
 
 module _ (d : Day) (n : Limits) (low high weights amount : List ℕ) (pebbles : List Bool) (allowed : List ℕ)
-    (R : Ready d n low high weights amount pebbles allowed) (kept : Kept) (L : Last d kept) where
+    (R : Ready d n low high weights amount pebbles allowed) (kept : Kept) (before aims : List ℕ)
+    (L : Last d kept before aims) where
   abbrev b : Board
   b = boardOf d (L .state)
 
@@ -92,7 +93,8 @@ module _ (d : Day) (n : Limits) (low high weights amount : List ℕ) (pebbles : 
   x = explored d (L .state)
 
   pub last-rocks : Rocks b n low high weights
-  last-rocks = held-rocks d n low high weights amount pebbles allowed R (L .moves) (L .state) (kept .left) (kept .place) (L .holds .held)
+  last-rocks =
+      held-rocks d n low high weights amount pebbles allowed R (L .moves) (L .state) (start d .left) before (L .held)
 
   -- A rock is directed towards one of its ends, so its bench fits a byte.
   aim-small : (j : ℕ) → j < d .jobs → b .rock j ≡ true → {dir : List ℕ} → Directed b (settle b (x .dir)) dir → getD (settle b (x .dir)) j 0 - 1 < 256
@@ -105,14 +107,17 @@ module _ (d : Day) (n : Limits) (low high weights amount : List ℕ) (pebbles : 
       (D .pointed .to-an-end j h is)
 
   -- The places with the rocks settled are those of the plan.
-  pub settled-places : (job dir before place : List ℕ) → ((r : ℕ) → r < count (d .jobs) (isLeft d) → getD job r 0 ≡ leftJob d r)
-      → Directed b (settle b (x .dir)) dir → Held d (L .moves) (L .state) (kept .left) before → place ≡ placedOf (n .rocks) job dir before
+  pub settled-places : (job dir place : List ℕ) → ((r : ℕ) → r < count (d .jobs) (isLeft d)
+      → getD job r 0 ≡ leftJob d r)
+      → Directed b (settle b (x .dir)) dir → place ≡ placedOf (n .rocks) job dir before
       → (j : ℕ) → j < d .jobs → getD place j 0 ≡ getD (placesOf d (L .state) (settle b (x .dir))) j 0
-  settled-places job dir before place jobs-are D H e j h =
+  settled-places job dir place jobs-are D e j h =
+      let H = L .held in
       let k = n .rocks in
       let rocks-are : k ≡ rocksOf b = last-rocks .rocks in
       let job-is : (r : ℕ) → r < k → getD job r 0 ≡ rockAt b r =
-      λ r l. jobs-are r (omega (arith, R .rocks)) ∙ sym (rock-job d n low high weights amount pebbles allowed R (L .moves) (L .state) (kept .left) before H r) in
+      λ r l. jobs-are r (omega (arith, R .rocks)) ∙ sym (rock-job d n low high weights amount pebbles allowed R
+      (L .moves) (L .state) (start d .left) before H r) in
       let apart : (r s : ℕ) → r < k → s < k → r ≢ s → rockAt b r ≢ rockAt b s = λ r s hr hs ne. rock-differs b r s (omega arith) (omega arith) ne in
       let room : (r : ℕ) → r < k → rockAt b r < length before =
       λ r l. omega (arith, member-below (d .jobs) (b .rock) r 0 (omega arith), H .room) in
@@ -145,11 +150,13 @@ module _ (d : Day) (n : Limits) (low high weights amount : List ℕ) (pebbles : 
 
     pub finish-none : kept .active ≢ 0 → Decides d (record { decision = None (record { set = kept .active; moves = kept .moves }); places = replicate 512 0 })
     finish-none some =
-        let crowd = busy-shown b x (R .few-benches) (kept .active) (L .explores .active) some (L .explores .active-fits) in
+        let crowd = busy-shown b x (R .few-benches) (kept .active) (L .active) some (L .active-fits) in
         let ends = at-last-none crowd in
-        let set-is = set-of-members (d .benches) (activated b x) (R .few-benches) (kept .active) (L .explores .active-fits) (L .explores .active) in
+        let set-is = set-of-members (d .benches) (activated b x) (R .few-benches) (kept .active) (L .active-fits)
+        (L .active) in
         record {
-          decision = ap₂ (λ (s m : ℕ). None (record { set = s; moves = m })) set-is (L .holds .made) ∙ sym (ap (decisionOf d) ends);
+          decision = ap₂ (λ (s m : ℕ). None (record { set = s; moves = m })) set-is (L .made) ∙ sym (ap
+              (decisionOf d) ends);
           places = λ j h. getD-replicate {A = ℕ} 512 j 0 0 (omega (arith, R .few-jobs)) ∙ sym (ap (λ o. getD (placesIn o) j 0) ends);
           one-to-a-job = λ p e. clash {b = true} refl cc;
         }
@@ -158,10 +165,10 @@ module _ (d : Day) (n : Limits) (low high weights amount : List ℕ) (pebbles : 
         → ((j : ℕ) → j < d .jobs → getD places j 0 ≡ getD (placesOf d (L .state) (settle b (x .dir))) j 0)
         → Decides d (record { decision = Plan (record { moves = kept .moves }); places = places })
     finish-plan places none are =
-        let calm = calm-shown b x (R .few-benches) (kept .active) (L .explores .active) none in
+        let calm = calm-shown b x (R .few-benches) (kept .active) (L .active) none in
         let ends = at-last-plan calm in
         record {
-          decision = ap (λ (m : ℕ). Plan (record { moves = m })) (L .holds .made) ∙ sym (ap (decisionOf d) ends);
+          decision = ap (λ (m : ℕ). Plan (record { moves = m })) (L .made) ∙ sym (ap (decisionOf d) ends);
           places = λ j h. are j h ∙ sym (ap (λ o. getD (placesIn o) j 0) ends);
           one-to-a-job = λ p e. ap (λ o. length (placesIn o)) ends ∙ length-table (d .jobs) _;
         }

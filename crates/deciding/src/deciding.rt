@@ -31,9 +31,12 @@ fn without_places(decision: Decision) -> Decided
     Decided { decision, places }
 }
 
-// The decision at the last state of the run: none with the activated benches, or a plan.
+// The decision at the last state of the run: none with the activated benches, or a plan with the places that the other
+// jobs have, and the rocks settled from their directions.
 fn finish<'a>(
     last: State,
+    place: [u8; 512],
+    aims: [usize; 64],
     n: Limits,
     job: &'a [usize],
     low: &'a [usize],
@@ -42,7 +45,7 @@ fn finish<'a>(
     ensures { λ r. ⌜ ((d : Day) → (weights : List ℕ) → (amount : List ℕ) → (pebbles : List Bool) → (allowed : List ℕ)
         → Ready d n (now (low .entry)) (now (high .entry)) weights amount pebbles allowed
         → ((r : ℕ) → r < count (d .jobs) (isLeft d) → getD (now (job .entry)) r 0 ≡ leftJob d r)
-        → Last d last → ltb (longJob d) (d .jobs) ≡ false → ltb (crowdedBench d) (d .benches) ≡ false
+        → Last d last place aims → ltb (longJob d) (d .jobs) ≡ false → ltb (crowdedBench d) (d .benches) ≡ false
         → Decides d r) ⌝ }
 {
     let active = last.active;
@@ -52,9 +55,9 @@ fn finish<'a>(
             moves: last.moves as u64,
         }));
     }
-    let mut dir = last.dir;
+    let mut dir = aims;
     settle::settle(n, low, high, &mut dir);
-    let mut places = last.place;
+    let mut places = place;
     run::place_rocks(n.rocks, job, &dir, &mut places);
     Decided {
         decision: Decision::Plan(PlanMoves {
@@ -82,10 +85,12 @@ fn decide_run<'a>(
         (now (high .entry)) (now (balance .entry)) burden rock (now (pebble .entry))
         → Decides d r) ⌝ }
 {
+    let mut left = rock;
+    let mut place = [0u8; 512];
+    let mut own = burden;
+    let mut reach = [0usize; 64];
     let first = State::start(
         n,
-        rock,
-        burden,
         pebble,
         allowed,
         amount,
@@ -93,23 +98,21 @@ fn decide_run<'a>(
         low,
         high,
         balance,
+        &mut left,
+        &mut place,
+        &mut own,
+        &mut reach,
     );
     let mut mine = [0usize; 64];
     let mut lows = [0usize; 64];
     let mut highs = [0usize; 64];
-    let rocks = start::gather(
-        n.jobs,
-        &first.left,
-        allowed,
-        &mut mine,
-        &mut lows,
-        &mut highs,
-    );
+    let rocks = start::gather(n.jobs, &left, allowed, &mut mine, &mut lows, &mut highs);
     let mut weight = [0usize; 64];
     run::pick(rocks, &mine, amount, &mut weight);
     let mut m = n;
     m.rocks = rocks;
     let budget = arrays::times(n.benches, arrays::count(n.jobs, pebble));
+    let mut dir = [0usize; 64];
     let last = run::turns(
         first,
         budget,
@@ -120,8 +123,12 @@ fn decide_run<'a>(
         amount,
         pebble,
         allowed,
+        &mut place,
+        &mut own,
+        &mut reach,
+        &mut dir,
     );
-    finish(last, m, &mine, &lows, &highs)
+    finish(last, place, dir, m, &mine, &lows, &highs)
 }
 
 // None with the component of bench v, and no move.

@@ -1,6 +1,7 @@
 -- What the program's arrays hold in the course of an exploration.
 --     addedAt                   the sets after the pebble j added the benches that it allows
 --     opensAt                   bench v opens round i: all is the set of the benches, active that of the activated ones
+--     Benchwise                 tables of an exploration: each has as many entries as there can be benches
 --     Blank                     the tables before an exploration
 --     Begun                     how a round begins
 --     Reaches b reach            entry u of the array is the set of the benches that the pebbles on u allow
@@ -42,6 +43,13 @@ pub record Begun (b : Board) (i : ℕ) (x : Explored) (opened : ℕ) (rounds lev
   pub some : (v : ℕ) → v < 64 → isSet 64 opened v ≡ (ltb v (b .benches) && typeA b i x v)
   pub joined : Rounds b (openedJoined b i x) rounds
   pub level : Rounds b (openedLevels b i x) levels
+
+-- Tables with room for the greatest number of benches.
+pub record Benchwise (dir loads rounds levels : List ℕ) : Type 0 where
+  pub dir-room : length dir ≡ 64
+  pub load-room : length loads ≡ 64
+  pub joined-room : length rounds ≡ 64
+  pub level-room : length levels ≡ 64
 
 -- No rock is directed, the loads are the own loads, and no bench is in the conflict set or activated.
 pub record Blank (n : Limits) (own dir loads rounds levels : List ℕ) : Type 0 where

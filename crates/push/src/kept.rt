@@ -4,16 +4,10 @@ ghost use Prim.Native.Nat.{ℕ, _<_};
 ghost use mathlib.Core.Bool.{true, cond};
 ghost use lib.Bits.{bitOr};
 ghost use lib.Dec.{eqb};
-ghost use lib.ListN.{length, getD};
+ghost use lib.ListN.{getD};
 ghost use Rattle.sums.specs.Search.{any};
 ghost use Rattle.bits.specs.Bits.{isSet};
 ghost use Rattle.push.specs.KeptArrays.{shiftedOf, liesAt, ReachShifted};
-
-// The loads besides the rocks, and the benches in reach of each bench.
-pub struct Kept {
-    pub own: [usize; 64],
-    pub reach: [usize; 64],
-}
 
 // Weight w leaves bench u and comes to bench v.
 fn shift_load(own: &mut [usize], u: usize, v: usize, w: usize)
@@ -74,29 +68,23 @@ fn shift_reach<'a>(
     arrays::put(reach, u, there);
 }
 
-// Both, after job j left bench u and came to bench v, where it is now.
-pub fn shifted<'a>(
-    own: [usize; 64],
-    reach: [usize; 64],
+// Both, after job j left bench u and came to bench v, where it is now: the loads besides the rocks, and the benches in
+// reach of each bench.
+pub fn shift<'a>(
     jobs: usize,
     amount: &'a [usize],
     choice: &'a [usize],
     place: &'a [u8],
+    own: &mut [usize],
+    reach: &mut [usize],
     u: usize,
     v: usize,
     j: usize,
-) -> Kept
-    ensures { λ r. ⌜ (length own ≡ 64)
-        × (length reach ≡ 64)
-        × (r .own ≡ shiftedOf own u v (getD (now (amount .entry)) j 0))
-        × ReachShifted jobs (now (choice .entry)) (now (place .entry)) reach u v j (r .reach) ⌝ }
+)
+    ensures { λ _. ⌜ (now (own .exit) ≡ shiftedOf (now (own .entry)) u v (getD (now (amount .entry)) j 0))
+        × ReachShifted jobs (now (choice .entry)) (now (place .entry)) (now (reach .entry)) u v j
+        (now (reach .exit)) ⌝ }
 {
-    let mut loads = own;
-    shift_load(&mut loads, u, v, arrays::at(amount, j));
-    let mut next = reach;
-    shift_reach(jobs, choice, place, &mut next, u, v, j);
-    Kept {
-        own: loads,
-        reach: next,
-    }
+    shift_load(own, u, v, arrays::at(amount, j));
+    shift_reach(jobs, choice, place, reach, u, v, j);
 }

@@ -2,8 +2,7 @@
 mod kept;
 mod push;
 
-pub use kept::Kept;
-pub use kept::shifted;
+pub use kept::shift;
 pub use push::Move;
 pub use push::fill_receivers;
 pub use push::first_push;

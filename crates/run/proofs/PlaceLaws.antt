@@ -1,6 +1,6 @@
 -- Places as bytes, and the choices of the jobs as a table.
 --     start-below               every job starts on a bench of the day
---     placed-copied, held-copied     a copy of the places of all jobs shows the same state
+--     placed-copied             a copy of the places of all jobs shows the same state
 --     chosen                    the table of the choices
 use Prim.Native.Nat.{ℕ, _≤_, _<_}
 use mathlib.Core.Path.{_≡_, sym, ap, subst, _∙_}
@@ -19,7 +19,6 @@ use Rattle.algorithm.proofs.RockLaws.{lowest-below}
 use Rattle.arrays.specs.Arrays.{filled}
 use Rattle.start.specs.StartArrays.{Placed}
 use Rattle.push.specs.KeptArrays.{Chosen}
-use Rattle.run.specs.Held.{Held}
 use Rattle.arrays.proofs.FilledLaws.{length-filled, getD-filled}
 
 pub start-below : (d : Day) → SoundDay d → (j : ℕ) → j < d .jobs → getD (start d .place) j 0 < d .benches
@@ -52,15 +51,6 @@ module _ (jobs : ℕ) (place place₀ : List ℕ) (room : jobs ≤ length place�
         place-room = omega (arith, copied-room);
         lefts = P .lefts;
         places = λ j h. copied-entry j (omega arith) ∙ P .places j h;
-      }
-
-  pub held-copied : (d : Day) (m : ℕ) (s : State) (left : List Bool) → jobs ≡ d .jobs → Held d m s left place → Held d m s left place′
-  held-copied d m s left all H =
-      record {
-        reached = H .reached;
-        lefts = H .lefts;
-        room = omega (arith, copied-room);
-        places = λ j h. copied-entry j (omega arith) ∙ H .places j h;
       }
 
 pub chosen : (jobs : ℕ) (pebble : List Bool) (allowed : List ℕ) {choice : List ℕ} → jobs ≤ 512

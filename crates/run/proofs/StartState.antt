@@ -86,8 +86,18 @@ module _ (d : Day) (n : Limits) (minutes allowed amount job low high balance bur
       }
 
   module _ (left : List Bool) (place : List ℕ) (P : Placed d (start d) left place) where
-    pub started-held : Held d 0 (start d) left place
+    started-held : Held d 0 (start d) left place
     started-held = record { reached = at-start (B .sparse-day .short) (B .sparse-day .sparse); lefts = P .lefts; room = P .place-room; places = P .places }
+
+    -- The rocks that are left, as a list of the definition.
+    pub started-places : Held d 0 (start d) (start d .left) place
+    started-places = record {
+      reached = started-held .reached;
+      lefts = λ j h. refl;
+      room = P .place-room;
+      places = P
+          .places;
+    }
 
     pub started-pebbles : Pebbles (boardOf d (start d)) pebbles allowed place
     started-pebbles =

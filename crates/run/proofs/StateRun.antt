@@ -39,7 +39,7 @@ use Rattle.push.specs.PushArrays.{Receivers, Choices}
 use Rattle.rock_graph.specs.Graph.{lows, highs, weights, Mapped, RockGraph}
 use Rattle.push.specs.KeptArrays.{shiftedOf, ReachShifted, Chosen}
 use Rattle.rocks.specs.Shown.{Shown, ShowsActive}
-use Rattle.run.specs.Held.{Ready, Held, Holds, Explores, SameExploration, Pushed, a-move, no-move, Last}
+use Rattle.run.specs.Held.{Ready, Held, Holds, Explores, Pushed, a-move, no-move, Last}
 use Rattle.algorithm.proofs.PushLaws.{push-allowed}
 use Rattle.algorithm.proofs.Budget.{turns-move, turns-stop}
 use Rattle.algorithm.proofs.DayFacts.{reached-run}
@@ -69,40 +69,54 @@ module _ (b : Board) (x : Explored) (few : b .benches ≤ 64) (set : ℕ) (A : S
 -- The rocks of the day, as a table.
 module _ (d : Day) (n : Limits) (graph amount : List ℕ) (pebbles : List Bool) (allowed : List ℕ)
     (R : Ready d n (lows graph) (highs graph) (weights graph) amount pebbles allowed) (M : Mapped n graph) where
-  held-graph : (m : ℕ) (s : State) (kept : Kept) → Holds d m s kept → RockGraph (boardOf d s) n graph
-  held-graph m s kept H =
+  held-graph : (m : ℕ) (s : State) (place : List ℕ) → Held d m s (start d .left) place → RockGraph (boardOf d s) n graph
+  held-graph m s place H =
       record {
-        rocks = held-rocks d n (lows graph) (highs graph) (weights graph) amount pebbles allowed R m s (kept .left) (kept .place) (H .held);
-        few-rocks = few-rocks d n (lows graph) (highs graph) (weights graph) amount pebbles allowed R m s (kept .left) (kept .place) (H .held);
+        rocks = held-rocks d n (lows graph) (highs graph) (weights graph) amount pebbles allowed R m s
+            (start d .left) place H;
+        few-rocks = few-rocks d n (lows graph) (highs graph) (weights graph) amount pebbles allowed R m s
+            (start d .left) place H;
         maps = M;
       }
 
-  -- The fields besides the exploration are kept.
-  pub orients : (m : ℕ) (s : State) (before after : Kept) → Holds d m s before
-      → after .left ≡ before .left → after .place ≡ before .place → after .moves ≡ before .moves → after .own ≡ before .own → after .reach ≡ before .reach
-      → (RockGraph (boardOf d s) n graph → Owned (boardOf d s) (before .own) → Reaches (boardOf d s) (before .reach)
-      → Shown (boardOf d s) (explored d s) (after .dir) (after .load) (after .joined) (after .level) × ShowsActive (boardOf d s) (explored d s) (after .active))
-      → after .active < 2 ^ 64 → Holds d m s after × Explores d s after
-  orients m s before after H l p k o f call fits =
-      let X = call (held-graph m s before H) (H .owned) (H .reaches) in (
-        record { held = rw (l, p) (H .held); made = k ∙ H .made; owned = rw o (H .owned); reaches = rw f (H .reaches) },
+  -- The tables of the state are only read.
+  pub orients : (m : ℕ) (s : State) (before after : Kept) (place own reach : List ℕ)
+      → Holds d m s before place own reach
+      → after .moves ≡ before .moves → {dir load joined level : List ℕ}
+      → (RockGraph (boardOf d s) n graph → Owned (boardOf d s) own → Reaches (boardOf d s) reach
+      → Shown (boardOf d s) (explored d s) dir load joined level × ShowsActive (boardOf d s) (explored d s)
+      (after .active))
+      → after .active < 2 ^ 64 → Holds d m s after place own reach × Explores d s after dir load joined level
+  orients m s before after place own reach H k call fits =
+      let X = call (held-graph m s place (H .held)) (H .owned) (H .reaches) in (
+        record {
+          held = H .held;
+          made = k ∙ H .made;
+          own-room = H .own-room;
+          reach-room = H .reach-room;
+          owned = H .owned;
+          reaches = H .reaches;
+        },
         record { shown = X .0; active = X .1; active-fits = fits },
       )
 
   -- The first pair, from what the two functions of the search promise.
-  pub push-found-at : (m : ℕ) (s : State) (kept : Kept) → Holds d m s kept → Explores d s kept → (choice : List ℕ) → Chosen (n .jobs) pebbles allowed choice
+  pub push-found-at : (m : ℕ) (s : State) (kept : Kept) (place own reach dir load joined level : List ℕ)
+      → Holds d m s kept place own reach → Explores d s kept dir load joined level → (choice : List ℕ) → Chosen
+      (n .jobs) pebbles allowed choice
       → (receivers : List ℕ) {job bench : ℕ}
-      → (RockGraph (boardOf d s) n graph → Owned (boardOf d s) (kept .own)
-      → Shown (boardOf d s) (explored d s) (kept .dir) (kept .load) (kept .joined) (kept .level)
+      → (RockGraph (boardOf d s) n graph → Owned (boardOf d s) own → Shown (boardOf d s)
+      (explored d s) dir load joined level
       → replicate {A = ℕ} 66 0 ≡ replicate {A = ℕ} 66 0 → Receivers (boardOf d s) (explored d s) receivers)
-      → ((graph′ : List ℕ) → RockGraph (boardOf d s) n graph′ → Choices (boardOf d s) choice (kept .place)
-      → Rounds (boardOf d s) (explored d s .level) (kept .level) → Receivers (boardOf d s) (explored d s) receivers
+      → ((graph′ : List ℕ) → RockGraph (boardOf d s) n graph′ → Choices (boardOf d s) choice place
+      → Rounds (boardOf d s) (explored d s .level) level → Receivers (boardOf d s) (explored d s) receivers
       → (job ≡ pushJob (boardOf d s) (explored d s))
       × (bench ≡ cond (ltb (pushJob (boardOf d s) (explored d s)) (d .jobs)) (pushBench (boardOf d s) (explored d s)) 0))
       → (job ≡ pushJob (boardOf d s) (explored d s)) × (job < d .jobs → bench ≡ pushBench (boardOf d s) (explored d s))
-  push-found-at m s kept H X choice C receivers receive find =
-      let G = held-graph m s kept H in
-      let found = find graph G (held-choices d n (lows graph) (highs graph) (weights graph) amount pebbles allowed R m s (kept .left) (kept .place) (H .held) choice C)
+  push-found-at m s kept place own reach dir load joined level H X choice C receivers receive find =
+      let G = held-graph m s place (H .held) in
+      let found = find graph G (held-choices d n (lows graph) (highs graph)
+      (weights graph) amount pebbles allowed R m s (start d .left) place (H .held) choice C)
       (X .shown .level) (receive G (H .owned) (X .shown) refl) in (
         found .0,
         λ h.
@@ -130,13 +144,17 @@ module _ (d : Day) (n : Limits) (low high weights amount : List ℕ) (pebbles : 
       and-intro (any-intro (d .benches) (activated b x) v l (lt-ltb (roundOf b (x .level) v) (never b) (omega (arith, push-allowed b x (pushJob b x) v p .active)))) (lt-ltb (pushJob b x) (d .jobs) h)
 
   pub push-moves : (choice : List ℕ) → Chosen (n .jobs) pebbles allowed choice
-      → (m : ℕ) (s : State) (before after : Kept) → Holds d m s before → length (before .own) ≡ 64 → length (before .reach) ≡ 64
-      → (job bench : ℕ) → job ≡ pushJob (boardOf d s) (explored d s) → (job < d .jobs → bench ≡ pushBench (boardOf d s) (explored d s)) → job < n .jobs
-      → after .left ≡ before .left → after .place ≡ set (before .place) job (bench % 256) → after .moves ≡ plusOf (before .moves) 1
-      → {u : ℕ} → u ≡ getD (before .place) job 0 → after .own ≡ shiftedOf (before .own) u bench (getD amount job 0)
-      → ReachShifted (n .jobs) choice (after .place) (before .reach) u bench job (after .reach)
-      → SameExploration before after → Pushed d m s before after
-  push-moves choice C m s before after K so sf job bench ej eb below l p₀ q {u} eu eo₁ S₁ unchanged =
+      → (m : ℕ) (s : State) (before after : Kept) (place own reach place′ own′ reach′ : List ℕ)
+      → Holds d m s before place own reach
+      → (job bench : ℕ) → job ≡ pushJob (boardOf d s) (explored d s)
+      → (job < d .jobs → bench ≡ pushBench (boardOf d s) (explored d s)) → job < n .jobs
+      → place′ ≡ set place job (bench % 256) → after .moves ≡ plusOf (before .moves) 1
+      → {u : ℕ} → u ≡ getD place job 0 → own′ ≡ shiftedOf own u bench (getD amount job 0)
+      → length reach′ ≡ length reach → ReachShifted (n .jobs) choice place′ reach u bench job reach′
+      → after .active ≡ before .active → Pushed d m s before place own reach after place′ own′ reach′
+  push-moves choice C m s before after place own reach place′ own′ reach′ K job bench ej eb below p₀ q {u} eu eo₁
+      sized S₁ unchanged =
+      let left = start d .left in
       let H = K .held in
       let b = boardOf d s in
       let x = explored d s in
@@ -148,53 +166,70 @@ module _ (d : Day) (n : Limits) (low high weights amount : List ℕ) (pebbles : 
       let bench-is = eb h in
       let some = least-holds (d .jobs) (λ i. any (d .benches) (canPush b x i)) found in
       let benched : v < d .benches = any-least (d .benches) (canPush b x j) some in
-      let p : after .place ≡ set (before .place) job bench =
-      p₀ ∙ ap (set (before .place) job) (mod-eq-of-lt (let few : bench < 256 = omega (arith, bench-is, benched, R .few-benches) in few)) in
+      let p : place′ ≡ set place job bench =
+      p₀ ∙ ap (set place job) (mod-eq-of-lt (let few : bench < 256 = omega
+      (arith, bench-is, benched, R .few-benches) in few)) in
       let allowed-push = push-allowed b x j v (least-holds (d .benches) (canPush b x j) benched) in
       let is : pebble d job ≡ true = subst (λ (k : ℕ). pebble d k ≡ true) (sym ej) (allowed-push .pebble) in
-      let H₁ : Held d (suc m) (nextState d s) (after .left) (after .place) = record {
+      let H₁ : Held d (suc m) (nextState d s) left place′ = record {
         reached = by-move (H .reached) can;
-        lefts = λ i l′. ap (λ (xs : List Bool). getD xs i false) l ∙ H .lefts i l′;
-        room = omega (arith, ap length p, length-set (before .place) job bench, H .room);
+        lefts = H .lefts;
+        room = omega (arith, ap length p, length-set place job bench, H .room);
         places = λ i l′. ap (λ (xs : List ℕ). getD xs i 0) p ∙ elim (eq-or-ne i job) [
           | inl e ↦
-              subst (λ (k : ℕ). getD (set (before .place) job bench) k 0 ≡ getD (set (s .place) j v) k 0) (sym e)
-              (getD-set-same (before .place) job bench 0 (omega (arith, H .room, h)) ∙ bench-is
+              subst (λ (k : ℕ). getD (set place job bench) k 0 ≡ getD (set (s .place) j v) k 0) (sym e)
+              (getD-set-same place job bench 0 (omega (arith, H .room, h)) ∙ bench-is
               ∙ sym (subst (λ (k : ℕ). getD (set (s .place) j v) k 0 ≡ v) (sym ej)
-              (getD-set-same (s .place) j v 0 (omega (arith, found, held-good d n low high weights amount pebbles allowed R m s (before .left) (before .place) H .one-to-a-job)))))
+              (getD-set-same (s .place) j v 0 (omega (
+                arith,
+                found,
+                held-good d n low high weights amount pebbles
+                    allowed R m s left place H .one-to-a-job,
+              )))))
           | inr ne ↦
-              getD-set-other (before .place) job i bench 0 ne ∙ H .places i l′ ∙ sym (getD-set-other (s .place) j i v 0 (λ e. ne (e ∙ sym ej)))
+              getD-set-other place job i bench 0 ne ∙ H .places i l′ ∙ sym (getD-set-other (s .place) j i v 0
+              (λ e. ne (e ∙ sym ej)))
         ];
       } in
-      let H₂ : Held d (suc m) (nextState d s) (before .left) (after .place) = subst (λ (ls : List Bool). Held d (suc m) (nextState d s) ls (after .place)) l H₁ in
-      let eo : after .own ≡ shiftedOf (before .own) (getD (before .place) job 0) bench (getD amount job 0) =
-      eo₁ ∙ ap (λ (k : ℕ). shiftedOf (before .own) k bench (getD amount job 0)) eu in
-      let S : ReachShifted (n .jobs) choice (after .place) (before .reach) (getD (before .place) job 0) bench job (after .reach) =
-      subst (λ (k : ℕ). ReachShifted (n .jobs) choice (after .place) (before .reach) k bench job (after .reach)) eu S₁ in
+      let eo : own′ ≡ shiftedOf own (getD place job 0) bench (getD amount job 0) =
+      eo₁ ∙ ap (λ (k : ℕ). shiftedOf own k bench (getD amount job 0)) eu in
+      let S : ReachShifted (n .jobs) choice place′ reach (getD place job 0) bench job reach′ =
+      subst (λ (k : ℕ). ReachShifted (n .jobs) choice place′ reach k bench job reach′) eu S₁ in
       let at-bench : bench < d .benches = omega (arith, bench-is, benched) in
       a-move can
       (record {
         held = H₁;
         made = q ∙ ap (λ (k : ℕ). plusOf k 1) (K .made) ∙ plus-one m (omega (arith, few-moves m s (H .reached)));
-        owned = moved-owned d n low high weights amount pebbles allowed R m s (before .left) (before .place) H job bench h at-bench is (after .place) p
-            (suc m) (nextState d s) H₂ (before .own) (after .own) so (K .owned) eo;
-        reaches = moved-reach d n low high weights amount pebbles allowed R m s (before .left) (before .place) H job bench h at-bench is (after .place) p
-            (suc m) (nextState d s) H₂ choice C (before .reach) (after .reach) sf (K .reaches) S;
+        own-room = ap length eo ∙ shifted-length own (getD place job 0) bench (getD amount job 0) ∙ K .own-room;
+        reach-room = sized ∙ K .reach-room;
+        owned = moved-owned d n low high weights amount pebbles allowed R m s left place H job bench h at-bench is
+            place′ p
+            (suc m) (nextState d s) H₁ own own′ (K .own-room) (K .owned) eo;
+        reaches = moved-reach d n low high weights amount pebbles allowed R m s left place H job bench h at-bench is
+            place′ p
+            (suc m) (nextState d s) H₁ choice C reach reach′ (K .reach-room) (K .reaches) S;
       })
       unchanged
+    where
+      shifted-length : (xs : List ℕ) (u v w : ℕ) → length (shiftedOf xs u v w) ≡ length xs
+      shifted-length xs u v w =
+          length-set (set xs u (getD xs u 0 - w)) v (plusOf (getD (set xs u
+          (getD xs u 0 - w)) v 0) w) ∙ length-set xs u (getD xs u 0 - w)
 
-  pub push-stays : (m : ℕ) (s : State) (before after : Kept) → (job : ℕ) → job ≡ pushJob (boardOf d s) (explored d s) → n .jobs ≤ job → after ≡ before → Pushed d m s before after
-  push-stays m s before after job e far same =
+  pub push-stays : (m : ℕ) (s : State) (kept : Kept) (place own reach : List ℕ) → (job : ℕ) → job ≡ pushJob
+      (boardOf d s) (explored d s) → n .jobs ≤ job
+      → Pushed d m s kept place own reach kept place own reach
+  push-stays m s kept place own reach job e far =
       no-move (let low : pushJob (boardOf d s) (explored d s) ≤ d .jobs = least-le (d .jobs) (λ j. any (d .benches) (canPush (boardOf d s) (explored d s) j)) in
-      omega (arith, R .jobs, e, low)) same
+      omega (arith, R .jobs, e, low)) refl refl refl refl
 
   -- ── the turns ──
 
   -- Before an exploration: k − 1 moves may follow.
-  pub record Turning (k : ℕ) (kept : Kept) : Type 0 where
+  pub record Turning (k : ℕ) (kept : Kept) (place own reach : List ℕ) : Type 0 where
     pub moves : ℕ
     pub state : State
-    pub holds : Holds d moves state kept
+    pub holds : Holds d moves state kept place own reach
     pub in-all : k + moves ≡ suc (budget d)
     pub same : turns (budget d) d (start d) 0 ≡ turns (k - 1) d state moves
 
@@ -203,8 +238,9 @@ module _ (d : Day) (n : Limits) (low high weights amount : List ℕ) (pebbles : 
       let pebbles-few : count (d .jobs) (pebble d) ≤ 512 = omega (arith, count-le (d .jobs) (pebble d), R .few-jobs) in
       mul-le-mul (R .few-benches) pebbles-few
 
-  pub starts : (first : Kept) {k i : ℕ} → k ≡ budget d → i ≡ plusOf k 1 → Holds d 0 (start d) first → Turning i first
-  starts first {k} {i} e one H =
+  pub starts : (first : Kept) (place own reach : List ℕ) {k i : ℕ} → k ≡ budget d → i ≡ plusOf k 1
+      → Holds d 0 (start d) first place own reach → Turning i first place own reach
+  starts first place own reach {k} {i} e one H =
       let next : i ≡ suc (budget d) = one ∙ ap (λ (a : ℕ). plusOf a 1) e ∙ plus-one (budget d) (omega (arith, few-turns)) in
       record {
         moves = 0;
@@ -214,44 +250,55 @@ module _ (d : Day) (n : Limits) (low high weights amount : List ℕ) (pebbles : 
         same = let all : budget d ≡ i - 1 = omega (arith, next) in ap (λ (a : ℕ). turns a d (start d) 0) all;
       }
 
-  module _ {k : ℕ} {kept : Kept} (T : Turning k kept) where
+  module _ {k : ℕ} {kept : Kept} {place own reach : List ℕ} (T : Turning k kept place own reach) where
     moves-few : T .moves ≤ budget d
     moves-few = omega (arith, reached-run d (R .sound) (R .uncrowded) (T .holds .held .reached) .of-budget)
 
-    pub turning-spent : {after : Kept} → k ≤ 0 → Last d after
+    pub turning-spent : {after : Kept} {places dir : List ℕ} → k ≤ 0 → Last d after places dir
     turning-spent none = absurd (omega (arith, moves-few, T .in-all))
 
-    module _ {after : Kept} (O : Holds d (T .moves) (T .state) after × Explores d (T .state) after) where
-      stop : canMove d (T .state) ≡ false → Last d after
+    module _ {after : Kept} {dir load joined level : List ℕ}
+        (O : Holds d (T .moves) (T .state) after place own reach × Explores d
+        (T .state) after dir load joined level) where
+      stop : canMove d (T .state) ≡ false → Last d after place dir
       stop cannot =
           record {
             moves = T .moves;
             state = T .state;
-            holds = O .0;
-            explores = O .1;
+            held = O .0 .held;
+            made = O .0 .made;
+            directed = O .1 .shown .seen .directed;
+            active = O .1 .active;
+            active-fits = O .1 .active-fits;
             same = T .same ∙ turns-stop d (T .state) (T .moves) (k - 1) cannot;
           }
 
-      pub turning-calm : after .active ≡ 0 → Last d after
+      pub turning-calm : after .active ≡ 0 → Last d after place dir
       turning-calm none =
           let still : congested d (T .state) ≡ false =
           calm-shown (boardOf d (T .state)) (explored d (T .state)) (R .few-benches) (after .active) (O .1 .active) none in
           stop (and-false-left (ltb (pushJob (boardOf d (T .state)) (explored d (T .state))) (d .jobs)) still)
 
-      module _ {last : Kept} (P : Pushed d (T .moves) (T .state) after last) where
-        pub turning-stuck : last .moves ≡ after .moves → Last d last
+      module _ {last : Kept} {place′ own′ reach′ : List ℕ} (P : Pushed d (T .moves)
+          (T .state) after place own reach last place′ own′ reach′) where
+        pub turning-stuck : last .moves ≡ after .moves → Last d last place′ dir
         turning-stuck same = stuck P same
           where
-            stuck : Pushed d (T .moves) (T .state) after last → last .moves ≡ after .moves → Last d last
+            stuck : Pushed d (T .moves) (T .state) after place own reach last place′ own′ reach′
+                → last .moves ≡ after .moves → Last d last place′ dir
             stuck (a-move can H unchanged) same = absurd (omega (arith, H .made, O .0 .made))
-            stuck (no-move none e) same =
-                subst (λ (x : Kept). Last d x) (sym e)
-                (stop (and-false-right (congested d (T .state)) (le-ltb (pushJob (boardOf d (T .state)) (explored d (T .state))) (d .jobs) (omega (arith, none)))))
+            stuck (no-move none e ep eo er) same =
+                subst (λ (x : Kept). Last d x place′ dir) (sym e)
+                (subst (λ (xs : List ℕ). Last d after xs dir) (sym ep)
+                (stop (and-false-right (congested d (T .state)) (le-ltb (pushJob (boardOf d (T .state)) (explored d
+                (T .state))) (d .jobs) (omega (arith, none))))))
 
-        pub turning-next : last .moves ≢ after .moves → 0 < k → Turning (k - 1) last
+        pub turning-next : last .moves ≢ after .moves → 0 < k → Turning (k - 1) last place′ own′ reach′
         turning-next ne more = next P ne
           where
-            next : Pushed d (T .moves) (T .state) after last → last .moves ≢ after .moves → Turning (k - 1) last
+            next : Pushed d (T .moves) (T .state) after place own reach last place′ own′ reach′
+                → last .moves ≢ after .moves
+                → Turning (k - 1) last place′ own′ reach′
             next (a-move can H unchanged) ne =
                 let few = reached-run d (R .sound) (R .uncrowded) (H .held .reached) .of-budget in
                 let e : k - 1 ≡ suc (k - 1 - 1) = omega (arith, few, T .in-all) in
@@ -262,4 +309,4 @@ module _ (d : Day) (n : Limits) (low high weights amount : List ℕ) (pebbles : 
                   in-all = omega (arith, T .in-all);
                   same = T .same ∙ ap (λ (i : ℕ). turns i d (T .state) (T .moves)) e ∙ turns-move d (T .state) (T .moves) (k - 1 - 1) can;
                 }
-            next (no-move none e) ne = absurd (ne (ap (λ (x : Kept). x .moves) e))
+            next (no-move none e ep eo er) ne = absurd (ne (ap (λ (x : Kept). x .moves) e))

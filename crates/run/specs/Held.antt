@@ -6,17 +6,16 @@
 --                               booked minutes
 --     Ready d n ..              the tables that the turns read: numbers, rocks left, weights, pebbles and allowed
 --                               benches
+--     Room ..                   the tables that the start fills have room for every job and bench
 --     Held d m s left place     two tables hold the state s, to which the run comes after m moves
---     Holds d m s k             so does the program's state k, with the loads and the benches in reach
---     Unexplored n k            no exploration has been made
---     Explores d s k            the last exploration was that of s
---     SameExploration           two states have the same exploration
+--     Holds d m s k ..          so do the program's state k and its tables, with the loads and the benches in reach
+--     Explores d s k ..         the last exploration was that of s
 --     Pushed, Last              what a push makes of a state; the state at which the turns end
 use Prim.Native.Nat.{ℕ, suc, _+_, _*_, _≤_, _<_, _^_}
 use mathlib.Core.Path.{_≡_}
 use mathlib.Core.Bool.{Bool, true, false}
 use mathlib.Core.List.{List}
-use lib.ListN.{length, getD}
+use lib.ListN.{length, getD, replicate}
 use lib.Dec.{ltb}
 use Rattle.bits.specs.Bits.{isSet}
 use Rattle.sums.specs.Sum.{sum, count}
@@ -29,11 +28,11 @@ use Rattle.algorithm.specs.Run.{boardOf, explored, canMove, nextState, answerAt
 use Rattle.algorithm.specs.States.{Reached}
 use Rattle.algorithm.specs.Push.{pushJob}
 use Rattle.rocks.specs.declared.rocks.Limits.{Limits}
-use Rattle.rocks.specs.BoardArrays.{Owned}
+use Rattle.rocks.specs.BoardArrays.{Owned, Directed}
 use Rattle.rocks.specs.DayArrays.{DayRocks, Cycles}
 use Rattle.rocks.specs.Shown.{Shown, ShowsActive}
 use Rattle.start.specs.StartArrays.{Fields, JobsOf}
-use Rattle.explore.specs.ExploreArrays.{Reaches, Blank}
+use Rattle.explore.specs.ExploreArrays.{Reaches}
 use Rattle.run.specs.declared.state.State.{State as Kept}
 
 -- A rock is left after the start.
@@ -88,45 +87,49 @@ pub record Ready (d : Day) (n : Limits) (low high weights amount : List ℕ) (pe
 
 -- ── the state ──
 
+-- The tables before the start: rocks, places, loads and benches in reach, of which there is none yet.
+pub record Room (rocks : List Bool) (place own reach : List ℕ) : Type 0 where
+  pub left-room : length rocks ≡ 512
+  pub place-room : length place ≡ 512
+  pub own-room : length own ≡ 64
+  pub unreached : reach ≡ replicate 64 0
+
 pub record Held (d : Day) (m : ℕ) (s : State) (left : List Bool) (place : List ℕ) : Type 0 where
   pub reached : Reached d m s
   pub lefts : (j : ℕ) → j < d .jobs → getD left j false ≡ getD (s .left) j false
   pub room : d .jobs ≤ length place
   pub places : (j : ℕ) → j < d .jobs → getD place j 0 ≡ getD (s .place) j 0
 
-pub record Holds (d : Day) (m : ℕ) (s : State) (k : Kept) : Type 0 where
-  pub held : Held d m s (k .left) (k .place)
+-- The rocks that are left are those of the start, in every state.
+pub record Holds (d : Day) (m : ℕ) (s : State) (k : Kept) (place own reach : List ℕ) : Type 0 where
+  pub held : Held d m s (start d .left) place
   pub made : k .moves ≡ m
-  pub owned : Owned (boardOf d s) (k .own)
-  pub reaches : Reaches (boardOf d s) (k .reach)
+  pub own-room : length own ≡ 64
+  pub reach-room : length reach ≡ 64
+  pub owned : Owned (boardOf d s) own
+  pub reaches : Reaches (boardOf d s) reach
 
--- No rock is directed, and no bench is in the conflict set or activated.
-pub record Unexplored (n : Limits) (k : Kept) : Type 0 where
-  pub blank : Blank n (k .own) (k .dir) (k .load) (k .joined) (k .level)
-  pub none-active : k .active ≡ 0
-
-pub record Explores (d : Day) (s : State) (k : Kept) : Type 0 where
-  pub shown : Shown (boardOf d s) (explored d s) (k .dir) (k .load) (k .joined) (k .level)
+pub record Explores (d : Day) (s : State) (k : Kept) (dir load joined level : List ℕ) : Type 0 where
+  pub shown : Shown (boardOf d s) (explored d s) dir load joined level
   pub active : ShowsActive (boardOf d s) (explored d s) (k .active)
   pub active-fits : k .active < 2 ^ 64
 
-pub record SameExploration (before after : Kept) : Type 0 where
-  pub same-dir : after .dir ≡ before .dir
-  pub same-load : after .load ≡ before .load
-  pub same-joined : after .joined ≡ before .joined
-  pub same-level : after .level ≡ before .level
-  pub same-active : after .active ≡ before .active
+-- What a push makes of the program's state and of its tables: the next state with one move more and the same activated
+-- benches, or nothing where there is no move.
+pub data Pushed (d : Day) (m : ℕ) (s : State) (before : Kept) (place own reach : List ℕ) (after : Kept)
+    (place′ own′ reach′ : List ℕ) : Type 0 where
+  a-move : canMove d s ≡ true → Holds d (suc m) (nextState d s) after place′ own′ reach′
+      → after .active ≡ before .active → Pushed d m s before place own reach after place′ own′ reach′
+  no-move : pushJob (boardOf d s) (explored d s) ≡ d .jobs → after ≡ before → place′ ≡ place → own′ ≡ own
+      → reach′ ≡ reach → Pushed d m s before place own reach after place′ own′ reach′
 
--- What a push makes of the program's state: the next state with one move more, or nothing where there is no move.
-pub data Pushed (d : Day) (m : ℕ) (s : State) (before after : Kept) : Type 0 where
-  a-move : canMove d s ≡ true → Holds d (suc m) (nextState d s) after → SameExploration before after
-      → Pushed d m s before after
-  no-move : pushJob (boardOf d s) (explored d s) ≡ d .jobs → after ≡ before → Pushed d m s before after
-
--- The program's state at which the turns of the run end.
-pub record Last (d : Day) (k : Kept) : Type 0 where
+-- The program's state at which the turns of the run end, with the places of the jobs and the directions of the rocks.
+pub record Last (d : Day) (k : Kept) (place dir : List ℕ) : Type 0 where
   pub moves : ℕ
   pub state : State
-  pub holds : Holds d moves state k
-  pub explores : Explores d state k
+  pub held : Held d moves state (start d .left) place
+  pub made : k .moves ≡ moves
+  pub directed : Directed (boardOf d state) (explored d state .dir) dir
+  pub active : ShowsActive (boardOf d state) (explored d state) (k .active)
+  pub active-fits : k .active < 2 ^ 64
   pub same : turns (budget d) d (start d) 0 ≡ answerAt d state moves

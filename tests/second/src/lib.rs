@@ -8,20 +8,28 @@
 //! - `printed`: what the programs behind `./bay`, `./show` and `./best` print.
 //! - `gen`: generators of sheets and tables, good and damaged.
 //! - `corpus`: small days with their answers, and slow full sheets.
+//! - `light_days`: full sheets of light jobs with a choice.
+//! - `outcome`: what planning left, entry by entry.
+//! - `stored`: sheets with what planning left, as a text.
 //! - `samples`: the sheets of the folder samples/.
 //! - `lent`: buffers as they are lent to the static library.
 //! - `arguments`: the seed and the number of sheets that a program is given.
 //! - `rng`: seeded random numbers.
+//! - `checksum`: a checksum of bytes.
 //! - `hex`: bytes in hexadecimal.
 
 pub mod arguments;
+pub mod checksum;
 pub mod codec;
 pub mod corpus;
 pub mod gen;
 pub mod hex;
 pub mod judge;
 pub mod lent;
+pub mod light_days;
+pub mod outcome;
 pub mod planner;
 pub mod printed;
 pub mod rng;
 pub mod samples;
+pub mod stored;

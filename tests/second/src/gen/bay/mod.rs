@@ -3,6 +3,7 @@
 //! - `weights`: minutes at and between the limits of a head.
 //! - `heavy`: pairs of benches for heavy jobs: chains, cycles, trees, parallel and crowded ones.
 //! - `light`: sets of benches for light jobs.
+//! - `light_only`: full days of light jobs with a choice and nothing else.
 //! - `days`: whole days, tiny to full, and ones made from an assignment within T.
 //! - `tight`: days with benches at the limits.
 //! - `tied`: days on which several benches have the largest load.
@@ -12,6 +13,7 @@
 pub mod days;
 pub mod heavy;
 pub mod light;
+pub mod light_only;
 pub mod slow;
 pub mod tied;
 pub mod tight;

@@ -12,10 +12,11 @@ mod timing;
 use second::codec::door::Codec;
 use second::gen::day::Day;
 use second::lent::empty::Empty;
+use second::lent::tables::Tables;
 use second::planner::algorithm::Planner;
 use second::planner::door::{self, ANSWER_ENTRIES, BEST, BEST_ENTRIES, PLAN};
 use std::hint::black_box;
-use timing::{least, microseconds, time, Tables, WARM_UP};
+use timing::{least, microseconds, time, WARM_UP};
 
 const SAMPLES: usize = 15;
 

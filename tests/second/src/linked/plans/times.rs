@@ -1,9 +1,10 @@
 //! Times of planning full sheets: the second planner, and, with the feature `library`, the static
 //! library beside it. Both are built for release and plan the same bytes in the same run, in turns.
 //!
-//! With the argument `library` only the static library is timed, in processor time, and each sheet
-//! has one line for tests/side-by-side: best time in nanoseconds, name, answer, tabs between them.
+//! With the argument `library` only the static library is timed, and each sheet has one line for
+//! tests/side-by-side, see `alone`.
 
+mod alone;
 // Only planning is timed.
 #[allow(dead_code)]
 mod library;
@@ -12,17 +13,15 @@ mod timed_sheets;
 mod timing;
 
 use second::lent::empty::Empty;
+use second::lent::tables::Tables;
 use second::planner::algorithm::Planner;
 use second::planner::door::{self, ANSWER_ENTRIES, PLAN};
 use std::env;
 use std::hint::black_box;
 use std::process::ExitCode;
-use std::time::Duration;
-use timing::{least, microseconds, time, Tables, WARM_UP};
+use timing::{least, microseconds, time, WARM_UP};
 
 const SAMPLES: usize = 50;
-/// For the library alone: times stray more between two runs of the program than within one.
-const SAMPLES_ALONE: usize = 10;
 /// The entries of the answer table that are compared: the first two, so that a library that does
 /// not name the fullest bench yet can be timed too.
 const COMPARED: usize = 2;
@@ -32,13 +31,6 @@ struct Pair {
     planner: Planner,
     found: Tables<ANSWER_ENTRIES>,
     expected: Tables<ANSWER_ENTRIES>,
-}
-
-/// As `time`, while this thread has the processor.
-fn thread_time<T>(call: impl FnOnce() -> T) -> Duration {
-    let start = thread_time::now();
-    black_box(call());
-    thread_time::now() - start
 }
 
 impl Pair {
@@ -85,8 +77,8 @@ impl Pair {
     }
 
     fn print_library(&mut self, name: &str, sheet: &[u8]) {
-        let [library] = least(SAMPLES_ALONE, |_| thread_time(|| self.library(sheet)));
-        println!("{}\t{name}\t{}", library.as_nanos(), self.answer(name, sheet));
+        self.answer(name, sheet);
+        alone::print(name, sheet);
     }
 }
 

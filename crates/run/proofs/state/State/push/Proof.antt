@@ -1,6 +1,5 @@
 -- By whether the search finds a job (StateRun).
 use mathlib.Core.Path.{refl}
-use native.Mathlib.Omega.{arith}
 use Rattle.algorithm.specs.Run.{boardOf, explored}
 use Rattle.rock_graph.specs.Graph.{lows, highs, weights}
 use Rattle.run.proofs.StateRun.{push-found-at, push-moves, push-stays}
@@ -23,56 +22,78 @@ first-push-requires c κs = search needs
 byte-requires : tie.Need-byte-requires
 byte-requires c κs = search needs
 
-cast-self : tie.Need-cast-self
-cast-self c = search needs
+put-byte-requires : tie.Need-put-byte-requires
+put-byte-requires c κs = search needs
 
-element-write-self : tie.Need-element-write-self
-element-write-self c = search needs
-
-shifted-requires : tie.Need-shifted-requires
-shifted-requires c κs = search needs
+shift-requires : tie.Need-shift-requires
+shift-requires c κs = search needs
 
 plus-requires : tie.Need-plus-requires
 plus-requires c κs = search needs
 
+same-length : tie.Need-same-length
+same-length c = search needs
+
+same-length-2 : tie.Need-same-length-2
+same-length-2 c = search needs
+
+same-length-3 : tie.Need-same-length-3
+same-length-3 c = search needs
+
 returns : tie.Need-returns
 returns c =
-    let at-args = c .before .before .before .before .before .before .before .before .before .before .before .before .before .before .before .before .before .before .before .before .before .before .before .before .before .before .before .before .before .before .before .before .before .before .before .before .before .before .before .before .args in
-    let at-receivers = c .before .before .before .before .before .before .before .before .before .before .before .before .before .before .before .before .before .before .before .before .before .before .before .before .fill-receivers in
-    let at-push = c .before .before .before .before .before .before .before .before .before .before .before .before .before .before .before .before .first-push in
+    let at-plus = c .plus in
+    let after-shift = c .before .before .before .before .before in
+    let at-shift = after-shift .shift in
+    let after-put-byte = after-shift .before .before .before .before .before .before in
+    let at-put-byte = after-put-byte .put-byte in
+    let after-byte = after-put-byte .before .before in
+    let at-byte = after-byte .byte in
+    let after-if1 = after-byte .before .before in
+    let at-if1 = after-if1 .if1 in
+    let after-first-push = after-if1 .before .before in
+    let at-first-push = after-first-push .first-push in
+    let after-fill-receivers = after-first-push .before .before .before .before in
+    let at-fill-receivers = after-fill-receivers .fill-receivers in
+    let back1 = after-fill-receivers .before .before .before .before .before .before .before .before .before .before
+    .before in
+    let at-args = back1 .before .before .args in
     let n = at-args .n in
     let graph = at-args .graph .now in
     let amount = at-args .amount .now in
     let choice = at-args .choice .now in
-    let at-shifted = c .before .before .before .shifted in
-    let at-byte = c .before .before .before .before .before .before .before .before .before .byte in
-    let at-if = c .before .before .before .before .before .before .before .before .before .before .before .before .before .before .if1 in
     λ d m s pebble allowed R M C H X.
-    let found = push-found-at d n graph amount pebble allowed R M m s _ H X choice C _ (at-receivers .ensures (boardOf d s) (explored d s))
-    (at-push .ensures (boardOf d s) (explored d s)) in
-    push-moves d n (lows graph) (highs graph) (weights graph) amount pebble allowed R choice C m s _ _ H (at-shifted .ensures .0)
-    (at-shifted .ensures .1) _ _ (found .0) (found .1) (at-if .taken) refl refl (c .plus .ensures) (at-byte .ensures)
-    (at-shifted .ensures .2) (at-shifted .ensures .3)
-    (record { same-dir = refl; same-load = refl; same-joined = refl; same-level = refl; same-active = refl })
+    let found = push-found-at d n graph amount pebble allowed R M m s _ _ _ _ _ _ _ _ H X choice C _
+    (at-fill-receivers .ensures (boardOf d s) (explored d s)) (at-first-push .ensures (boardOf d s) (explored d s)) in
+    push-moves d n (lows graph) (highs graph) (weights graph) amount pebble allowed R choice C m s _ _ _ _ _ _ _ _ H _ _
+    (found .0) (found .1) (at-if1 .taken) (at-put-byte .ensures) (at-plus .ensures) (at-byte .ensures)
+    (at-shift .ensures .0) (at-shift .kept .1 .1 .1 .1 .1 .0) (at-shift .ensures .1) refl
+
+same-length-4 : tie.Need-same-length-4
+same-length-4 c = search needs
+
+same-length-5 : tie.Need-same-length-5
+same-length-5 c = search needs
 
 returns-2 : tie.Need-returns-2
-returns-2 c = λ d m s pebble allowed R M C H X. absurd (omega (arith, R .few-jobs, R .jobs))
-
-returns-3 : tie.Need-returns-3
-returns-3 c =
-    let at-push = c .before .before .first-push in
-    let after-receivers = c .before .before .before .before .before .before .before .before .before .before in
-    let at-receivers = after-receivers .fill-receivers in
-    let at-args = after-receivers .before .before .before .before .before .before .before .before .before .before .before .before .before .before .before .before .args in
+returns-2 c =
+    let at-if1 = c .if1 in
+    let after-first-push = c .before .before in
+    let at-first-push = after-first-push .first-push in
+    let after-fill-receivers = after-first-push .before .before .before .before in
+    let at-fill-receivers = after-fill-receivers .fill-receivers in
+    let back1 = after-fill-receivers .before .before .before .before .before .before .before .before .before .before
+    .before in
+    let at-args = back1 .before .before .args in
     let n = at-args .n in
     let graph = at-args .graph .now in
     let amount = at-args .amount .now in
     let choice = at-args .choice .now in
     λ d m s pebble allowed R M C H X.
-    let found = push-found-at d n graph amount pebble allowed R M m s _ H X choice C _
-    (at-receivers .ensures (boardOf d s) (explored d s)) (at-push .ensures (boardOf d s) (explored d s)) in
-    push-stays d n (lows graph) (highs graph) (weights graph) amount pebble allowed R m s _ _ _ (found .0)
-    (c .if1 .left) refl
+    let found = push-found-at d n graph amount pebble allowed R M m s _ _ _ _ _ _ _ _ H X choice C _
+    (at-fill-receivers .ensures (boardOf d s) (explored d s)) (at-first-push .ensures (boardOf d s) (explored d s)) in
+    push-stays d n (lows graph) (highs graph) (weights graph) amount pebble allowed R m s _ _ _ _ _ (found .0)
+    (at-if1 .left)
 
 pub push-spec : {M : Type 1} → statement M
 push-spec =
@@ -83,10 +104,13 @@ push-spec =
     slice-aggregate-first-push
     first-push-requires
     byte-requires
-    cast-self
-    element-write-self
-    shifted-requires
+    put-byte-requires
+    shift-requires
     plus-requires
+    same-length
+    same-length-2
+    same-length-3
     returns
-    returns-2
-    returns-3)
+    same-length-4
+    same-length-5
+    returns-2)

@@ -1,7 +1,7 @@
 -- The places of the jobs, and the peeling (StartRun); then the loads and the benches in reach (StartState), and the places
 -- as bytes (PlaceLaws).
-use mathlib.Core.Path.{_≡_, refl, ap}
-use Prim.Native.Nat.{ℕ}
+use Prim.Native.Nat.{ℕ, _≤_}
+use mathlib.Core.Path.{refl, ap, _∙_}
 use native.Mathlib.Omega.{arith}
 use lib.ListN.{length, replicate, length-replicate}
 use Rattle.algorithm.specs.Start.{start}
@@ -9,7 +9,7 @@ use Rattle.algorithm.specs.Run.{boardOf}
 use Rattle.loads.proofs.LoadLaws.{load-after}
 use Rattle.start.proofs.StartRun.{start-placed}
 use Rattle.run.proofs.PlaceLaws.{start-below, placed-copied}
-use Rattle.run.proofs.StartState.{started-held, started-owned, started-pebbles}
+use Rattle.run.proofs.StartState.{started-places, started-owned, started-pebbles}
 use borrow.Author.Needs.{needs}
 use Rattle.run.proofs.state.State.start.Statement.{statement}
 use Rattle.run.proofs.state.State.start.Tie as tie
@@ -23,20 +23,11 @@ place-lowest-requires c κs = search needs
 slice-aggregate-peel : tie.Need-slice-aggregate-peel
 slice-aggregate-peel c = search needs
 
-slice-aggregate-peel-2 : tie.Need-slice-aggregate-peel-2
-slice-aggregate-peel-2 c = search needs
-
 peel-requires : tie.Need-peel-requires
 peel-requires c κs = search needs
 
 slice-aggregate-own-loads : tie.Need-slice-aggregate-own-loads
 slice-aggregate-own-loads c = search needs
-
-slice-aggregate-own-loads-2 : tie.Need-slice-aggregate-own-loads-2
-slice-aggregate-own-loads-2 c = search needs
-
-slice-aggregate-own-loads-3 : tie.Need-slice-aggregate-own-loads-3
-slice-aggregate-own-loads-3 c = search needs
 
 own-loads-requires : tie.Need-own-loads-requires
 own-loads-requires c κs = search needs
@@ -44,53 +35,75 @@ own-loads-requires c κs = search needs
 slice-aggregate-fill-reach : tie.Need-slice-aggregate-fill-reach
 slice-aggregate-fill-reach c = search needs
 
-slice-aggregate-fill-reach-2 : tie.Need-slice-aggregate-fill-reach-2
-slice-aggregate-fill-reach-2 c = search needs
-
 fill-reach-requires : tie.Need-fill-reach-requires
 fill-reach-requires c κs = search needs
 
 slice-aggregate-to-bytes : tie.Need-slice-aggregate-to-bytes
 slice-aggregate-to-bytes c = search needs
 
-slice-aggregate-to-bytes-2 : tie.Need-slice-aggregate-to-bytes-2
-slice-aggregate-to-bytes-2 c = search needs
-
 to-bytes-requires : tie.Need-to-bytes-requires
 to-bytes-requires c κs = search needs
 
-plus-requires : tie.Need-plus-requires
-plus-requires c κs = search needs
+same-length : tie.Need-same-length
+same-length c = search needs
+
+same-length-2 : tie.Need-same-length-2
+same-length-2 c = search needs
+
+same-length-3 : tie.Need-same-length-3
+same-length-3 c = search needs
+
+same-length-4 : tie.Need-same-length-4
+same-length-4 c = search needs
 
 returns : tie.Need-returns
 returns c =
-    let n = c .before .before .before .before .before .before .before .before .before .before .before .before .before .before .before .before .before .before .before .before .before .before .before .before .before .before .before .before .before .args .n in
-    let allowed = c .before .before .before .before .before .before .before .before .before .before .before .before .before .before .before .before .before .before .before .before .before .before .before .before .before .before .before .before .before .args .allowed .now in
-    let sized : length (c .before .before .before .before .before .before .before .before .before .before .before .before .before .before .before .before .before .before .before .before .before .before .before .before .before .before .before .before .before .args .rock) ≡ 512 = search needs in
-    let wide : length (c .before .before .before .before .before .before .before .before .before .before .before .before .before .before .before .before .before .before .before .before .before .before .before .before .before .before .before .before .before .args .burden) ≡ 64 = search needs in
-    let sized-own : length (c .before .before .before .before .before .before .before .before .before .before .own-loads .last .1 .1 .1 .1 .0) ≡ 64 = search needs in
-    let room = length-replicate {A = ℕ} 512 0 in (
-      record {
-        blank = record { own-room = sized-own; undirected = refl; unloaded = refl; never-joined = ap (replicate 64) (c .plus .ensures); never-active = ap (replicate 64) (c .plus .ensures) };
-        none-active = refl;
-      },
-      λ d minutes B.
+    let after-to-bytes = c .before .before in
+    let at-to-bytes = after-to-bytes .to-bytes in
+    let after-fill-reach = after-to-bytes .before .before .before .before .before in
+    let at-fill-reach = after-fill-reach .fill-reach in
+    let after-own-loads = after-fill-reach .before .before .before .before .before in
+    let at-own-loads = after-own-loads .own-loads in
+    let after-peel = after-own-loads .before .before .before .before .before .before .before in
+    let at-peel = after-peel .peel in
+    let after-place-lowest = after-peel .before .before .before .before in
+    let at-place-lowest = after-place-lowest .place-lowest in
+    let back1 = after-place-lowest .before .before .before .before .before .before .before .before .before .before
+    .before in
+    let at-args = back1 .before .before .args in
+    let n = at-args .n in
+    let allowed = at-args .allowed .now in
+    let rocks = at-args .left .now in
+    let wide = length-replicate {A = ℕ} 512 0 in (
+      refl,
+      λ d minutes B room.
           let F = B .fields in
-          let sound = B .sparse-day .day-rocks .sound in
+          let S = B .sparse-day in
+          let sound = S .day-rocks .sound in
           let few = F .bounded .few-jobs in
-          let P = start-placed d (n .jobs) minutes allowed (replicate 512 0) (c .before .before .before .before .before .before .before .before .before .before .before .before .before .before .before .before .before .before .before .before .before .before .before .before .before .before .before .before .before .args .rock) F sound (omega (arith, sized, few)) (omega (arith, room, few))
-          (B .sparse-day .rocky) (c .before .before .before .before .before .before .before .before .before .before .before .before .before .before .before .before .before .before .before .before .place-lowest .ensures) (λ s Q. c .before .before .before .before .before .before .before .before .before .before .before .before .before .before .before .before .peel .ensures d s (B .sparse-day .day-rocks) (B .sparse-day .rock-jobs) (B .sparse-day .cycles) Q) in
-          let bytes = c .before .before .to-bytes .ensures (omega (arith, P .place-room, F .jobs-are)) (omega (arith, room, F .jobs-are, few))
-          (λ i h. omega (arith, P .places i (omega (arith, F .jobs-are)), start-below d sound i (omega (arith, F .jobs-are)), F .bounded .few-benches)) in
-          let shown = placed-copied (n .jobs) _ (replicate 512 0) (omega (arith, room, F .jobs-are, few)) bytes d _ _ (F .jobs-are) P in (
+          let P = start-placed d (n .jobs) minutes allowed (replicate 512 0) rocks F sound
+          (omega (arith, room .left-room, few)) (omega (arith, wide, few)) (S .rocky) (at-place-lowest .ensures)
+          (λ s Q. at-peel .ensures d s (S .day-rocks) (S .rock-jobs) (S .cycles) Q) in
+          let fits : n .jobs ≤ length (at-args .place .now) = omega (arith, room .place-room, F .jobs-are, few) in
+          let bytes = at-to-bytes .ensures (omega (arith, P .place-room, F .jobs-are)) fits
+          (λ i h. omega (
+            arith,
+            P .places i (omega (arith, F .jobs-are)),
+            start-below d sound i
+                (omega (arith, F .jobs-are)),
+            F .bounded .few-benches,
+          )) in
+          let shown = placed-copied (n .jobs) _ _ fits bytes d _ _ (F .jobs-are) P in (
             record {
-              held = started-held d n minutes allowed _ _ _ _ _ _ _ _ B _ _
-                  shown;
+              held = started-places d n minutes allowed _ _ _ _ _ _ _ _ B _ _ shown;
               made = refl;
-              owned = started-owned d n minutes allowed _ _ _ _ _ _ _ _ B _ _ P wide _
-                  (load-after _ _ _ (n .jobs) _ (c .before .before .before .before .before .before .before .before .before .before .own-loads .ensures));
-              reaches = c .before .before .before .before .before .before .fill-reach .ensures (boardOf d (start d)) (F .jobs-are) (F .bounded .few-benches)
-                  (started-pebbles d n minutes allowed _ _ _ _ _ _ _ _ B _ _ P) refl;
+              own-room = at-own-loads .kept .1 .1 .1 .1 .0 ∙ room .own-room;
+              reach-room = at-fill-reach .kept .1 .1 .1 .1 .0 ∙ ap length (room .unreached) ∙ length-replicate {A =
+                  ℕ} 64 0;
+              owned = started-owned d n minutes allowed _ _ _ _ _ _ _ _ B _ _ P (room .own-room) _
+                  (load-after _ _ _ (n .jobs) _ (at-own-loads .ensures));
+              reaches = at-fill-reach .ensures (boardOf d (start d)) (F .jobs-are) (F .bounded .few-benches)
+                  (started-pebbles d n minutes allowed _ _ _ _ _ _ _ _ B _ _ P) (room .unreached);
             },
             shown,
           ),
@@ -103,17 +116,15 @@ start-spec =
     slice-aggregate-place-lowest
     place-lowest-requires
     slice-aggregate-peel
-    slice-aggregate-peel-2
     peel-requires
     slice-aggregate-own-loads
-    slice-aggregate-own-loads-2
-    slice-aggregate-own-loads-3
     own-loads-requires
     slice-aggregate-fill-reach
-    slice-aggregate-fill-reach-2
     fill-reach-requires
     slice-aggregate-to-bytes
-    slice-aggregate-to-bytes-2
     to-bytes-requires
-    plus-requires
+    same-length
+    same-length-2
+    same-length-3
+    same-length-4
     returns)
