@@ -2,8 +2,8 @@
 //! counted by size. The linker leads both to the two functions here (build.rs).
 //!
 //! A turn of the run, an exploration and a push, may copy the loads of the benches with which the
-//! exploration begins, and nothing else: no list of jobs, no places, no choices. Fails where one copies
-//! more. What the compiler copies without a call has 128 bytes at most, and is not counted.
+//! exploration begins, and nothing else: no list of jobs, no places, no choices. Fails where one
+//! copies more. What the compiler copies without a call, parts of structs, is not counted.
 
 // Only planning.
 #[allow(dead_code)]
@@ -83,9 +83,11 @@ fn bytes_of(copies: &[(u64, u64)]) -> u64 {
 fn print(planner: &mut Planner, name: &str, sheet: &[u8]) -> Option<bool> {
     let (mut found, mut expected) = (Tables::new(), Tables::new());
     let copies = copies(sheet, &mut found)?;
+    assert!(!copies.is_empty(), "{name}: no copy was counted, so none leads here");
     let [places, loads, answer] = expected.all();
     door::plan(planner, sheet, places, loads, answer);
-    let [moves, wanted] = [&found, &expected].map(|tables: &Tables<ANSWER_ENTRIES>| tables.answer()[1]);
+    let [moves, wanted] =
+        [&found, &expected].map(|tables: &Tables<ANSWER_ENTRIES>| tables.answer()[1]);
     assert_eq!(moves, wanted, "{name}: the moves differ");
     let (explorations, rounds) = (moves + 1, planner.counts().explored.rounds);
     print!("{name:<24} {explorations:>12} {rounds:>8} {:>12}", bytes_of(&copies));
@@ -95,7 +97,8 @@ fn print(planner: &mut Planner, name: &str, sheet: &[u8]) -> Option<bool> {
     }
     let turn = of_a_turn(&copies, explorations);
     print!(" {:>6}", bytes_of(&turn));
-    let sizes: Vec<String> = turn.iter().map(|(bytes, calls)| format!("{calls} x {bytes}")).collect();
+    let sizes: Vec<String> =
+        turn.iter().map(|(bytes, calls)| format!("{calls} x {bytes}")).collect();
     println!("  {}", sizes.join(", "));
     Some(bytes_of(&turn) <= MOST_BYTES)
 }
