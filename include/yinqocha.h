@@ -6,8 +6,9 @@
  * jobs, each with its minutes and the benches that may take it. A program that has these as plain
  * numbers, such as the depot's screen program, writes a sheet with yinqocha_write(), has it planned
  * with yinqocha_plan(), or with the best target instead of its own with yinqocha_best(), and tells
- * whether two plans of it come to the same with yinqocha_compare(). Link it with libyinqocha.a
- * (x86-64).
+ * whether two plans of it come to the same with yinqocha_compare(). A plan or a blocking set that
+ * comes from elsewhere is checked with yinqocha_check_plan() and yinqocha_check_set(). Link it with
+ * libyinqocha.a (x86-64).
  *
  * This header is the manual. It says first what holds of every call, then what the numbers mean,
  * then describes each function, with a program that uses it and what the program prints. Jobs and
@@ -20,7 +21,7 @@
  * nothing from the heap, and has no state. Threads may call it at the same time as long as none
  * writes to a buffer that another is using. A buffer that a call writes must overlap no other
  * buffer of the call. A thread that plans or finds the best target needs about 115 KiB of stack,
- * one that compares about 72 KiB, one that only writes about 20 KiB.
+ * one that compares or checks about 72 KiB, one that only writes about 20 KiB.
  *
  * A buffer is a pointer and a length in bytes, and the pointer may have any alignment. NULL with
  * length 0 is an empty buffer. The library reads no byte behind a buffer's length and writes none.
@@ -114,16 +115,21 @@ extern "C" {
  * lowest such job, read or written). */
 #define YINQOCHA_LONG_JOB_WITH_CHOICE 12u
 
-/* Faults of the other buffers. They share their number, since no function has both. */
+/* Faults of the other buffers. Two share their number, since no function has both. */
 
-/* Writing, planning, finding the best target: a table or an output that the call fills is too short
- * (0). Writing: the sheet does not fit. Planning: there are fewer places than jobs, fewer loads
- * than benches, or fewer than three numbers for the answer. The best target: there are fewer places
- * than jobs, fewer loads than benches, or fewer than five numbers for the answer. */
+/* Writing, planning, finding the best target, checking: a table or an output that the call fills is
+ * too short (0). Writing: the sheet does not fit. Planning: there are fewer places than jobs, fewer
+ * loads than benches, or fewer than three numbers for the answer. The best target: there are fewer
+ * places than jobs, fewer loads than benches, or fewer than five numbers for the answer. Checking:
+ * there are fewer than two numbers for the answer to a plan, or none for the answer to a set. */
 #define YINQOCHA_NO_ROOM 13u
 /* Comparing: a list is no assignment, it does not give each job one bench that it allows (0 for the
  * first list, 1 for the second). */
 #define YINQOCHA_NO_ASSIGNMENT 13u
+/* Checking a plan: the list does not have one place a job (0). */
+#define YINQOCHA_BAD_LIST 16u
+/* Checking a set: it is empty (0), or it has a bench that the head lacks (the lowest such one). */
+#define YINQOCHA_BAD_SET 17u
 
 /*
  * LIMITS
@@ -138,8 +144,9 @@ extern "C" {
  * that a longer file is fault 1 and not a sheet that was cut. */
 #define YINQOCHA_MAX_SHEET_BYTES 65536u
 
-/* A set of benches is a number of 64 bits: the benches that a job allows, and the blocking set of
- * an answer. The bit of bench b, 0 to 63, and whether bench b is in a set. */
+/* A set of benches is a number of 64 bits: the benches that a job allows, the blocking set of an
+ * answer, and the set that is checked. The bit of bench b, 0 to 63, and whether bench b is in a
+ * set. */
 #define YINQOCHA_BENCH(b) (UINT64_C(1) << (63 - (b)))
 #define YINQOCHA_HAS_BENCH(set, b) (((uint64_t)(set) & YINQOCHA_BENCH(b)) != 0)
 
@@ -535,6 +542,190 @@ uint64_t yinqocha_best(const uint8_t *sheet, size_t sheet_len,
 uint64_t yinqocha_compare(const uint8_t *sheet, size_t sheet_len,
                           const void *first, size_t first_len,
                           const void *second, size_t second_len);
+
+/*
+ * CHECKING A PLAN
+ *
+ * A plan may come from elsewhere, such as from a supplier. The checker holds its list of places
+ * against the sheet and the sheet's own target T: the list is passed if and only if
+ *
+ *   - each job is on a bench that it allows, and
+ *   - no bench is loaded above the bound, 3q * load <= (5q + p) * T, its booked minutes included.
+ *
+ * A plan of yinqocha_plan() always passes for the same sheet, with the same largest load and the
+ * same fullest bench, and one of yinqocha_best() passes for the sheet with the target found. A job
+ * longer than T is no reason to fail by itself: if its bench is within the bound, the list passes.
+ *
+ * In:
+ *   sheet     the bytes of a sheet
+ *   places    a table: entry j is the bench of job j. An entry that is no bench at all, such as 64,
+ *             is a bench that the job does not allow.
+ *
+ * The list has one entry for each job, no more and no fewer; pass 8 * jobs bytes of a longer table.
+ *
+ * Out:
+ *   answer    a table of two entries:
+ *
+ *                          first entry       second entry
+ *             passed       the largest load  the fullest bench, the lowest if several are as full
+ *             not passed   0                 0
+ *
+ *             Later bytes keep their contents.
+ *   result    YINQOCHA_PASSED or YINQOCHA_NOT_PASSED
+ *
+ * Faults: those of the sheet, 1 to 9, 11, 12, 14 and 15 as above; then 13 if the answer has fewer
+ * than two entries; then 16 if the list does not have one place a job. After a fault the answer
+ * keeps its contents.
+ *
+ * In the example the target is 8, and a load of up to 14 is within the bound.
+ *
+ * Example: three jobs of 5 minutes on bench 0 or 1, bench 1 booked for 4, and four lists of places.
+ *
+ *     #include "yinqocha.h"
+ *
+ *     #include <inttypes.h>
+ *     #include <stdio.h>
+ *
+ *     int main(void)
+ *     {
+ *         const uint64_t both = YINQOCHA_BENCH(0) | YINQOCHA_BENCH(1);
+ *         const uint64_t booked[] = { 0, 4 };
+ *         const uint64_t minutes[] = { 5, 5, 5 };
+ *         const uint64_t allowed[] = { both, both, both };
+ *         const uint64_t lists[4][3] = { { 0, 0, 1 }, { 0, 1, 1 }, { 0, 0, 0 }, { 0, 0, 2 } };
+ *         uint8_t sheet[YINQOCHA_SHEET_BYTES(1, 3)];
+ *         uint64_t answer[YINQOCHA_CHECK_PLAN_ENTRIES];
+ *
+ *         uint64_t word = yinqocha_write(2, 4, 7, 8, booked, sizeof booked,
+ *                                        minutes, sizeof minutes, allowed, sizeof allowed,
+ *                                        sheet, sizeof sheet);
+ *         for (unsigned n = 0; n < 4 && YINQOCHA_FAULT(word) == YINQOCHA_OK; n++) {
+ *             word = yinqocha_check_plan(sheet, sizeof sheet, lists[n], sizeof lists[n],
+ *                                        answer, sizeof answer);
+ *             if (word == YINQOCHA_PASSED)
+ *                 printf("list %u: passed, %" PRIu64 " minutes on bench %" PRIu64 "\n", n,
+ *                        answer[0], answer[1]);
+ *             else if (word == YINQOCHA_NOT_PASSED)
+ *                 printf("list %u: not passed\n", n);
+ *         }
+ *         if (YINQOCHA_FAULT(word) == YINQOCHA_OK)
+ *             word = yinqocha_check_plan(sheet, sizeof sheet, lists[0], 2 * sizeof lists[0][0],
+ *                                        answer, sizeof answer);
+ *         printf("fault %" PRIu32 ", place %" PRIu32 "\n",
+ *                YINQOCHA_FAULT(word), YINQOCHA_VALUE(word));
+ *         return 0;
+ *     }
+ *
+ * It prints:
+ *
+ *     list 0: passed, 10 minutes on bench 0
+ *     list 1: passed, 14 minutes on bench 1
+ *     list 2: not passed
+ *     list 3: not passed
+ *     fault 16, place 0
+ */
+#define YINQOCHA_NOT_PASSED 0u
+#define YINQOCHA_PASSED 1u
+
+/* The entries of an answer table of a checked plan. */
+#define YINQOCHA_CHECK_PLAN_ENTRIES 2u
+
+uint64_t yinqocha_check_plan(const uint8_t *sheet, size_t sheet_len,
+                             const void *places, size_t places_len,
+                             void *answer, size_t answer_len);
+
+/*
+ * CHECKING A BLOCKING SET
+ *
+ * The checker says whether a set of benches is blocking for the sheet and its own target T. Where
+ * no job is longer than T, a heavy job, of more than p/q of T minutes, allows at most two benches.
+ * A placement puts each heavy job on a bench that it allows, no bench taking two. A set of k
+ * benches is blocking if in every placement
+ *
+ *     the heavy jobs placed inside it
+ *     + all light jobs whose benches all lie inside it
+ *     + the booked minutes of its benches
+ *
+ * weigh more than k * T. Where no placement exists, every set is blocking. If a set is blocking, no
+ * assignment keeps every bench within T; there may be a plan all the same, which goes beyond T up
+ * to its bound. The blocking set of a none of yinqocha_plan() always passes for the same sheet.
+ *
+ * In:
+ *   sheet     the bytes of a sheet
+ *   set       the benches, the sum of YINQOCHA_BENCH(b) over the benches b of the set, at least one
+ *
+ * Out:
+ *   answer    a table of one entry: for long the lowest job that has more than T minutes, otherwise
+ *             0. Later bytes keep their contents.
+ *   result    YINQOCHA_PASSED      the set is blocking
+ *             YINQOCHA_NOT_PASSED  it is not
+ *             YINQOCHA_LONG        a job has more than T minutes: the set is not judged, and no
+ *                                  assignment keeps every bench within T
+ *
+ * Faults: those of the sheet, 1 to 9, 11, 12, 14 and 15 as above; then 13 if the answer has no
+ * entry; then 17, with place 0 if the set is empty, otherwise with the lowest bench of it that the
+ * head lacks. After a fault the answer keeps its contents.
+ *
+ * In the example there are three jobs of 5 minutes on bench 0 or 1. With target 8 they are heavy,
+ * and no placement puts three of them on two benches. With target 9 they are light, and 15 is not
+ * more than 2 * 9; with 4 minutes booked on bench 1 as well, 19 is.
+ *
+ * Example: the set of benches 0 and 1, with several targets and bookings, and a bench too many.
+ *
+ *     #include "yinqocha.h"
+ *
+ *     #include <inttypes.h>
+ *     #include <stdio.h>
+ *
+ *     static void check(uint64_t target, uint64_t on_bench_1, uint64_t set)
+ *     {
+ *         const uint64_t both = YINQOCHA_BENCH(0) | YINQOCHA_BENCH(1);
+ *         const uint64_t booked[] = { 0, on_bench_1 };
+ *         const uint64_t minutes[] = { 5, 5, 5 };
+ *         const uint64_t allowed[] = { both, both, both };
+ *         uint8_t sheet[YINQOCHA_SHEET_BYTES(1, 3)];
+ *         uint64_t answer[YINQOCHA_CHECK_SET_ENTRIES];
+ *
+ *         uint64_t word = yinqocha_write(3, 4, 7, target, booked, sizeof booked,
+ *                                        minutes, sizeof minutes, allowed, sizeof allowed,
+ *                                        sheet, sizeof sheet);
+ *         if (YINQOCHA_FAULT(word) == YINQOCHA_OK)
+ *             word = yinqocha_check_set(sheet, YINQOCHA_VALUE(word), set, answer, sizeof answer);
+ *         printf("target %" PRIu64 ", booked %" PRIu64 ": ", target, on_bench_1);
+ *         if (YINQOCHA_FAULT(word) != YINQOCHA_OK)
+ *             printf("fault %" PRIu32 ", place %" PRIu32 "\n",
+ *                    YINQOCHA_FAULT(word), YINQOCHA_VALUE(word));
+ *         else if (YINQOCHA_VALUE(word) == YINQOCHA_LONG)
+ *             printf("job %" PRIu64 " is too long\n", answer[0]);
+ *         else
+ *             printf("%s\n", YINQOCHA_VALUE(word) == YINQOCHA_PASSED ? "passed" : "not passed");
+ *     }
+ *
+ *     int main(void)
+ *     {
+ *         const uint64_t both = YINQOCHA_BENCH(0) | YINQOCHA_BENCH(1);
+ *         check(4, 0, both);
+ *         check(8, 0, both);
+ *         check(9, 0, both);
+ *         check(9, 4, both);
+ *         check(9, 4, both | YINQOCHA_BENCH(3));
+ *         return 0;
+ *     }
+ *
+ * It prints:
+ *
+ *     target 4, booked 0: job 0 is too long
+ *     target 8, booked 0: passed
+ *     target 9, booked 0: not passed
+ *     target 9, booked 4: passed
+ *     target 9, booked 4: fault 17, place 3
+ */
+
+/* The entries of an answer table of a checked set. The result may be YINQOCHA_LONG too. */
+#define YINQOCHA_CHECK_SET_ENTRIES 1u
+
+uint64_t yinqocha_check_set(const uint8_t *sheet, size_t sheet_len, uint64_t set,
+                            void *answer, size_t answer_len);
 
 #ifdef __cplusplus
 }

@@ -3,8 +3,9 @@
  * outputs that fit exactly or lack one byte. Planning: sheets that were written, with each of the
  * three answers, and tables that fit exactly or lack one byte. Comparing: plans, and lists that are
  * none. bookings.h has the checks of booked benches, answers.h those of the answer table,
- * check_only.h those of jobs of 0 minutes, best.h those of the best target, door.h what all checks
- * use. From the repository root, after `rt staticlib yinqocha`:
+ * check_only.h those of jobs of 0 minutes, best.h those of the best target, checks.h those of lists
+ * and sets from elsewhere, door.h what all checks use. From the repository root, after
+ * `rt staticlib yinqocha`:
  *
  *     gcc -std=c11 -Wall -Wextra -Werror -Iinclude tests/c/door.c \
  *         target/staticlib/libyinqocha.a -o target/door
@@ -14,6 +15,7 @@
 #include "best.h"
 #include "bookings.h"
 #include "check_only.h"
+#include "checks.h"
 #include "door.h"
 #include "yinqocha.h"
 
@@ -234,6 +236,7 @@ int main(void)
     answer_tables();
     check_only_jobs();
     best_targets();
+    checks_of_papers();
     printf("door: all checks hold\n");
     return EXIT_SUCCESS;
 }

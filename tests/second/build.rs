@@ -9,10 +9,12 @@ const SHEETS: [(&str, &[&str]); 2] = [
     ("sheet_times", &["libyinqocha.a", "libinspect.a"]),
 ];
 /// The same for those that call them with the feature `library` only.
-const PLANS: [(&str, &[&str]); 5] = [
+const PLANS: [(&str, &[&str]); 7] = [
     ("plans", &["libyinqocha.a"]),
     ("plan_times", &["libyinqocha.a"]),
     ("best_times", &["libyinqocha.a"]),
+    ("checks", &["libyinqocha.a"]),
+    ("check_times", &["libyinqocha.a"]),
     ("light_days", &["libyinqocha.a"]),
     ("copies", &["libyinqocha.a"]),
 ];

@@ -2,15 +2,21 @@
 --     plan-case, long-case, none-case     three values, in the order in which they are told; 0 where there are fewer
 --     fault-case                          a fault has its own number, and its place
 --     best-case, best-fault-case          the same of the search for the best target: five values
+--     list-passed-case, list-not-passed-case, list-fault-case     the same of the check of a list
+--     set-passed-case, set-long-case, set-not-passed-case, set-fault-case     the same of the check of a set
 --     only-a-plan-is-one, only-long-is-long     what counts as a plan, and as long
 use mathlib.Core.Path.{_≡_, refl}
 use mathlib.Core.Bool.{true, false}
 use mathlib.Core.List.{[], _∷_}
-use Rattle.fields.specs.declared.fault.Fault.the-variants.{Truncated}
+use Rattle.fields.specs.declared.fault.Fault.the-variants.{Truncated, PlaceCount, SetBench}
 use Rattle.answers.specs.declared.answer.Answer.the-variants.{Plan, Long, None, Fault as Faulty}
 use Rattle.answers.specs.declared.best.BestAnswer.the-variants.{Best, Fault as BestFaulty}
+use Rattle.answers.specs.declared.check.ListAnswer.the-variants.{Passed, NotPassed, Fault as ListFaulty}
+use Rattle.answers.specs.declared.check.SetAnswer.the-variants.{Passed as SetPassed, Long as SetLong}
+use Rattle.answers.specs.declared.check.SetAnswer.the-variants.{NotPassed as SetNotPassed, Fault as SetFaulty}
 use Rattle.answers.specs.Answers.{caseOf, isPlan, isLong}
 use Rattle.answers.specs.BestAnswers.{bestCaseOf}
+use Rattle.answers.specs.CheckAnswers.{listCaseOf, setCaseOf}
 
 -- Largest load 7, two moves, bench 1 the fullest.
 pub plan-case : caseOf (Plan (record { largest = 7; moves = 2; fullest = 1 }))
@@ -34,6 +40,29 @@ best-case = refl
 
 pub best-fault-case : bestCaseOf (BestFaulty (Truncated 9)) ≡ record { number = 2; values = 9 ∷ [] }
 best-fault-case = refl
+
+-- Largest load 7, on bench 1.
+pub list-passed-case : listCaseOf (Passed (record { largest = 7; fullest = 1 }))
+    ≡ record { number = 1; values = 7 ∷ 1 ∷ [] }
+list-passed-case = refl
+
+pub list-not-passed-case : listCaseOf NotPassed ≡ record { number = 0; values = 0 ∷ 0 ∷ [] }
+list-not-passed-case = refl
+
+pub list-fault-case : listCaseOf (ListFaulty PlaceCount) ≡ record { number = 16; values = 0 ∷ [] }
+list-fault-case = refl
+
+pub set-passed-case : setCaseOf SetPassed ≡ record { number = 1; values = 0 ∷ [] }
+set-passed-case = refl
+
+pub set-long-case : setCaseOf (SetLong (record { job = 4 })) ≡ record { number = 2; values = 4 ∷ [] }
+set-long-case = refl
+
+pub set-not-passed-case : setCaseOf SetNotPassed ≡ record { number = 0; values = 0 ∷ [] }
+set-not-passed-case = refl
+
+pub set-fault-case : setCaseOf (SetFaulty (SetBench 9)) ≡ record { number = 17; values = 9 ∷ [] }
+set-fault-case = refl
 
 pub only-a-plan-is-one : (isPlan (Plan (record { largest = 7; moves = 2; fullest = 1 })) ≡ true)
     × (isPlan (Long (record { job = 4 })) ≡ false)

@@ -1,7 +1,8 @@
-// The answers of the planner and of the search for the best target: their cases with named values (specs/Answers and
-// specs/BestAnswers have the number and the values of each).
+// The answers of the planner, of the search for the best target and of the checks: their cases with named values
+// (specs/Answers, specs/BestAnswers and specs/CheckAnswers have the number and the values of each).
 mod answer;
 mod best;
+mod check;
 
 pub use answer::Answer;
 pub use answer::Filled;
@@ -11,3 +12,6 @@ pub use answer::PlanAnswer;
 pub use best::BestAnswer;
 pub use best::BestFilled;
 pub use best::BestPlan;
+pub use check::ListAnswer;
+pub use check::ListPassed;
+pub use check::SetAnswer;

@@ -38,7 +38,7 @@ use Rattle.algorithm.specs.BestExamples.{best}
 use Rattle.tables.specs.Tables.{putNumbers}
 use Rattle.tables.specs.Words.{faultWord}
 use Rattle.door.specs.DoorClaim.{AllKept}
-use Rattle.door.proofs.DoorExamples.{filled}
+use Rattle.door.proofs.DoorExamples.{filled, entry, pair}
 use Rattle.best_door.specs.BestDoor.{doorBest, bestWord, bestNumbers, BestCalled}
 use Rattle.best_door.specs.BestDoorClaim.{RoomForBest, BestDoorClaim}
 use Rattle.best_door.proofs.BestReplies.{door-read}
@@ -64,13 +64,6 @@ unfolding fullest isSet grow closure reach bookedFrom lowest highest longJob roc
     activate openRound rounds explore follow settleFrom crowdedBench oneCycle peel start ownMinutes answerAt turns run
     members givesPlan seek searched
 booked-best = refl
-
--- A number of one byte, as an entry before others.
-abbrev pub entry : ℕ → List ℕ → List ℕ
-entry n rest = n ∷ 0 ∷ 0 ∷ 0 ∷ 0 ∷ 0 ∷ 0 ∷ 0 ∷ rest
-
-abbrev pub pair : ℕ → ℕ → List ℕ
-pair a b = entry a (entry b [])
 
 -- The five numbers of an answer.
 abbrev pub five : ℕ → ℕ → ℕ → ℕ → ℕ → List ℕ

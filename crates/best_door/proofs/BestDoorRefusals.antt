@@ -44,9 +44,9 @@ use Rattle.argument.specs.Best.{Vouched}
 use Rattle.blocking.proofs.ClaimRefusals.{first-entry, fullContents, fullSheet, full-read}
 use Rattle.tables.specs.Tables.{entryOf}
 use Rattle.door.specs.DoorClaim.{PlanInBytes}
-use Rattle.door.proofs.DoorExamples.{filled}
+use Rattle.door.proofs.DoorExamples.{filled, entry, pair}
 use Rattle.best_door.specs.BestDoorClaim.{NoRoomForBest, RoomForBest, bestIn, BestDoorClaim}
-use Rattle.best_door.proofs.BestDoorExamples.{bookedContents, bookedBytes, booked-read, entry, pair, five}
+use Rattle.best_door.proofs.BestDoorExamples.{bookedContents, bookedBytes, booked-read, five}
 use Rattle.best_door.proofs.BestDoorExamples.{room-exact, right-claimed}
 
 -- ── the booked sheet ──

@@ -1,7 +1,5 @@
 -- The comparison of plans in arrays.
---     fitsAt allowed list j     the list puts job j on a bench of its set
 --     givesIn jobs allowed list     the list gives each job one bench of its set
---     loadIn jobs minutes list v    the load of bench v
 --     LoadsFit jobs minutes     every load of every list fits a number of the program
 --     Loads jobs minutes list loads     the array holds the loads of the list
 --     sameIn benches jobs minutes first second      both lists give every bench the same load
@@ -11,19 +9,11 @@ use mathlib.Core.Bool.{Bool, _&&_}
 use mathlib.Core.List.{List}
 use lib.ListN.{length, getD}
 use lib.Dec.{eqb}
-use Rattle.sums.specs.Sum.{sum}
 use Rattle.sums.specs.Search.{all}
-use Rattle.bits.specs.Bits.{isSet}
-use Rattle.loads.specs.Loads.{minutesOn}
-
-abbrev pub fitsAt : List ℕ → List ℕ → ℕ → Bool
-fitsAt allowed list j = isSet 64 (getD allowed j 0) (getD list j 0)
+use Rattle.lists.specs.Lists.{fitsAt, loadIn}
 
 abbrev pub givesIn : ℕ → List ℕ → List ℕ → Bool
 givesIn jobs allowed list = eqb (length list) jobs && all jobs (fitsAt allowed list)
-
-abbrev pub loadIn : ℕ → List ℕ → List ℕ → ℕ → ℕ
-loadIn jobs minutes list v = sum jobs (minutesOn minutes list v)
 
 abbrev pub LoadsFit : ℕ → List ℕ → Type 0
 LoadsFit jobs minutes = (list : List ℕ) → (v : ℕ) → loadIn jobs minutes list v < 2 ^ 63

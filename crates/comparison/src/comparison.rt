@@ -12,30 +12,7 @@ ghost use Rattle.fields.specs.Contents.{Contents};
 ghost use Rattle.frame.specs.Tables.{Tables};
 ghost use Rattle.day.specs.Day.{dayOf};
 ghost use Rattle.comparison.specs.Comparison.{comparedOf, comparePlans};
-ghost use Rattle.comparison.specs.CompareArrays.{fitsAt, givesIn, Loads, LoadsFit, sameIn};
-
-// Whether job j's bench in the list is one of its set.
-fn fit<'a>(allowed: &'a [u64], list: &'a [u64], j: usize) -> bool
-    ensures { λ r. ⌜ r ≡ fitsAt (now (allowed .entry)) (now (list .entry)) j ⌝ }
-{
-    let set = arrays::entry(allowed, j) as usize;
-    let v = arrays::entry(list, j) as usize;
-    sets::has(set, v)
-}
-
-// Whether each job's bench in the list is one of its set.
-fn fit_all<'a>(jobs: usize, allowed: &'a [u64], list: &'a [u64]) -> bool
-    ensures { λ r. ⌜ r ≡ all jobs (fitsAt (now (allowed .entry)) (now (list .entry))) ⌝ }
-{
-    let mut j = 0;
-    while j < jobs {
-        if !fit(allowed, list, j) {
-            return false;
-        }
-        j += 1;
-    }
-    true
-}
+ghost use Rattle.comparison.specs.CompareArrays.{givesIn, Loads, LoadsFit, sameIn};
 
 // Whether the list gives each job one bench of its set.
 fn gives_each<'a>(jobs: usize, allowed: &'a [u64], list: &'a [u64]) -> bool
@@ -44,19 +21,15 @@ fn gives_each<'a>(jobs: usize, allowed: &'a [u64], list: &'a [u64]) -> bool
     if list.len() != jobs {
         return false;
     }
-    fit_all(jobs, allowed, list)
+    lists::fit_all(jobs, allowed, list)
 }
 
 // Entry v: the minutes of the jobs that the list puts on bench v.
 fn list_loads<'a>(jobs: usize, minutes: &'a [u64], list: &'a [u64]) -> [usize; 64]
     ensures { λ r. ⌜ (jobs ≤ 512 → Loads jobs (now (minutes .entry)) (now (list .entry)) r) ⌝ }
 {
-    let mut amount = [0usize; 512];
-    let mut place = [0usize; 512];
     let mut load = [0usize; 64];
-    arrays::narrow(jobs, minutes, &mut amount);
-    arrays::narrow(jobs, list, &mut place);
-    loads::sum_benches(jobs, 64, &amount, &place, &mut load);
+    lists::sum_list(jobs, 64, minutes, list, &mut load);
     load
 }
 

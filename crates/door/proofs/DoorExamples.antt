@@ -25,27 +25,22 @@ use Rattle.door.proofs.DoorDemand.{door-claim}
 abbrev pub filled : ℕ → List ℕ
 filled n = replicate n 165
 
--- The numbers 1, 0, 0, 0 and the loads 6 and 2, eight bytes each, the lowest first; largest load 6, 1 move, fullest bench 0.
+-- A number of one byte, as an entry before others.
+abbrev pub entry : ℕ → List ℕ → List ℕ
+entry n rest = n ∷ 0 ∷ 0 ∷ 0 ∷ 0 ∷ 0 ∷ 0 ∷ 0 ∷ rest
+
+abbrev pub pair : ℕ → ℕ → List ℕ
+pair a b = entry a (entry b [])
+
+-- The numbers 1, 0, 0, 0 and the loads 6 and 2; largest load 6, 1 move, fullest bench 0.
 abbrev pub placesBytes : List ℕ
-placesBytes =
-    1 ∷ 0 ∷ 0 ∷ 0 ∷ 0 ∷ 0 ∷ 0 ∷ 0
-    ∷ 0 ∷ 0 ∷ 0 ∷ 0 ∷ 0 ∷ 0 ∷ 0 ∷ 0
-    ∷ 0 ∷ 0 ∷ 0 ∷ 0 ∷ 0 ∷ 0 ∷ 0 ∷ 0
-    ∷ 0 ∷ 0 ∷ 0 ∷ 0 ∷ 0 ∷ 0 ∷ 0 ∷ 0
-    ∷ []
+placesBytes = entry 1 (entry 0 (pair 0 0))
 
 abbrev pub loadsBytes : List ℕ
-loadsBytes =
-    6 ∷ 0 ∷ 0 ∷ 0 ∷ 0 ∷ 0 ∷ 0 ∷ 0
-    ∷ 2 ∷ 0 ∷ 0 ∷ 0 ∷ 0 ∷ 0 ∷ 0 ∷ 0
-    ∷ []
+loadsBytes = pair 6 2
 
 abbrev pub numbersBytes : List ℕ
-numbersBytes =
-    6 ∷ 0 ∷ 0 ∷ 0 ∷ 0 ∷ 0 ∷ 0 ∷ 0
-    ∷ 1 ∷ 0 ∷ 0 ∷ 0 ∷ 0 ∷ 0 ∷ 0 ∷ 0
-    ∷ 0 ∷ 0 ∷ 0 ∷ 0 ∷ 0 ∷ 0 ∷ 0 ∷ 0
-    ∷ []
+numbersBytes = entry 6 (pair 1 0)
 
 pub room-exact : RoomFor sheet8 (filled 32) (filled 16) (filled 24) contents8
 room-exact = record {

@@ -54,15 +54,12 @@ use Rattle.tables.specs.Tables.{entryOf, putNumbers}
 use Rattle.door.specs.DoorClaim.{NoRoomFor, RoomFor, PlanInBytes, DoorClaim}
 use Rattle.door.specs.PlanDoor.{planWord, answerNumbers}
 use Rattle.door.proofs.DoorDemand.{door-claim}
-use Rattle.door.proofs.DoorExamples.{filled, placesBytes, loadsBytes, numbersBytes, room-exact, answer-8}
-
--- Two numbers of one byte each, as entries.
-abbrev pair : ℕ → ℕ → List ℕ
-pair a b = a ∷ 0 ∷ 0 ∷ 0 ∷ 0 ∷ 0 ∷ 0 ∷ 0 ∷ b ∷ 0 ∷ 0 ∷ 0 ∷ 0 ∷ 0 ∷ 0 ∷ 0 ∷ []
+use Rattle.door.proofs.DoorExamples.{filled, entry, pair, placesBytes, loadsBytes, numbersBytes, room-exact}
+use Rattle.door.proofs.DoorExamples.{answer-8}
 
 -- Three numbers, as an answer's entries.
 abbrev triple : ℕ → ℕ → ℕ → List ℕ
-triple a b v = a ∷ 0 ∷ 0 ∷ 0 ∷ 0 ∷ 0 ∷ 0 ∷ 0 ∷ pair b v
+triple a b v = entry a (pair b v)
 
 -- ── example 8 ──
 

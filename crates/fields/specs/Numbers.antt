@@ -9,6 +9,7 @@ use Rattle.fields.specs.declared.fault.Fault.the-variants.{TooLong, Trun
 use Rattle.fields.specs.declared.fault.Fault.the-variants.{Misplaced, WrongLength, SpareBit, BenchCount}
 use Rattle.fields.specs.declared.fault.Fault.the-variants.{Share, JobCount, Minutes, Allowed}
 use Rattle.fields.specs.declared.fault.Fault.the-variants.{HeavyHyperEdge, Table, BookedBench, BookedTwice}
+use Rattle.fields.specs.declared.fault.Fault.the-variants.{PlaceCount, SetBench}
 
 abbrev pub numberOf : Fault → ℕ
 -- "The sheet is longer than 65,536 bytes (place 0)."
@@ -44,6 +45,10 @@ numberOf (Table at) = 13
 numberOf (BookedBench at) = 14
 -- "then number 15 that the bench already had a booking frame"
 numberOf (BookedTwice at) = 15
+-- Request S-6: "number 16 says that the list does not have one place a job"
+numberOf PlaceCount = 16
+-- "and number 17 that the set is empty or names a bench not in the head"
+numberOf (SetBench bench) = 17
 
 abbrev pub placeOf : Fault → ℕ
 placeOf TooLong = 0
@@ -61,3 +66,6 @@ placeOf (HeavyHyperEdge job) = job
 placeOf (Table at) = at
 placeOf (BookedBench at) = at
 placeOf (BookedTwice at) = at
+-- "A fault about a bench in other data has the number of the lowest such bench, ... and any other fault has place 0."
+placeOf PlaceCount = 0
+placeOf (SetBench bench) = bench

@@ -1,4 +1,4 @@
-// The faults of a sheet and of the writer, by number, each with its place.
+// The faults of a sheet, of the writer and of papers to be checked, by number, each with its place.
 ghost use mathlib.Core.Path.{_≡_};
 ghost use Rattle.fields.specs.Numbers.{numberOf, placeOf};
 
@@ -33,6 +33,10 @@ pub enum Fault {
     BookedBench(usize),
     // 15: a second booking frame for a bench.
     BookedTwice(usize),
+    // 16: a list of places that does not have one for each job.
+    PlaceCount,
+    // 17: an empty set of benches, or one with a bench that the head lacks.
+    SetBench(usize),
 }
 
 // Whether a test found a fault.
@@ -62,6 +66,8 @@ impl Fault {
             Fault::Table(_) => 13,
             Fault::BookedBench(_) => 14,
             Fault::BookedTwice(_) => 15,
+            Fault::PlaceCount => 16,
+            Fault::SetBench(_) => 17,
         }
     }
 
@@ -85,6 +91,8 @@ impl Fault {
             Fault::Table(at) => at,
             Fault::BookedBench(at) => at,
             Fault::BookedTwice(at) => at,
+            Fault::PlaceCount => 0,
+            Fault::SetBench(bench) => bench,
         }
     }
 }

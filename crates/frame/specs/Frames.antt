@@ -35,6 +35,7 @@ use Rattle.fields.specs.declared.fault.Fault.{Fault}
 use Rattle.fields.specs.declared.fault.Fault.the-variants.{TooLong, Truncated, UnknownKind, Misplaced, WrongLength}
 use Rattle.fields.specs.declared.fault.Fault.the-variants.{SpareBit, BenchCount, Share, JobCount, Minutes, Allowed}
 use Rattle.fields.specs.declared.fault.Fault.the-variants.{HeavyHyperEdge, Table, BookedBench, BookedTwice}
+use Rattle.fields.specs.declared.fault.Fault.the-variants.{PlaceCount, SetBench}
 use Rattle.fields.specs.Format.{ours, bookingKind, headerSize, versionOf, kindOf, frameSize, bodyOf, bookingOf}
 use Rattle.fields.specs.Tests.{Test, heavyHyperEdgeAt, LowestHeavyHyperEdge}
 use Rattle.judging.specs.FrameTests.{cut}
@@ -72,7 +73,7 @@ addedBefore unchanged at = 0
 addedBefore (kept {f} w p) at = cond (ltb at (length f)) 0 (addedBefore p (at - length f))
 addedBefore (added {f} w p) at = length f + addedBefore p at
 
--- "fault places counted in bytes move along". Faults 1, 12 and 13 have no byte place.
+-- "fault places counted in bytes move along". Faults 1, 12, 13, 16 and 17 have no byte place.
 unfoldable pub movedBy : (ℕ → ℕ) → Fault → Fault
 movedBy by TooLong = TooLong
 movedBy by (Truncated at) = Truncated (at + by at)
@@ -89,6 +90,8 @@ movedBy by (HeavyHyperEdge job) = HeavyHyperEdge job
 movedBy by (Table at) = Table at
 movedBy by (BookedBench at) = BookedBench (at + by at)
 movedBy by (BookedTwice at) = BookedTwice (at + by at)
+movedBy by PlaceCount = PlaceCount
+movedBy by (SetBench bench) = SetBench bench
 
 -- Where by bytes are added at byte from, those before byte at.
 abbrev pub fromOn : ℕ → ℕ → ℕ → ℕ

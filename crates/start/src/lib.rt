@@ -5,6 +5,7 @@ mod start;
 pub use peeling::peel;
 pub use start::choose;
 pub use start::gather;
+pub use start::heavy;
 pub use start::limits;
 pub use start::long_job;
 pub use start::mark_pebbles;

@@ -12,7 +12,7 @@ ghost use Rattle.sets.specs.Sets.{lowestOf, highestOf};
 ghost use Rattle.start.specs.StartArrays.{heavyOf, rockOf, pebbleOf, limitsOf};
 
 // heavy d j.
-fn heavy(p: usize, q: usize, target: usize, minutes: usize) -> bool
+pub fn heavy(p: usize, q: usize, target: usize, minutes: usize) -> bool
     ensures { λ r. ⌜ r ≡ heavyOf p q target minutes ⌝ }
 {
     arrays::times(p, target) < arrays::times(q, minutes)

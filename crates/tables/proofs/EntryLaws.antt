@@ -3,15 +3,18 @@
 --     entry-put             an entry that was put, if its number has at most 8 bytes
 --     later-kept            every byte after the numbers is as before
 --     entry-after           an entry of a table without its first n entries
-use Prim.Native.Nat.{ℕ, zero, suc, _+_, _*_, _^_, _<_}
+--     entry-front           an entry of the first n of a table
+--     entries-front         these are n entries, where the table has so many
+use Prim.Native.Nat.{ℕ, zero, suc, _+_, _*_, _^_, _≤_, _<_}
 use native.Mathlib.Omega.{arith}
 use mathlib.Core.Path.{_≡_, sym, ap, _∙_}
 use mathlib.Core.List.{List, [], _∷_, _++_, append-assoc}
-use lib.ListN.{length, getD, drop}
-use lib.Seq.{drop-drop, drop-at}
+use lib.ListN.{length, getD, take, drop}
+use lib.Seq.{drop-drop, drop-at, getD-take, getD-drop, length-take-le}
 use Rattle.bits.specs.Little.{little, littleOf, littleAll}
-use Rattle.bits.proofs.LittleLaws.{length-littleOf, length-littleAll, little-append-left, little-littleOf-exact}
-use Rattle.tables.specs.Tables.{entryOf, putNumbers}
+use Rattle.bits.proofs.LittleLaws.{length-littleOf, length-littleAll, little-cong, little-append-left}
+use Rattle.bits.proofs.LittleLaws.{little-littleOf-exact}
+use Rattle.tables.specs.Tables.{entriesOf, entryOf, putNumbers}
 
 abbrev pub Fit : List ℕ → Type 0
 Fit ns = (i : ℕ) → i < length ns → getD ns i 0 < 2 ^ 64
@@ -46,3 +49,18 @@ unfolding entryOf
 entry-after n i t =
     let here : 8 * n + 8 * i ≡ 8 * (n + i) = omega arith in
     ap (λ (xs : List ℕ). little xs 8) (drop-drop (8 * i) (8 * n) t ∙ ap (λ (k : ℕ). drop k t) here)
+
+-- ── the front of a table ──
+
+pub entry-front : (n i : ℕ) (t : List ℕ) → i < n → entryOf (take (8 * n) t) i ≡ entryOf t i
+unfolding entryOf
+entry-front n i t l =
+    little-cong (drop (8 * i) (take (8 * n) t)) (drop (8 * i) t) 8
+    (λ k h.
+    getD-drop (8 * i) (take (8 * n) t) k 0
+    ∙ getD-take (8 * n) t (8 * i + k) 0 (omega arith)
+    ∙ sym (getD-drop (8 * i) t k 0))
+
+pub entries-front : (n : ℕ) (t : List ℕ) → 8 * n ≤ length t → entriesOf (take (8 * n) t) ≡ n
+unfolding entriesOf
+entries-front n t h = omega (arith, length-take-le (8 * n) t h)

@@ -9,16 +9,15 @@ use mathlib.Core.Path.{_≡_, sym, ap, ap₂, _∙_}
 use mathlib.Core.Logic.{_⊎_, inl, inr}
 use mathlib.Core.Bool.{false}
 use mathlib.Core.List.{List}
-use lib.ListN.{length, take, length-take}
-use lib.Seq.{take-all}
+use lib.ListN.{length, take}
 use borrow.Author.Tests.{ne-eqb}
 use Rattle.bools.proofs.BoolLaws.{and-false-left}
-use Rattle.bools.proofs.OrderLaws.{lt-or-le}
 use Rattle.fields.specs.declared.fault.Fault.{Fault}
 use Rattle.frame.specs.Reading.{readSheet}
 use Rattle.frame.proofs.AcceptedLaws.{accepted-sound}
 use Rattle.frame.proofs.Stored.{read-cases}
 use Rattle.day.specs.Day.{Day, dayOf}
+use Rattle.lists.proofs.ListLaws.{front-enough}
 use Rattle.comparison.specs.declared.compared.Compared.{Compared}
 use Rattle.comparison.specs.declared.compared.Compared.the-variants.{Same, Different, Fault as ComparedFault}
 use Rattle.comparison.specs.Comparison.{givesEach, comparedOf, comparePlans}
@@ -30,12 +29,12 @@ use Rattle.door.specs.PlanDoor.{comparedWord}
 
 module _ (d : Day) (few : d .jobs ≤ 512) where
   list-needed : (xs : List ℕ) → (take 513 xs ≡ xs) ⊎ ((givesEach d (take 513 xs) ≡ false) × (givesEach d xs ≡ false))
-  list-needed xs = elim (lt-or-le 513 (length xs)) [
-    | inl long ↦ inr (
-      and-false-left _ (ne-eqb (length (take 513 xs)) (d .jobs) (λ e. omega (arith, length-take 513 xs))),
-      and-false-left _ (ne-eqb (length xs) (d .jobs) (λ e. omega arith)),
+  list-needed xs = elim (front-enough 513 (d .jobs) (omega arith) xs) [
+    | inl all ↦ inl all
+    | inr (a, b) ↦ inr (
+      and-false-left _ (ne-eqb (length (take 513 xs)) (d .jobs) a),
+      and-false-left _ (ne-eqb (length xs) (d .jobs) b),
     )
-    | inr short ↦ inl (take-all 513 xs short)
   ]
 
   compared-enough : (xs ys : List ℕ) → comparedOf d (take 513 xs) (take 513 ys) ≡ comparedOf d xs ys

@@ -24,10 +24,11 @@
 //!
 //! An answer there has the target and the number of targets run, then the plan of that target.
 
+use crate::codec::door::Codec;
 use crate::codec::fault::Fault;
 use crate::codec::sheet::{Booked, Head, Job, NOTHING_BOOKED};
 use crate::gen::day::Day;
-use crate::planner::algorithm::Answer;
+use crate::planner::algorithm::{Answer, Planner, Rooms};
 use crate::planner::best::Best;
 use crate::planner::set::Set;
 
@@ -53,30 +54,49 @@ pub struct Case {
 
 /// The cases of a text in that form.
 pub fn cases(text: &str) -> Vec<Case> {
-    let wanted = |line: &&str| !line.trim().is_empty() && !line.starts_with('#');
-    let lines: Vec<&str> = text.lines().filter(wanted).collect();
-    lines.chunk_by(|_, next| !next.starts_with("case:")).map(case).collect()
+    each_case(text, |lines| Case {
+        name: lines.value("case:").to_string(),
+        day: lines.day(),
+        without: lines.find("without:").map(str::to_string),
+        tried: lines.find("tried:").map(str::to_string),
+        answer: lines.value("answer:").to_string(),
+    })
 }
 
-fn case(lines: &[&str]) -> Case {
-    let find = |key: &str| lines.iter().find_map(|line| line.strip_prefix(key)).map(str::trim);
-    let value = |key: &str| find(key).unwrap_or_else(|| panic!("no `{key}` in {lines:?}"));
-    let job = |numbers: Vec<u64>| Job {
-        minutes: numbers[0],
-        allowed: numbers[1..].iter().fold(0, |all, &bench| all | Set::one(bench as usize).0),
-    };
-    let head = numbers(value("head:"));
-    Case {
-        name: value("case:").to_string(),
-        day: Day {
-            head: Head { benches: head[0], p: head[1], q: head[2], target: head[3] },
-            booked: booked(find("booked:").unwrap_or("")),
-            jobs: rows(value("jobs:")).map(job).collect(),
-        },
-        without: find("without:").map(str::to_string),
-        tried: find("tried:").map(str::to_string),
-        answer: value("answer:").to_string(),
+/// Makes something of the lines of each case of a text.
+pub fn each_case<C>(text: &str, case: impl Fn(Lines) -> C) -> Vec<C> {
+    let wanted = |line: &&str| !line.trim().is_empty() && !line.starts_with('#');
+    let lines: Vec<&str> = text.lines().filter(wanted).collect();
+    let cases = lines.chunk_by(|_, next| !next.starts_with("case:"));
+    cases.map(|lines| case(Lines(lines))).collect()
+}
+
+/// The lines of one case, each with a key in front.
+pub struct Lines<'a>(&'a [&'a str]);
+
+impl<'a> Lines<'a> {
+    pub fn find(&self, key: &str) -> Option<&'a str> {
+        self.0.iter().find_map(|line| line.strip_prefix(key)).map(str::trim)
     }
+
+    pub fn value(&self, key: &str) -> &'a str {
+        self.find(key).unwrap_or_else(|| panic!("no `{key}` in {:?}", self.0))
+    }
+
+    pub fn day(&self) -> Day {
+        let head = numbers(self.value("head:"));
+        let job = |numbers: Vec<u64>| Job { minutes: numbers[0], allowed: set(&numbers[1..]).0 };
+        Day {
+            head: Head { benches: head[0], p: head[1], q: head[2], target: head[3] },
+            booked: booked(self.find("booked:").unwrap_or("")),
+            jobs: rows(self.value("jobs:")).map(job).collect(),
+        }
+    }
+}
+
+/// The set of these benches.
+pub fn set(benches: &[u64]) -> Set {
+    benches.iter().fold(Set::EMPTY, |all, &bench| all | Set::one(bench as usize))
 }
 
 /// Minutes and benches of each part of a text between semicolons.
@@ -93,7 +113,7 @@ fn booked(text: &str) -> Booked {
 }
 
 /// The numbers in a text, in order.
-fn numbers(text: &str) -> Vec<u64> {
+pub fn numbers(text: &str) -> Vec<u64> {
     let digits = text.split(|letter: char| !letter.is_ascii_digit());
     digits.filter_map(|digits| digits.parse().ok()).collect()
 }
@@ -145,6 +165,14 @@ pub fn print_case(case: &Case) -> String {
     )
 }
 
+/// An accepted sheet as a case, with the second planner's answer.
+pub fn case_of(sheet: &[u8]) -> Option<Case> {
+    let mut codec = Codec::default();
+    let day = Day::of(codec.read(sheet).ok()?);
+    let answer = print_answer(Planner::new().plan(sheet, Rooms::FULL));
+    Some(Case { name: "failed".to_string(), day, without: None, tried: None, answer })
+}
+
 /// Empty where no bench is booked.
 fn booked_line(booked: &Booked) -> String {
     let benches = booked.iter().enumerate().filter(|&(_, &minutes)| minutes > 0);
@@ -160,8 +188,6 @@ fn booked_line(booked: &Booked) -> String {
 #[cfg(test)]
 mod tests {
     use super::*;
-    use crate::codec::door::Codec;
-    use crate::planner::algorithm::{Planner, Rooms};
     use crate::planner::best::{search, start};
 
     #[test]

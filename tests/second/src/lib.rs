@@ -8,6 +8,7 @@
 //! - `printed`: what the programs behind `./bay`, `./show` and `./best` print.
 //! - `gen`: generators of sheets and tables, good and damaged.
 //! - `corpus`: small days with their answers, and slow full sheets.
+//! - `papers`: small days with lists and sets from elsewhere, and what their checks say.
 //! - `light_days`: full sheets of light jobs with a choice.
 //! - `outcome`: what planning left, entry by entry.
 //! - `stored`: sheets with what planning left, as a text.
@@ -28,6 +29,7 @@ pub mod judge;
 pub mod lent;
 pub mod light_days;
 pub mod outcome;
+pub mod papers;
 pub mod planner;
 pub mod printed;
 pub mod rng;

@@ -35,6 +35,10 @@ pub const NO_ROOM: u32 = 13;
 pub const BOOKING: u32 = 14;
 /// "then number 15 that the bench already had a booking frame".
 pub const BOOKED_TWICE: u32 = 15;
+/// "number 16 says that the list does not have one place a job".
+pub const LIST: u32 = 16;
+/// "number 17 that the set is empty or names a bench not in the head".
+pub const SET: u32 = 17;
 
 /// "A fault returns its number and place."
 #[derive(Clone, Copy, Debug, PartialEq, Eq)]

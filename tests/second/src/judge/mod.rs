@@ -6,11 +6,15 @@
 //! plan.
 //!
 //! - `best`: what a best target must be.
+//! - `checks`: what the check of a list or of a set must say.
 
 pub mod best;
+pub mod checks;
 
 #[cfg(test)]
 mod best_tests;
+#[cfg(test)]
+mod checks_tests;
 #[cfg(test)]
 mod judge_tests;
 
@@ -121,16 +125,22 @@ pub fn is_blocking(sheet: &Sheet, set: Set) -> bool {
     if set.is_empty() || !(set - Set::first(head.benches as usize)).is_empty() {
         return false;
     }
+    weight_of_lightest(sheet, set).is_none_or(|weight| weight > set.len() as u64 * head.target)
+}
+
+/// The weight that the lightest placement leaves in a set, with the light jobs that lie inside and
+/// the bookings; none where there is no placement.
+pub fn weight_of_lightest(sheet: &Sheet, set: Set) -> Option<u64> {
+    let head = sheet.head();
     let inside = |job: &&Job| !is_heavy(head, job) && (Set(job.allowed) - set).is_empty();
     let light: u64 = sheet.jobs().iter().filter(inside).map(|job| job.minutes).sum();
     let booked: u64 = set.map(|bench| sheet.booked()[bench]).sum();
-    let heavy = lightest_placement(sheet, set);
-    heavy.is_none_or(|heavy| booked + light + heavy > set.len() as u64 * head.target)
+    lightest_placement(sheet, set).map(|heavy| booked + light + heavy)
 }
 
 /// The least that the heavy jobs inside a set weigh in a placement, or none where there is no
 /// placement.
-fn lightest_placement(sheet: &Sheet, set: Set) -> Option<u64> {
+pub fn lightest_placement(sheet: &Sheet, set: Set) -> Option<u64> {
     let head = sheet.head();
     let mut heavy: Vec<Job> = sheet.jobs().to_vec();
     heavy.retain(|job| is_heavy(head, job));

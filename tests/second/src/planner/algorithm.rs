@@ -169,7 +169,7 @@ fn add_loads(sheet: &Sheet, places: &[u64], loads: &mut [u64; 64]) {
 }
 
 /// "the fullest bench, the lowest on a tie", and its load, the largest.
-fn fullest(loads: &[u64]) -> (usize, u64) {
+pub(super) fn fullest(loads: &[u64]) -> (usize, u64) {
     let mut fullest = (0, 0);
     for (bench, &load) in loads.iter().enumerate() {
         if load > fullest.1 {

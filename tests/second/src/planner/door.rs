@@ -1,9 +1,11 @@
-//! Planning, finding the best target and comparing as the static library offers them: tables of
-//! 8-byte numbers, least significant byte first, and a result word. The layouts of the two answer
-//! tables stand here alone.
+//! Planning, finding the best target, comparing and checking as the static library offers them:
+//! tables of 8-byte numbers, least significant byte first, and a result word. The layouts of the
+//! answer tables stand here alone.
 
 use super::algorithm::{Answer, Comparison, Planner, Rooms};
 use super::best::Best;
+use super::checker::{ListCheck, SetCheck};
+use super::set::Set;
 use crate::codec::door::{numbers, word, ENTRY_BYTES};
 
 /// The value of the result word for each answer.
@@ -18,6 +20,10 @@ pub const BEST: u64 = 1;
 pub const DIFFERENT: u64 = 0;
 pub const SAME: u64 = 1;
 
+/// The value of the result word for each outcome of a check. A set has `LONG` besides.
+pub const NOT_PASSED: u64 = 0;
+pub const PASSED: u64 = 1;
+
 /// The entries of the answer table: largest load, moves and fullest bench of a plan; job, 0 and 0
 /// of a long one; set of benches, moves and 0 of a none.
 pub const ANSWER_ENTRIES: usize = 3;
@@ -25,6 +31,12 @@ pub const ANSWER_ENTRIES: usize = 3;
 /// The entries of the answer table of a best target: target, largest load, moves and fullest bench
 /// of its plan, and the number of targets run.
 pub const BEST_ENTRIES: usize = 5;
+
+/// The entries of the answer table of a list: largest load and fullest bench of a passed one.
+pub const CHECK_PLAN_ENTRIES: usize = 2;
+
+/// The entries of the answer table of a set: the job of a long one.
+pub const CHECK_SET_ENTRIES: usize = 1;
 
 /// The entries that a table has room for: a begun one is no room.
 fn room(table: &[u8]) -> usize {
@@ -100,4 +112,35 @@ pub fn compare(planner: &mut Planner, sheet: &[u8], first: &[u8], second: &[u8])
         Ok(Comparison::Same) => SAME,
         Ok(Comparison::Different) => DIFFERENT,
     }
+}
+
+/// Checks a list of places. In the list a begun entry counts and missing bytes are 0. Later bytes of
+/// the answer table keep their contents, and after a fault all do.
+pub fn check_plan(planner: &mut Planner, sheet: &[u8], places: &[u8], answer: &mut [u8]) -> u64 {
+    let has_room = room(answer) >= CHECK_PLAN_ENTRIES;
+    match planner.check_plan(sheet, numbers(places), has_room) {
+        Err(fault) => word(Err(fault)),
+        Ok(ListCheck::NotPassed) => {
+            put(answer, &[0, 0]);
+            NOT_PASSED
+        }
+        Ok(ListCheck::Passed { largest, fullest }) => {
+            put(answer, &[largest, fullest as u64]);
+            PASSED
+        }
+    }
+}
+
+/// Checks a set of benches. Later bytes of the answer table keep their contents, and after a fault
+/// all do.
+pub fn check_set(planner: &mut Planner, sheet: &[u8], set: u64, answer: &mut [u8]) -> u64 {
+    let has_room = room(answer) >= CHECK_SET_ENTRIES;
+    let (entry, word) = match planner.check_set(sheet, Set(set), has_room) {
+        Err(fault) => return word(Err(fault)),
+        Ok(SetCheck::NotPassed) => (0, NOT_PASSED),
+        Ok(SetCheck::Passed) => (0, PASSED),
+        Ok(SetCheck::Long { job }) => (job as u64, LONG),
+    };
+    put(answer, &[entry]);
+    word
 }

@@ -1,7 +1,7 @@
 //! Planning through tables: layouts, room, and bytes that keep their contents.
 
 use super::algorithm::Planner;
-use super::door::{self, BEST, LONG, NONE, PLAN};
+use super::door::{self, BEST, LONG, NONE, NOT_PASSED, PASSED, PLAN};
 use super::example_tests::{booked, head, job};
 use crate::codec::door::word;
 use crate::codec::fault::Fault;
@@ -111,4 +111,63 @@ fn a_best_target_has_five_entries() {
     // Fault 12 comes before the tables.
     let day = Day::new(head(3, 9), vec![job(7, &[0]), job(5, &[0, 1, 2])]);
     assert_eq!(best(&day, [0, 0, 0]).0, word(Err(Fault::new(12, 1))));
+}
+
+/// The result word of a checked list and the answer table, of so many bytes.
+fn check_plan(day: &Day, list: &[u8], bytes: usize) -> (u64, Vec<u8>) {
+    let mut answer = table(&[], bytes);
+    (door::check_plan(&mut Planner::new(), &day.draft().bytes(), list, &mut answer), answer)
+}
+
+/// The same for a set.
+fn check_set(day: &Day, set: u64, bytes: usize) -> (u64, Vec<u8>) {
+    let mut answer = table(&[], bytes);
+    (door::check_set(&mut Planner::new(), &day.draft().bytes(), set, &mut answer), answer)
+}
+
+#[test]
+fn a_checked_list_fills_two_entries() {
+    let day = booked(head(2, 7), &[(1, 6)], &[job(7, &[0, 1]), job(1, &[0])]);
+    assert_eq!(check_plan(&day, &table(&[1, 0], 0), 19), (PASSED, table(&[13, 1], 3)));
+    assert_eq!(check_plan(&day, &table(&[1, 1], 0), 24), (NOT_PASSED, table(&[0, 0], 8)));
+    // A begun entry counts, and the bytes that it lacks are 0.
+    assert_eq!(check_plan(&day, &table(&[1, 0], 0)[..9], 16), (PASSED, table(&[13, 1], 0)));
+    let list = word(Err(Fault::new(16, 0)));
+    for places in [&table(&[1, 0], 0)[..8], &table(&[1, 0], 1), &[0; 8 * 513], &[]] {
+        assert_eq!(check_plan(&day, places, 16), (list, table(&[], 16)));
+    }
+}
+
+#[test]
+fn a_checked_set_fills_one_entry() {
+    let day = |target| Day::new(head(2, target), vec![job(1, &[1]), job(8, &[0]), job(1, &[0])]);
+    assert_eq!(check_set(&day(8), 1 << 63, 8), (PASSED, table(&[0], 0)));
+    assert_eq!(check_set(&day(8), 1 << 62, 15), (NOT_PASSED, table(&[0], 7)));
+    assert_eq!(check_set(&day(7), 1 << 62, 16), (LONG, table(&[1], 8)));
+    let set = |place| word(Err(Fault::new(17, place)));
+    for target in [7, 8] {
+        assert_eq!(check_set(&day(target), 0, 8), (set(0), table(&[], 8)));
+        assert_eq!(check_set(&day(target), u64::MAX, 8), (set(2), table(&[], 8)));
+        assert_eq!(check_set(&day(target), 1, 8), (set(63), table(&[], 8)));
+    }
+}
+
+#[test]
+fn the_answer_of_a_check_needs_room_before_the_paper_is_tried() {
+    let no_room = word(Err(Fault::new(13, 0)));
+    let day = Day::new(head(2, 8), vec![job(5, &[0, 1])]);
+    for bytes in 0..16 {
+        for list in [&table(&[0], 0)[..], &table(&[0, 0], 0), &[]] {
+            assert_eq!(check_plan(&day, list, bytes), (no_room, table(&[], bytes)));
+        }
+    }
+    for bytes in 0..8 {
+        for set in [0, 1, 1 << 63] {
+            assert_eq!(check_set(&day, set, bytes), (no_room, table(&[], bytes)));
+        }
+    }
+    // Fault 12 comes before the table.
+    let day = Day::new(head(3, 9), vec![job(7, &[0]), job(5, &[0, 1, 2])]);
+    assert_eq!(check_plan(&day, &[], 0), (word(Err(Fault::new(12, 1))), vec![]));
+    assert_eq!(check_set(&day, 0, 0), (word(Err(Fault::new(12, 1))), vec![]));
 }

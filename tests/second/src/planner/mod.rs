@@ -1,6 +1,7 @@
-//! The second planner: document 01's run, written from that document, requests S-1 to S-4 of
-//! document 02 and chapter 4 of source document 000. Sentences in quotation marks are theirs. Every
-//! weight is multiplied by 3q when it enters the run, so that each comparison is exact.
+//! The second planner: document 01's run, written from that document, requests S-1 to S-4 and S-6
+//! of document 02, chapter 4 of source document 000 and the note on least placements. Sentences in
+//! quotation marks are theirs. Every weight is multiplied by 3q when it enters the run, so that each
+//! comparison is exact.
 //!
 //! - `set`: sets of benches and of rocks.
 //! - `rocks`: heavy jobs as edges between benches; crowded components; peeling.
@@ -10,6 +11,8 @@
 //! - `push`: the PUSH operation.
 //! - `algorithm`: Algorithm 2, from bytes to the answer; the comparison of two plans.
 //! - `best`: the search for the best target.
+//! - `least`: the least weight that a placement leaves in a set of benches.
+//! - `checker`: the check of a list of places and of a set of benches.
 //! - `door`: the same through tables and result words, as the static library has them.
 //!
 //! Words of chapter 4: a *rock* is a heavy job with two benches, a *pebble* a light job with two or
@@ -19,8 +22,10 @@
 pub mod algorithm;
 pub mod bay;
 pub mod best;
+pub mod checker;
 pub mod door;
 pub mod explore;
+pub mod least;
 pub mod orientation;
 pub mod push;
 pub mod rocks;
@@ -40,6 +45,8 @@ mod door_tests;
 pub(crate) mod example_tests;
 #[cfg(test)]
 mod fullest_tests;
+#[cfg(test)]
+mod least_tests;
 #[cfg(test)]
 mod literal;
 #[cfg(test)]

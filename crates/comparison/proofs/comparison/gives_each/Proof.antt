@@ -2,7 +2,7 @@
 use native.Mathlib.Omega.{arith}
 use lib.ListN.{length}
 use Rattle.sums.specs.Search.{all}
-use Rattle.comparison.specs.CompareArrays.{fitsAt}
+use Rattle.lists.specs.Lists.{fitsAt}
 use Rattle.comparison.proofs.CompareRun.{other-length, right-length}
 use borrow.Author.Needs.{needs}
 use Rattle.comparison.proofs.comparison.gives_each.Statement.{statement}

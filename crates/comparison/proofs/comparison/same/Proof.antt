@@ -6,7 +6,7 @@ use native.Mathlib.Omega.{arith}
 use lib.ListN.{getD}
 use lib.Dec.{eqb}
 use borrow.Author.Tests.{eq-eqb, ne-eqb}
-use Rattle.comparison.proofs.CompareRun.{all-fails-here, all-more, all-holds}
+use Rattle.lists.proofs.ListRun.{all-fails-here, all-more, all-holds}
 use borrow.Author.Needs.{needs}
 use Rattle.comparison.proofs.comparison.same.Statement.{statement}
 use Rattle.comparison.proofs.comparison.same.Tie as tie

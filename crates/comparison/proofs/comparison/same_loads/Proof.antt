@@ -1,6 +1,6 @@
 -- Both lists of loads are those of the lists.
 use native.Mathlib.Omega.{arith}
-use Rattle.comparison.specs.CompareArrays.{loadIn}
+use Rattle.lists.specs.Lists.{loadIn}
 use Rattle.comparison.proofs.CompareRun.{same-sums}
 use borrow.Author.Needs.{needs}
 use Rattle.comparison.proofs.comparison.same_loads.Statement.{statement}

@@ -4,6 +4,7 @@
 //! - `heavy`: pairs of benches for heavy jobs: chains, cycles, trees, parallel and crowded ones.
 //! - `light`: sets of benches for light jobs.
 //! - `light_only`: full days of light jobs with a choice and nothing else.
+//! - `placements`: days with placements of all sorts, and sets that weigh about k × T.
 //! - `days`: whole days, tiny to full, and ones made from an assignment within T.
 //! - `tight`: days with benches at the limits.
 //! - `tied`: days on which several benches have the largest load.
@@ -14,6 +15,7 @@ pub mod days;
 pub mod heavy;
 pub mod light;
 pub mod light_only;
+pub mod placements;
 pub mod slow;
 pub mod tied;
 pub mod tight;

@@ -9,13 +9,13 @@ use crate::planned::{words, Planned};
 use crate::tally::Tally;
 use second::codec::door::{fault_number, Codec, ENTRY_BYTES};
 use second::codec::fault::MINUTES;
-use second::corpus::{print_answer, print_case, Case};
+use second::corpus::{case_of, print_case};
 use second::gen::day::Day;
 use second::hex;
 use second::judge;
 use second::lent::empty::Empty;
 use second::lent::guarded::Guarded;
-use second::planner::algorithm::{Answer, Planner, Rooms};
+use second::planner::algorithm::{Answer, Planner};
 use second::planner::door::{self, ANSWER_ENTRIES};
 use second::rng::Rng;
 use std::process;
@@ -197,13 +197,4 @@ impl Check {
         println!("sheet {}", hex::print(sheet));
         process::exit(1)
     }
-}
-
-/// An accepted sheet in the form of the corpus.
-fn case_of(sheet: &[u8]) -> Option<Case> {
-    let mut codec = Codec::default();
-    let read = codec.read(sheet).ok()?;
-    let day = Day::of(read);
-    let answer = print_answer(Planner::new().plan(sheet, Rooms::FULL));
-    Some(Case { name: "failed".to_string(), day, without: None, tried: None, answer })
 }

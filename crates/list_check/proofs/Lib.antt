@@ -1,0 +1,5 @@
+pub mod PlacesLaws
+pub mod ListLaws
+pub mod CheckRun
+pub mod ListExamples
+pub mod ListRefusals

@@ -1,0 +1,2 @@
+pub mod ListCheck
+pub mod ListClaim

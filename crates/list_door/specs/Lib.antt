@@ -1,0 +1,2 @@
+pub mod ListDoor
+pub mod ListDoorClaim

@@ -1,0 +1,2 @@
+pub mod ListRun
+pub mod ListLaws

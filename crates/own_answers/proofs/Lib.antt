@@ -1,0 +1,3 @@
+pub mod OwnPlans
+pub mod OwnPlansDoor
+pub mod OwnSets

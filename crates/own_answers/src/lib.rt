@@ -1,0 +1,1 @@
+// The planner's own answers pass the checks (proofs/). No code.

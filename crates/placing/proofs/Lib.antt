@@ -1,0 +1,3 @@
+pub mod ClassLaws
+pub mod PlaceRun
+pub mod LeastRun

@@ -1,0 +1,3 @@
+pub mod CheckRun
+pub mod SetLaws
+pub mod SetExamples

@@ -1,0 +1,2 @@
+pub mod SetCheck
+pub mod SetClaim

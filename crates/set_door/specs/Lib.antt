@@ -1,0 +1,2 @@
+pub mod SetDoor
+pub mod SetDoorClaim
