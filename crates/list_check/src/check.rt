@@ -83,13 +83,16 @@ pub fn check_list<'a>(s: &'a [u8], list: &'a [u64]) -> ListAnswer
     let verdict = reading.verdict;
     match verdict {
         Verdict::Refused(f) => ListAnswer::Fault(f),
-        Verdict::Accepted => check_places(
-            reading.sheet.head,
-            reading.sheet.count,
-            &reading.sheet.booked,
-            &reading.sheet.minutes,
-            &reading.sheet.allowed,
-            list,
-        ),
+        Verdict::Accepted => {
+            let sheet = reading.sheet;
+            check_places(
+                sheet.head,
+                sheet.count,
+                &sheet.booked,
+                &sheet.minutes,
+                &sheet.allowed,
+                list,
+            )
+        }
     }
 }

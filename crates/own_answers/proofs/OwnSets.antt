@@ -28,13 +28,13 @@ module _ (s places loads : List ℕ) where
   own-set-passes claim c can n none =
       let (named, kept) = claim .none-right c can n none in
       let (v, below, inside) =
-          count-pos-elim (dayOf c .benches) (inSet (n .set)) (named .blocking .some-bench) in
+      count-pos-elim (dayOf c .benches) (inSet (n .set)) (named .blocking .some-bench) in
       let judged : Judged s (n .set) c =
-          record {
-            sheet-accepted = can .sheet-accepted;
-            some-bench = (v, inside);
-            of-the-head = named .of-the-head;
-          } in
+      record {
+        sheet-accepted = can .sheet-accepted;
+        some-bench = (v, inside);
+        of-the-head = named .of-the-head;
+      } in
       judged-passed s (n .set) c judged (claim .none-fits c can n none) (named .blocking)
 
   pub own-set-answered : {r : Filled} {places′ loads′ : List ℕ}
@@ -43,5 +43,5 @@ module _ (s places loads : List ℕ) where
   own-set-answered {r} {places′} {loads′} called n none =
       let claim = answered-claim s places loads r places′ loads′ called in
       let (c, can) =
-          answered-room (subst (λ (a : Answer). PlannerClaim s places loads a places′ loads′) none claim) (a-none n) in
+      answered-room (subst (λ (a : Answer). PlannerClaim s places loads a places′ loads′) none claim) (a-none n) in
       own-set-passes claim c can n none

@@ -396,7 +396,7 @@ module _ (g : Heavies) (m i : ℕ) (s : Classes) (S : Sound g m i s) (heavy : g 
         | inl p ↦
             let not-low : s .label b ≢ s .label low = λ e. clash p (S .alike b low l low-below e ∙ two .low-open) in
             let not-high : s .label b ≢ s .label high =
-                λ e. clash p (S .alike b high l high-below e ∙ two .high-open) in
+            λ e. clash p (S .alike b high l high-below e ∙ two .high-open) in
             let same : raised g s i b ≡ 0 =
             raised-by-high g s i b not-high ∙ rw (ne-eqb (s .label b) (s .label low) not-low) refl in
             omega (arith, same, S .small b l, total-more)

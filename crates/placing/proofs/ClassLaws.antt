@@ -57,7 +57,7 @@ module _ (shut label : ℕ) (labels : List ℕ) where
           | inl same ↦
               put u l
               ∙ rw (S .ahead u l (omega arith), eq-eqb u v same, e, same)
-                  (here (isSet 64 shut v) (eqb (getD labels v 0) label))
+              (here (isSet 64 shut v) (eqb (getD labels v 0) label))
           | inr other ↦ put u l ∙ rw (ne-eqb u v other) (there (isSet 64 all u) c) ∙ S .passed u l (omega arith)
         ];
         ahead = λ u l t.
@@ -121,7 +121,10 @@ module _ (low high x y : ℕ) (labels extra : List ℕ) where
             extra-long = ap length ee ∙ length-set extra′ v new ∙ J .extra-long;
             labelled = filled-more labelAt v labels (J .labelled) (el ∙ ap (relabelOf low high) label-is) ls;
             raised = filled-more raisedAt v extra (J .raised)
-                (en ∙ ap₂ plusOf (entry-before raisedAt v extra (J .raised) eo) (em ∙ ap (raiseOf low high x y) label-is)) ee;
+                (en
+                ∙ ap₂ plusOf (entry-before raisedAt v extra (J .raised) eo)
+                (em ∙ ap (raiseOf low high x y) label-is))
+                ee;
           }
 
   -- Both tables have room for all benches.

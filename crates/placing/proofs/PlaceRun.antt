@@ -111,7 +111,8 @@ module _ (bay : Bay) (c : Classes) (labels extra : List ℕ) (low high minutes :
 
       -- ── the last free bench of a class ──
 
-      label-by : (v : Bool) → cond v (s .label (g .low i)) (s .label (g .high i)) ≡ s .label (cond v (g .low i) (g .high i))
+      label-by : (v : Bool)
+          → cond v (s .label (g .low i)) (s .label (g .high i)) ≡ s .label (cond v (g .low i) (g .high i))
       label-by true = refl
       label-by false = refl
 

@@ -70,7 +70,8 @@ module _ (d : Day) (set : ℕ) where
     module _ (none : 64 ≤ r) (jobs : ℕ) (minutes allowed : List ℕ) (F : Fields d jobs minutes allowed) {long target : ℕ}
         (here : target ≡ d .target) (f : long ≡ least jobs (λ j. ltb target (getD minutes j 0))) where
       long-is : long ≡ longJob d
-      long-is = f ∙ ap (λ (t : ℕ). least jobs (λ j. ltb t (getD minutes j 0))) here ∙ long-job-is d jobs minutes allowed F
+      long-is =
+          f ∙ ap (λ (t : ℕ). least jobs (λ j. ltb t (getD minutes j 0))) here ∙ long-job-is d jobs minutes allowed F
 
       in-head : ltb lacking 64 ≡ false
       in-head = le-ltb lacking 64 (subst (λ (n : ℕ). 64 ≤ n) found none)
@@ -123,7 +124,8 @@ module _ (d : Day) (set : ℕ) where
   unfolding chosen
   early r e n =
       early-by (eqb set 0) (ltb (foreignIn (d .benches) set) 64) (ltb (longJob d) (d .jobs)) (SetBench 0)
-      (SetBench (foreignIn (d .benches) set)) (record { job = longJob d }) (cond (blocks d (isSet 64 set)) Passed NotPassed)
+      (SetBench (foreignIn (d .benches) set)) (record { job = longJob d })
+      (cond (blocks d (isSet 64 set)) Passed NotPassed)
       r e n
 
   module _ (open-yet : NotPassed ≡ firstAnswer d set) where
@@ -147,7 +149,7 @@ module _ (d : Day) (set : ℕ) where
             | inl below ↦ below
             | inr above ↦
                 let least-most = least-bound 64 (λ u. isSet 64 set u && not (ltb u (d .benches))) v
-                    (and-intro p (not-intro-true (le-ltb v (d .benches) above))) in
+                (and-intro p (not-intro-true (le-ltb v (d .benches) above))) in
                 let far : 64 ≤ v = omega (arith, least-most, ltb-false (foreignIn (d .benches) set) 64 b) in
                 clash p (isSet-past 64 set v far)
           ];

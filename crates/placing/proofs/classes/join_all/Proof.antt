@@ -7,7 +7,8 @@ use Rattle.placing.proofs.classes.join_all.Statement.{statement}
 use Rattle.placing.proofs.classes.join_all.Tie as tie
 
 abbrev Inv-loop : tie.InvT-loop
-Inv-loop benches low high x y labels₀ extra₀ end v₀ labels extra v = (v ≤ end) × Join low high x y labels₀ extra₀ v labels extra
+Inv-loop benches low high x y labels₀ extra₀ end v₀ labels extra v =
+    (v ≤ end) × Join low high x y labels₀ extra₀ v labels extra
 
 abbrev μ-loop : tie.MeasureT-loop
 μ-loop benches low high x y labels₀ extra₀ end v₀ labels extra v = end - v
@@ -81,8 +82,8 @@ returns c =
     let after-least = c .before .before .before in
     let at-args = after-least .before .before .before .args in
     join-ends (at-args .low) (at-args .high) (at-args .x) (at-args .y) (at-args .labels .now) (at-args .extra .now)
-    (at-args .benches) _ (at-loop .v) (after-least .least .ensures) (c .before .before .least2 .ensures) (at-loop .inv .0)
-    (omega arith) (at-loop .inv .1)
+    (at-args .benches) _ (at-loop .v) (after-least .least .ensures) (c .before .before .least2 .ensures)
+    (at-loop .inv .0) (omega arith) (at-loop .inv .1)
 
 pub join-all-spec : {M : Type 1} → statement M
 join-all-spec =

@@ -23,7 +23,7 @@ returns c =
     let at-fits = c .before .before .before .before .before .fits in
     promised (at-args .s .now) (at-args .set) (at-fits .set .fits)
     (refused-is (at-args .s .now) (at-args .set) (c .before .before .before .read .ensures)
-        (c .before .verdict .given .1))
+    (c .before .verdict .given .1))
 
 returns-2 : tie.Need-returns-2
 returns-2 c =
@@ -32,7 +32,7 @@ returns-2 c =
     let at-fits = after-read .before .before .fits in
     promised (at-args .s .now) (at-args .set) (at-fits .set .fits)
     (accepted-is (at-args .s .now) (at-args .set) (after-read .read .result) (after-read .read .ensures)
-        (c .before .before .enum-told .given .1) (c .check-sheet .ensures))
+    (c .before .before .enum-told .given .1) (c .check-sheet .ensures))
 
 pub check-set-spec : {M : Type 1} → statement M
 check-set-spec =

@@ -74,11 +74,12 @@ returns-2 c bytes sheet read same =
     let at-args = after-narrow .before .before .before .before .before .before .args in
     let at-fits = after-narrow .before .before .before .before .before .before .fits in
     let d = dayOf sheet in
-    let L = day-lent bytes sheet (at-args .t1) read same (at-narrow .ensures) (at-narrow2 .ensures) (at-narrow3 .ensures) in
+    let L =
+    day-lent bytes sheet (at-args .t1) read same (at-narrow .ensures) (at-narrow2 .ensures) (at-narrow3 .ensures) in
     let yet = sym (at-enum-told .given .1) ∙ at-first-answer .ensures d _ (L .fields) (L .benches-are) (L .target-is) in
     judged-passed d (at-args .set) yet
     (at-blocks2 .ensures d (weighed d (at-args .set) yet (at-args .t1 .head) (at-args .t1 .count) _ _ _ L)
-        (of-the-day d (at-args .set) yet (at-fits .set .fits)))
+    (of-the-day d (at-args .set) yet (at-fits .set .fits)))
     (c .if1 .taken)
 
 returns-3 : tie.Need-returns-3
@@ -98,11 +99,12 @@ returns-3 c bytes sheet read same =
     let at-args = after-narrow .before .before .before .before .before .before .args in
     let at-fits = after-narrow .before .before .before .before .before .before .fits in
     let d = dayOf sheet in
-    let L = day-lent bytes sheet (at-args .t1) read same (at-narrow .ensures) (at-narrow2 .ensures) (at-narrow3 .ensures) in
+    let L =
+    day-lent bytes sheet (at-args .t1) read same (at-narrow .ensures) (at-narrow2 .ensures) (at-narrow3 .ensures) in
     let yet = sym (at-enum-told .given .1) ∙ at-first-answer .ensures d _ (L .fields) (L .benches-are) (L .target-is) in
     judged-not d (at-args .set) yet
     (at-blocks2 .ensures d (weighed d (at-args .set) yet (at-args .t1 .head) (at-args .t1 .count) _ _ _ L)
-        (of-the-day d (at-args .set) yet (at-fits .set .fits)))
+    (of-the-day d (at-args .set) yet (at-fits .set .fits)))
     (c .if1 .left)
 
 pub check-sheet-spec : {M : Type 1} → statement M

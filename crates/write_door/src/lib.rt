@@ -1,0 +1,4 @@
+// Writing a sheet for C: the call behind the door (door's specs/Door says what it gives).
+mod call;
+
+pub use call::write;

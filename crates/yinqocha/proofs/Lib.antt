@@ -1,3 +1,0 @@
-pub mod CompareSteps
-pub mod PlanSteps
-pub mod WriteSteps
