@@ -7,8 +7,8 @@
  * numbers, such as the depot's screen program, writes a sheet with yinqocha_write(), has it planned
  * with yinqocha_plan(), or with the best target instead of its own with yinqocha_best(), and tells
  * whether two plans of it come to the same with yinqocha_compare(). A plan or a blocking set that
- * comes from elsewhere is checked with yinqocha_check_plan() and yinqocha_check_set(). Link it with
- * libyinqocha.a (x86-64).
+ * comes from elsewhere is checked with yinqocha_check_plan() and yinqocha_check_set(), a page of
+ * such sets with yinqocha_check_page(). Link it with libyinqocha.a (x86-64).
  *
  * This header is the manual. It says first what holds of every call, then what the numbers mean,
  * then describes each function, with a program that uses it and what the program prints. Jobs and
@@ -121,15 +121,19 @@ extern "C" {
  * too short (0). Writing: the sheet does not fit. Planning: there are fewer places than jobs, fewer
  * loads than benches, or fewer than three numbers for the answer. The best target: there are fewer
  * places than jobs, fewer loads than benches, or fewer than five numbers for the answer. Checking:
- * there are fewer than two numbers for the answer to a plan, or none for the answer to a set. */
+ * there are fewer than two numbers for the answer to a plan, or none for the answer to a set or to
+ * a page. */
 #define YINQOCHA_NO_ROOM 13u
 /* Comparing: a list is no assignment, it does not give each job one bench that it allows (0 for the
  * first list, 1 for the second). */
 #define YINQOCHA_NO_ASSIGNMENT 13u
 /* Checking a plan: the list does not have one place a job (0). */
 #define YINQOCHA_BAD_LIST 16u
-/* Checking a set: it is empty (0), or it has a bench that the head lacks (the lowest such one). */
+/* Checking a set: it is empty (0), or it has a bench that the head lacks (the lowest such one).
+ * Checking a page: a set of it is so (the set's number on the page, from 0). */
 #define YINQOCHA_BAD_SET 17u
+/* Checking a page: a set shares a bench with an earlier one (the later set's number). */
+#define YINQOCHA_SHARED_BENCH 18u
 
 /*
  * LIMITS
@@ -145,8 +149,8 @@ extern "C" {
 #define YINQOCHA_MAX_SHEET_BYTES 65536u
 
 /* A set of benches is a number of 64 bits: the benches that a job allows, the blocking set of an
- * answer, and the set that is checked. The bit of bench b, 0 to 63, and whether bench b is in a
- * set. */
+ * answer, the set that is checked, and each set on a page. The bit of bench b, 0 to 63, and whether
+ * bench b is in a set. */
 #define YINQOCHA_BENCH(b) (UINT64_C(1) << (63 - (b)))
 #define YINQOCHA_HAS_BENCH(set, b) (((uint64_t)(set) & YINQOCHA_BENCH(b)) != 0)
 
@@ -726,6 +730,112 @@ uint64_t yinqocha_check_plan(const uint8_t *sheet, size_t sheet_len,
 
 uint64_t yinqocha_check_set(const uint8_t *sheet, size_t sheet_len, uint64_t set,
                             void *answer, size_t answer_len);
+
+/*
+ * CHECKING A PAGE OF SETS
+ *
+ * A page has any number of sets, such as all that one fleet sends. It is passed if and only if
+ * every set on it is blocking for the sheet and its own target T, as above, and no two share a
+ * bench; two that do are fault 18. A page of one set passes exactly if yinqocha_check_set() passes
+ * that set.
+ *
+ * Two blocking sets that share no bench make one, in any order and grouping. So the union of a
+ * passed page that has at least one set is blocking: yinqocha_check_set() passes it, and no
+ * assignment keeps every bench within T. An empty page is passed, and says nothing about T.
+ *
+ * In:
+ *   sheet     the bytes of a sheet
+ *   page      a table: entry i is set i, the sum of YINQOCHA_BENCH(b) over its benches b, at least
+ *             one. NULL with length 0 is an empty page.
+ *
+ * A page without a fault has at most 64 sets. A longer one has a fault at set 64 at the latest, and
+ * no entry behind that one is looked at. A begun entry counts as a set; the bytes that it lacks are
+ * those of its lowest benches.
+ *
+ * Out:
+ *   answer    a table of one entry:
+ *
+ *             passed       0
+ *             not passed   the first set that is not blocking, by its number on the page
+ *             long         the lowest job that has more than T minutes
+ *
+ *             Later bytes keep their contents.
+ *   result    YINQOCHA_PASSED      every set is blocking, or there is none
+ *             YINQOCHA_NOT_PASSED  some set is not
+ *             YINQOCHA_LONG        a job has more than T minutes: no set is judged, and no
+ *                                  assignment keeps every bench within T; also if the page is empty
+ *
+ * Faults: those of the sheet, 1 to 9, 11, 12, 14 and 15 as above; then 13 if the answer has no
+ * entry; then for each set in page order 17, if it is empty or has a bench that the head lacks, and
+ * 18, if it shares a bench with an earlier set. The place of both is the set's number, from 0.
+ * After a fault the answer keeps its contents.
+ *
+ * In the example benches 0 and 2 are booked for 9 minutes, and bench 1 has a job of 8. With target
+ * 8 benches 0 and 2 are blocking, each by itself, and bench 1 is not, for 8 is not more than 8.
+ *
+ * Example: pages of four benches with target 8, then one with target 7.
+ *
+ *     #include "yinqocha.h"
+ *
+ *     #include <inttypes.h>
+ *     #include <stdio.h>
+ *
+ *     static void check(uint64_t target, const uint64_t *page, size_t page_len)
+ *     {
+ *         const uint64_t booked[] = { 9, 0, 9 };
+ *         const uint64_t minutes[] = { 8 };
+ *         const uint64_t allowed[] = { YINQOCHA_BENCH(1) };
+ *         uint8_t sheet[YINQOCHA_SHEET_BYTES(2, 1)];
+ *         uint64_t answer[YINQOCHA_CHECK_PAGE_ENTRIES];
+ *
+ *         uint64_t word = yinqocha_write(4, 4, 7, target, booked, sizeof booked,
+ *                                        minutes, sizeof minutes, allowed, sizeof allowed,
+ *                                        sheet, sizeof sheet);
+ *         if (YINQOCHA_FAULT(word) == YINQOCHA_OK)
+ *             word = yinqocha_check_page(sheet, sizeof sheet, page, page_len,
+ *                                        answer, sizeof answer);
+ *         if (YINQOCHA_FAULT(word) != YINQOCHA_OK)
+ *             printf("fault %" PRIu32 ", set %" PRIu32 "\n",
+ *                    YINQOCHA_FAULT(word), YINQOCHA_VALUE(word));
+ *         else if (YINQOCHA_VALUE(word) == YINQOCHA_LONG)
+ *             printf("job %" PRIu64 " is too long\n", answer[0]);
+ *         else if (YINQOCHA_VALUE(word) == YINQOCHA_NOT_PASSED)
+ *             printf("set %" PRIu64 " is not blocking\n", answer[0]);
+ *         else
+ *             printf("passed\n");
+ *     }
+ *
+ *     int main(void)
+ *     {
+ *         const uint64_t pages[4][2] = {
+ *             { YINQOCHA_BENCH(0), YINQOCHA_BENCH(2) },
+ *             { YINQOCHA_BENCH(0), YINQOCHA_BENCH(1) },
+ *             { YINQOCHA_BENCH(0), YINQOCHA_BENCH(0) | YINQOCHA_BENCH(2) },
+ *             { YINQOCHA_BENCH(0), YINQOCHA_BENCH(4) },
+ *         };
+ *         check(8, NULL, 0);
+ *         for (unsigned n = 0; n < 4; n++)
+ *             check(8, pages[n], sizeof pages[n]);
+ *         check(7, pages[0], sizeof pages[0]);
+ *         return 0;
+ *     }
+ *
+ * It prints:
+ *
+ *     passed
+ *     passed
+ *     set 1 is not blocking
+ *     fault 18, set 1
+ *     fault 17, set 1
+ *     job 0 is too long
+ */
+
+/* The entries of an answer table of a checked page. The result may be YINQOCHA_LONG too. */
+#define YINQOCHA_CHECK_PAGE_ENTRIES 1u
+
+uint64_t yinqocha_check_page(const uint8_t *sheet, size_t sheet_len,
+                             const void *page, size_t page_len,
+                             void *answer, size_t answer_len);
 
 #ifdef __cplusplus
 }

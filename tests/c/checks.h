@@ -20,19 +20,27 @@ static size_t sheet_of(const struct fields *fields)
     return length;
 }
 
-/* A list, in bytes, is checked with an answer table of so many bytes. */
-static uint64_t check_list(const struct fields *fields, const void *list, size_t list_len,
-                           size_t answer_len)
+/* A call that checks a table. */
+typedef uint64_t check_call(const uint8_t *, size_t, const void *, size_t, void *, size_t);
+
+/* A table, in bytes, is checked with an answer table of so many bytes. */
+static uint64_t check_table(check_call *call, const struct fields *fields, const void *table,
+                            size_t table_len, size_t answer_len)
 {
     size_t length = sheet_of(fields);
     memset(&answer, FILL, sizeof answer);
-    uint64_t word = yinqocha_check_plan(out, length, list, list_len,
-                                        table_start(&answer), answer_len);
+    uint64_t word = call(out, length, table, table_len, table_start(&answer), answer_len);
     require_untouched_after(length, "the checked sheet's guards");
     return word;
 }
 
-/* The same for a set. */
+static uint64_t check_list(const struct fields *fields, const void *list, size_t list_len,
+                           size_t answer_len)
+{
+    return check_table(yinqocha_check_plan, fields, list, list_len, answer_len);
+}
+
+/* A set is checked with an answer table of so many bytes. */
 static uint64_t check_set(const struct fields *fields, uint64_t set, size_t answer_len)
 {
     size_t length = sheet_of(fields);
@@ -284,14 +292,21 @@ static void check_faults(void)
     printf("door: checking has the sheet's faults, then 13, then 16 or 17; the table is kept\n");
 }
 
-/* Sixteen jobs on four benches, with many targets: our own plan and our own set pass. */
+/* Up to sixteen jobs on four benches, others in each turn. */
+static struct fields mixed_jobs(uint64_t turn)
+{
+    struct fields fields = four_benches(turn % 7, 5, turn % 5, 4);
+    for (size_t j = 0; j < 12; j++)
+        add_job(&fields, 1 + j * turn % 9, YINQOCHA_BENCH(j % 4) | YINQOCHA_BENCH(j % 3));
+    return fields;
+}
+
+/* With many targets: our own plan and our own set pass. */
 static void own_answers_pass(void)
 {
     size_t plans = 0, sets = 0;
     for (uint64_t turn = 1; turn <= 80; turn++) {
-        struct fields fields = four_benches(turn % 7, 5, turn % 5, 4);
-        for (size_t j = 0; j < 12; j++)
-            add_job(&fields, 1 + j * turn % 9, YINQOCHA_BENCH(j % 4) | YINQOCHA_BENCH(j % 3));
+        struct fields fields = mixed_jobs(turn);
         for (fields.target = 4; fields.target < 24; fields.target++) {
             uint64_t word = plan_fields(&fields, 8 * fields.jobs, 32, ANSWER_BYTES);
             uint64_t first = table_entry(&answer, 0), fullest = table_entry(&answer, 2);

@@ -4,8 +4,8 @@
  * three answers, and tables that fit exactly or lack one byte. Comparing: plans, and lists that are
  * none. bookings.h has the checks of booked benches, answers.h those of the answer table,
  * check_only.h those of jobs of 0 minutes, best.h those of the best target, checks.h those of lists
- * and sets from elsewhere, door.h what all checks use. From the repository root, after
- * `rt staticlib yinqocha`:
+ * and sets from elsewhere, pages.h those of pages of sets, door.h what all checks use. From the
+ * repository root, after `rt staticlib yinqocha`:
  *
  *     gcc -std=c11 -Wall -Wextra -Werror -Iinclude tests/c/door.c \
  *         target/staticlib/libyinqocha.a -o target/door
@@ -17,6 +17,7 @@
 #include "check_only.h"
 #include "checks.h"
 #include "door.h"
+#include "pages.h"
 #include "yinqocha.h"
 
 #include <stdio.h>
@@ -237,6 +238,7 @@ int main(void)
     check_only_jobs();
     best_targets();
     checks_of_papers();
+    pages_of_sets();
     printf("door: all checks hold\n");
     return EXIT_SUCCESS;
 }

@@ -4,19 +4,22 @@
 --     best-case, best-fault-case          the same of the search for the best target: five values
 --     list-passed-case, list-not-passed-case, list-fault-case     the same of the check of a list
 --     set-passed-case, set-long-case, set-not-passed-case, set-fault-case     the same of the check of a set
+--     page-passed-case, page-long-case, page-not-passed-case, page-faults     the same of the check of a page
 --     only-a-plan-is-one, only-long-is-long     what counts as a plan, and as long
 use mathlib.Core.Path.{_≡_, refl}
 use mathlib.Core.Bool.{true, false}
 use mathlib.Core.List.{[], _∷_}
-use Rattle.fields.specs.declared.fault.Fault.the-variants.{Truncated, PlaceCount, SetBench}
+use Rattle.fields.specs.declared.fault.Fault.the-variants.{Truncated, PlaceCount, SetBench, SharedBench}
 use Rattle.answers.specs.declared.answer.Answer.the-variants.{Plan, Long, None, Fault as Faulty}
 use Rattle.answers.specs.declared.best.BestAnswer.the-variants.{Best, Fault as BestFaulty}
 use Rattle.answers.specs.declared.check.ListAnswer.the-variants.{Passed, NotPassed, Fault as ListFaulty}
 use Rattle.answers.specs.declared.check.SetAnswer.the-variants.{Passed as SetPassed, Long as SetLong}
 use Rattle.answers.specs.declared.check.SetAnswer.the-variants.{NotPassed as SetNotPassed, Fault as SetFaulty}
+use Rattle.answers.specs.declared.check.PageAnswer.the-variants.{Passed as PagePassed, Long as PageLong}
+use Rattle.answers.specs.declared.check.PageAnswer.the-variants.{NotPassed as PageNotPassed, Fault as PageFaulty}
 use Rattle.answers.specs.Answers.{caseOf, isPlan, isLong}
 use Rattle.answers.specs.BestAnswers.{bestCaseOf}
-use Rattle.answers.specs.CheckAnswers.{listCaseOf, setCaseOf}
+use Rattle.answers.specs.CheckAnswers.{listCaseOf, setCaseOf, pageCaseOf}
 
 -- Largest load 7, two moves, bench 1 the fullest.
 pub plan-case : caseOf (Plan (record { largest = 7; moves = 2; fullest = 1 }))
@@ -63,6 +66,20 @@ set-not-passed-case = refl
 
 pub set-fault-case : setCaseOf (SetFaulty (SetBench 9)) ≡ record { number = 17; values = 9 ∷ [] }
 set-fault-case = refl
+
+pub page-passed-case : pageCaseOf PagePassed ≡ record { number = 1; values = 0 ∷ [] }
+page-passed-case = refl
+
+pub page-long-case : pageCaseOf (PageLong (record { job = 4 })) ≡ record { number = 2; values = 4 ∷ [] }
+page-long-case = refl
+
+-- Set 6 is the first that is not blocking.
+pub page-not-passed-case : pageCaseOf (PageNotPassed 6) ≡ record { number = 0; values = 6 ∷ [] }
+page-not-passed-case = refl
+
+pub page-faults : (pageCaseOf (PageFaulty (SetBench 3)) ≡ record { number = 17; values = 3 ∷ [] })
+    × (pageCaseOf (PageFaulty (SharedBench 3)) ≡ record { number = 18; values = 3 ∷ [] })
+page-faults = (refl, refl)
 
 pub only-a-plan-is-one : (isPlan (Plan (record { largest = 7; moves = 2; fullest = 1 })) ≡ true)
     × (isPlan (Long (record { job = 4 })) ≡ false)

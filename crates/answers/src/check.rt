@@ -1,4 +1,4 @@
-// The answers of the check of a list of places and of the check of a set of benches.
+// The answers of the checks: of a list of places, of a set of benches, and of a page of sets.
 use crate::answer::LongAnswer;
 use fields::Fault;
 
@@ -20,5 +20,14 @@ pub enum SetAnswer {
     Passed,
     Long(LongAnswer),
     NotPassed,
+    Fault(Fault),
+}
+
+// Whether each set on a page blocks the sheet, a job that is too long, the number of the first set that does not, or
+// the first fault.
+pub enum PageAnswer {
+    Passed,
+    Long(LongAnswer),
+    NotPassed(u64),
     Fault(Fault),
 }

@@ -14,4 +14,5 @@ pub use best::BestFilled;
 pub use best::BestPlan;
 pub use check::ListAnswer;
 pub use check::ListPassed;
+pub use check::PageAnswer;
 pub use check::SetAnswer;

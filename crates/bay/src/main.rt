@@ -41,5 +41,5 @@ fn text_of(s: &[u8], out: &mut [u8; TEXT_ROOM]) -> usize
     let filled = blocking::plan(s, &mut places, &mut loads);
     let jobs = filled.places;
     let answer = filled.answer;
-    lines::text(answer, &places[..jobs], out)
+    texts::text(answer, &places[..jobs], out)
 }

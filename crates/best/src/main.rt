@@ -42,5 +42,5 @@ fn text_of(s: &[u8], out: &mut [u8; TEXT_ROOM]) -> usize
     let filled = best_target::best(s, &mut places, &mut loads);
     let jobs = filled.places;
     let answer = filled.answer;
-    lines::best_text(answer, &places[..jobs], out)
+    texts::best_text(answer, &places[..jobs], out)
 }

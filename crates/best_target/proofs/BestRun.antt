@@ -35,7 +35,7 @@ use Rattle.algorithm.proofs.BestLaws.{best-within}
 use Rattle.algorithm.proofs.SheetDay.{accepted-at, start-fits}
 use Rattle.argument.proofs.BestTheorems.{start-gives}
 use Rattle.arrays.specs.Arrays.{filled}
-use Rattle.deciding.specs.Decision.{placesIn}
+use Rattle.decisions.specs.Decision.{placesIn}
 use Rattle.searching.specs.declared.kept.Found.{Found}
 use Rattle.searching.specs.Searching.{LentSearch, Finds}
 use Rattle.planning.specs.Places.{Places, PlanWritten}

@@ -76,7 +76,7 @@ fn answered(s: &[u8], places: &mut [u64], loads: &mut [u64]) -> BestFilled
         (bestFor (now (s .entry)) (length (now (places .entry))) (length (now (loads .entry)))) r
         (now (places .entry)) (now (loads .entry)) (now (places .exit)) (now (loads .exit)) ⌝ }
 {
-    let reading = frame::read(s);
+    let reading = reading::read(s);
     let verdict = reading.verdict;
     match verdict {
         Verdict::Refused(f) => refusal(f),

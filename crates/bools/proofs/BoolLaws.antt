@@ -8,6 +8,7 @@
 --     or-left, or-right, or-elim              a || b is true: from one of the two, and back to one
 --     or-false, or-false-left, or-false-right a || b is false: from both, and back to each
 --     or-unit, or-nothing                     a || b is a where b is false, so a || false is a
+--     or-comm, or-assoc                       a || b in the other order, and of three in the other grouping
 --     not-intro-true, not-intro-false         not b from b
 --     not-true, not-false                     b from not b
 --     implies-false           where a gives b, and b is false, a is false
@@ -90,6 +91,16 @@ or-unit false p = p
 
 pub or-nothing : (a : Bool) → (a || false) ≡ a
 or-nothing a = or-unit a refl
+
+pub or-comm : (a b : Bool) → (a || b) ≡ (b || a)
+or-comm true true = refl
+or-comm true false = refl
+or-comm false true = refl
+or-comm false false = refl
+
+pub or-assoc : (a b e : Bool) → ((a || b) || e) ≡ (a || (b || e))
+or-assoc true b e = refl
+or-assoc false b e = refl
 
 -- ── not ──
 

@@ -13,8 +13,8 @@ pub fn compare(sheet: &[u8], first: &[u8], second: &[u8]) -> u64
     // A list of 513 places is as wrong as any longer one.
     let mut one = [0u64; 513];
     let mut two = [0u64; 513];
-    let n = tables::load(first, &mut one);
-    let m = tables::load(second, &mut two);
+    let n = entries::load(first, &mut one);
+    let m = entries::load(second, &mut two);
     match comparison::compare(sheet, &one[..n], &two[..m]) {
         Compared::Same => 1,
         Compared::Different => 0,

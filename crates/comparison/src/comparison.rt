@@ -92,7 +92,7 @@ fn compare_lists<'a>(
 pub fn compare<'a>(s: &'a [u8], first: &'a [u64], second: &'a [u64]) -> Compared
     ensures { λ r. ⌜ r ≡ comparePlans (now (s .entry)) (now (first .entry)) (now (second .entry)) ⌝ }
 {
-    let reading = frame::read(s);
+    let reading = reading::read(s);
     let verdict = reading.verdict;
     match verdict {
         Verdict::Refused(f) => Compared::Fault(f),

@@ -27,8 +27,8 @@ use Rattle.fields.specs.declared.fault.Fault.{Fault}
 use Rattle.fields.specs.declared.fault.Fault.the-variants.{Table}
 use Rattle.fields.specs.Contents.{Contents}
 use Rattle.fields.specs.Tests.{noMinutes, jobAt}
-use Rattle.frame.specs.declared.writer.Written.{Written}
-use Rattle.frame.specs.declared.writer.Written.the-variants.{Length, Refusal}
+use Rattle.frame.specs.declared.written.Written.{Written}
+use Rattle.frame.specs.declared.written.Written.the-variants.{Length, Refusal}
 use Rattle.frame.specs.Writing.{jobsOf, writeSheet}
 use Rattle.frame.proofs.WriterSteps.{length-jobTable, job-at}
 use Rattle.frame.proofs.FirstFault.{never-10}

@@ -11,7 +11,7 @@ use mathlib.Core.List.{List}
 use lib.ListN.{length}
 use Rattle.fields.specs.Contents.{Contents}
 use Rattle.fields.specs.declared.fault.Fault.{Fault}
-use Rattle.frame.specs.declared.writer.Written.the-variants.{Length, Refusal}
+use Rattle.frame.specs.declared.written.Written.the-variants.{Length, Refusal}
 use Rattle.fields.specs.Numbers.{numberOf, placeOf}
 use Rattle.frame.specs.Writing.{writeSheet}
 use Rattle.frame.specs.Reading.{refused, readSheet}

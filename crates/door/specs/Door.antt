@@ -7,8 +7,8 @@ use Prim.Native.Nat.{ℕ}
 use mathlib.Core.List.{List}
 use Rattle.fields.specs.declared.sheet.Head.{Head}
 use Rattle.fields.specs.Contents.{Contents}
-use Rattle.frame.specs.declared.writer.Written.{Written}
-use Rattle.frame.specs.declared.writer.Written.the-variants.{Length, Refusal}
+use Rattle.frame.specs.declared.written.Written.{Written}
+use Rattle.frame.specs.declared.written.Written.the-variants.{Length, Refusal}
 use Rattle.fields.specs.Tests.{noMinutes}
 use Rattle.frame.specs.Writing.{contentsOf}
 use Rattle.tables.specs.Tables.{numbersOf, givenNumbers}

@@ -43,7 +43,7 @@ fn show_answer(s: &[u8]) {
     let jobs = filled.places;
     let answer = filled.answer;
     let mut out = [0u8; 256];
-    let n = lines::text(answer, &places[..jobs], &mut out);
+    let n = texts::text(answer, &places[..jobs], &mut out);
     join(&mut out);
     // Without the last line end.
     io::write_all(1, &out[..one_less(n)]);
@@ -76,7 +76,7 @@ fn show_written() {
     // Benches 0 and 1: the bits of weight 2 ^ 63 and 2 ^ 62.
     let allowed = [0xC000000000000000u64; 3];
     let mut out = [0u8; 64];
-    let written = frame::write(
+    let written = writing::write(
         Head {
             benches: 2,
             p: 4,

@@ -1,4 +1,4 @@
--- The numbers of the faults are 1 to 17.
+-- The numbers of the faults are 1 to 18.
 --     number-positive, number-small
 --     booking-numbers     the tests of a booking are 14 and 15, in this order, each with the place that they are given
 use Prim.Native.Nat.{ℕ, _≤_, _<_}
@@ -10,7 +10,7 @@ use Rattle.fields.specs.declared.fault.Fault.{Fault}
 use Rattle.fields.specs.declared.fault.Fault.the-variants.{TooLong, Truncated, UnknownKind, Misplaced}
 use Rattle.fields.specs.declared.fault.Fault.the-variants.{WrongLength, SpareBit, BenchCount, Share, JobCount}
 use Rattle.fields.specs.declared.fault.Fault.the-variants.{Minutes, Allowed, HeavyHyperEdge, Table}
-use Rattle.fields.specs.declared.fault.Fault.the-variants.{BookedBench, BookedTwice, PlaceCount, SetBench}
+use Rattle.fields.specs.declared.fault.Fault.the-variants.{BookedBench, BookedTwice, PlaceCount, SetBench, SharedBench}
 use Rattle.fields.specs.declared.sheet.Booking.{Booking}
 use Rattle.fields.specs.Numbers.{numberOf, placeOf}
 use Rattle.fields.specs.Tests.{Test, bookingFaults}
@@ -32,9 +32,10 @@ number-positive (Table at) = omega arith
 number-positive (BookedBench at) = omega arith
 number-positive (BookedTwice at) = omega arith
 number-positive PlaceCount = omega arith
-number-positive (SetBench bench) = omega arith
+number-positive (SetBench at) = omega arith
+number-positive (SharedBench set) = omega arith
 
-pub number-small : (f : Fault) → numberOf f ≤ 17
+pub number-small : (f : Fault) → numberOf f ≤ 18
 number-small TooLong = omega arith
 number-small (Truncated at) = omega arith
 number-small (UnknownKind at) = omega arith
@@ -51,7 +52,8 @@ number-small (Table at) = omega arith
 number-small (BookedBench at) = omega arith
 number-small (BookedTwice at) = omega arith
 number-small PlaceCount = omega arith
-number-small (SetBench bench) = omega arith
+number-small (SetBench at) = omega arith
+number-small (SharedBench set) = omega arith
 
 module _ (m : ℕ) (had : ℕ → Bool) (b : Booking) (at : ℕ) where
   pub booking-numbers : (map (λ (t : Test). numberOf (t .fault)) (bookingFaults m had b at) ≡ 14 ∷ 15 ∷ [])

@@ -1,15 +1,15 @@
 -- The number and the place of each fault (document 01, "Faults, in checking order"): one definition for every case of
 -- the program's enum, used by all contracts. A number that is added later is a new case.
 --     numberOf f     the number that users see
---     placeOf f      the place that users see: the frame's first byte, the sheet's length, the number of a job or of a
---                    bench, or 0
+--     placeOf f      the place that users see: the frame's first byte, the sheet's length, the number of a job, of a
+--                    bench or of a set on a page, or 0
 use Prim.Native.Nat.{ℕ}
 use Rattle.fields.specs.declared.fault.Fault.{Fault}
 use Rattle.fields.specs.declared.fault.Fault.the-variants.{TooLong, Truncated, UnknownKind}
 use Rattle.fields.specs.declared.fault.Fault.the-variants.{Misplaced, WrongLength, SpareBit, BenchCount}
 use Rattle.fields.specs.declared.fault.Fault.the-variants.{Share, JobCount, Minutes, Allowed}
 use Rattle.fields.specs.declared.fault.Fault.the-variants.{HeavyHyperEdge, Table, BookedBench, BookedTwice}
-use Rattle.fields.specs.declared.fault.Fault.the-variants.{PlaceCount, SetBench}
+use Rattle.fields.specs.declared.fault.Fault.the-variants.{PlaceCount, SetBench, SharedBench}
 
 abbrev pub numberOf : Fault → ℕ
 -- "The sheet is longer than 65,536 bytes (place 0)."
@@ -48,7 +48,9 @@ numberOf (BookedTwice at) = 15
 -- Request S-6: "number 16 says that the list does not have one place a job"
 numberOf PlaceCount = 16
 -- "and number 17 that the set is empty or names a bench not in the head"
-numberOf (SetBench bench) = 17
+numberOf (SetBench at) = 17
+-- Request S-7: "number 18, that it shares a bench with an earlier one"
+numberOf (SharedBench set) = 18
 
 abbrev pub placeOf : Fault → ℕ
 placeOf TooLong = 0
@@ -68,4 +70,6 @@ placeOf (BookedBench at) = at
 placeOf (BookedTwice at) = at
 -- "A fault about a bench in other data has the number of the lowest such bench, ... and any other fault has place 0."
 placeOf PlaceCount = 0
-placeOf (SetBench bench) = bench
+-- On a page of sets "the place of both is the set's number" (request S-7).
+placeOf (SetBench at) = at
+placeOf (SharedBench set) = set

@@ -35,8 +35,11 @@ pub enum Fault {
     BookedTwice(usize),
     // 16: a list of places that does not have one for each job.
     PlaceCount,
-    // 17: an empty set of benches, or one with a bench that the head lacks.
+    // 17: an empty set of benches, or one with a bench that the head lacks; the place is the bench, on a page of sets
+    // the set's number.
     SetBench(usize),
+    // 18: a set on a page that shares a bench with an earlier one; the place is the set's number.
+    SharedBench(usize),
 }
 
 // Whether a test found a fault.
@@ -68,10 +71,11 @@ impl Fault {
             Fault::BookedTwice(_) => 15,
             Fault::PlaceCount => 16,
             Fault::SetBench(_) => 17,
+            Fault::SharedBench(_) => 18,
         }
     }
 
-    // The place that users see: a byte, a job, a bench or 0.
+    // The place that users see: a byte, a job, a bench, a set on a page or 0.
     pub fn place(self) -> usize
         ensures { λ r. ⌜ r ≡ placeOf self ⌝ }
     {
@@ -92,7 +96,8 @@ impl Fault {
             Fault::BookedBench(at) => at,
             Fault::BookedTwice(at) => at,
             Fault::PlaceCount => 0,
-            Fault::SetBench(bench) => bench,
+            Fault::SetBench(at) => at,
+            Fault::SharedBench(set) => set,
         }
     }
 }

@@ -17,8 +17,8 @@ use Rattle.fields.specs.declared.sheet.Head.{Head}
 use Rattle.fields.specs.Contents.{Contents}
 use Rattle.fields.specs.declared.fault.Fault.the-variants.{BookedBench}
 use Rattle.fields.specs.declared.fault.Verdict.the-variants.{Refused}
-use Rattle.frame.specs.declared.writer.Written.{Written}
-use Rattle.frame.specs.declared.writer.Written.the-variants.{Length, Refusal}
+use Rattle.frame.specs.declared.written.Written.{Written}
+use Rattle.frame.specs.declared.written.Written.the-variants.{Length, Refusal}
 use Rattle.fields.specs.Format.{bookedFrom, bookings, sheetBytes}
 use Rattle.fields.specs.Tests.{firstFault, headFaults, bookedFaults}
 use Rattle.bookings.proofs.BookingLaws.{bookedFrom-append, bookedFaults-append, firstFault-after}

@@ -38,7 +38,7 @@ use Rattle.judging.specs.declared.judge.Stage.{Stage}
 use Rattle.judging.specs.declared.judge.Stage.the-variants.{Start, Open, Closed}
 use Rattle.fields.specs.declared.fault.Fault.{Fault}
 use Rattle.fields.specs.declared.fault.Fault.the-variants.{TooLong, Truncated, UnknownKind, Misplaced, WrongLength, SpareBit, BenchCount, Share, JobCount, Minutes, Allowed, HeavyHyperEdge, Table}
-use Rattle.fields.specs.declared.fault.Fault.the-variants.{BookedBench, BookedTwice, PlaceCount, SetBench}
+use Rattle.fields.specs.declared.fault.Fault.the-variants.{BookedBench, BookedTwice, PlaceCount, SetBench, SharedBench}
 use Rattle.fields.specs.declared.fault.Verdict.{Verdict}
 use Rattle.fields.specs.declared.fault.Verdict.the-variants.{Accepted, Refused}
 use Rattle.fields.specs.Numbers.{numberOf}
@@ -71,7 +71,8 @@ numberOf-moved by (Table at) = refl
 numberOf-moved by (BookedBench at) = refl
 numberOf-moved by (BookedTwice at) = refl
 numberOf-moved by PlaceCount = refl
-numberOf-moved by (SetBench bench) = refl
+numberOf-moved by (SetBench at) = refl
+numberOf-moved by (SharedBench set) = refl
 
 abbrev movedTest : (ℕ → ℕ) → Test → Test
 movedTest by t = record { holds = t .holds; fault = movedBy by (t .fault) }

@@ -19,7 +19,7 @@ use Rattle.fields.specs.Contents.{Contents}
 use Rattle.fields.specs.declared.fault.Fault.{Fault}
 use Rattle.fields.specs.declared.fault.Fault.the-variants.{Minutes}
 use Rattle.fields.specs.declared.fault.Verdict.the-variants.{Accepted, Refused}
-use Rattle.frame.specs.declared.writer.Written.the-variants.{Length, Refusal}
+use Rattle.frame.specs.declared.written.Written.the-variants.{Length, Refusal}
 use Rattle.fields.specs.Tests.{noMinutes, firstFault, jobFaults, jobAt}
 use Rattle.frame.specs.Writing.{jobsOf, contentsOf, jobsVerdict, openingVerdict, writerVerdict, writeSheet}
 use Rattle.frame.proofs.WholeFrames.{verdict-cases}

@@ -33,7 +33,7 @@ use Rattle.fields.specs.declared.fault.Fault.{Fault}
 use Rattle.fields.specs.declared.fault.Fault.the-variants.{Table, BookedBench}
 use Rattle.fields.specs.declared.fault.Verdict.{Verdict}
 use Rattle.fields.specs.declared.fault.Verdict.the-variants.{Accepted, Refused}
-use Rattle.frame.specs.declared.writer.Written.the-variants.{Length, Refusal}
+use Rattle.frame.specs.declared.written.Written.the-variants.{Length, Refusal}
 use Rattle.fields.specs.Numbers.{placeOf}
 use Rattle.fields.specs.Format.{headKind, jobKind, bookingKind, kindOf, bodyOf, bookedFrom, bookings, sheetBytes}
 use Rattle.fields.specs.Tests.{firstFault, headFaults, bookingFault, bookedFaults, jobFaults, benchCountFault, shareFault}

@@ -10,6 +10,7 @@
 --     jobs-bound              where they find none, there are at most 512 jobs
 --     writerVerdict-sound, sound-writerVerdict    7 to 12 and 14 find no fault: then the sheet is sound, and back
 --     write-accepted, write-refused, output-refused       what the writer returns and gives, by its verdict
+--     output-later            behind the sheet every byte of the output is as before
 -- A loop over a list of jobs, at job i:
 --     jobsVerdict-drop        no fault at job i: the verdict is that on the jobs behind it
 --     jobsVerdict-fault       a fault at job i is the verdict
@@ -22,7 +23,7 @@ use mathlib.Core.Bool.{Bool, false, not, _&&_, _||_}
 use mathlib.Core.List.{List, [], _∷_}
 use mathlib.Core.Logic.{_↔_, inl, inr}
 use lib.ListN.{length, drop}
-use lib.Seq.{drop-cons}
+use lib.Seq.{drop-cons, drop-at}
 use lib.Dec.{eqb, ltb, leb}
 use borrow.Author.Tests.{le-leb, lt-leb}
 use Rattle.bools.proofs.BoolLaws.{split, clash, tests, and-intro, and-false-left, and-false-right, or-false, or-false-left, or-false-right, not-false, not-intro-false}
@@ -36,8 +37,8 @@ use Rattle.fields.specs.declared.fault.Fault.{Fault}
 use Rattle.fields.specs.declared.fault.Verdict.{Verdict}
 use Rattle.fields.specs.declared.fault.Verdict.the-variants.{Accepted, Refused}
 use Rattle.fields.specs.Format.{allows, bookings, sheetBytes}
-use Rattle.frame.specs.declared.writer.Written.{Written}
-use Rattle.frame.specs.declared.writer.Written.the-variants.{Refusal}
+use Rattle.frame.specs.declared.written.Written.{Written}
+use Rattle.frame.specs.declared.written.Written.the-variants.{Length, Refusal}
 use Rattle.fields.specs.Tests.{bookedFaults, firstFault, headFaults, jobFaults, noJob, jobAt, benchCountFault, shareFault, jobCountFault, minutesFault, allowedFault}
 pub use Rattle.bookings.proofs.BookingLaws.{cond-accepted}
 use Rattle.bookings.proofs.BookingLaws.{bookings-fit, fit-bookings}
@@ -230,3 +231,8 @@ write-refused c room f e = rw (e, writeSheet)
 pub output-refused : (w : Written) (f : Fault) (c : Contents) (out : List ℕ) → w ≡ Refusal f → output w c out ≡ out
 unfolding output
 output-refused w f c out e = rw e
+
+pub output-later : (n : ℕ) (c : Contents) (out : List ℕ) → length (sheetBytes c) ≡ n
+    → drop n (output (Length n) c out) ≡ drop n out
+unfolding output
+output-later n c out e = drop-at (sheetBytes c) (drop n out) n e

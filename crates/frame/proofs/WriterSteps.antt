@@ -37,7 +37,7 @@ use Rattle.fields.specs.declared.fault.Fault.{Fault}
 use Rattle.fields.specs.declared.fault.Fault.the-variants.{Table}
 use Rattle.fields.specs.declared.fault.Verdict.{Verdict}
 use Rattle.fields.specs.declared.fault.Verdict.the-variants.{Accepted, Refused}
-use Rattle.frame.specs.declared.writer.Written.the-variants.{Length, Refusal}
+use Rattle.frame.specs.declared.written.Written.the-variants.{Length, Refusal}
 use Rattle.fields.specs.Format.{headFrame, jobFrame, endFrame, bookings, bookingFrames, jobFrames, sheetBytes}
 use Rattle.fields.specs.Tests.{firstFault, headFaults, bookedFaults, jobFaults, noJob, noMinutes, jobAt, jobTable}
 use Rattle.fields.specs.Tests.{hyperEdgeVerdict}

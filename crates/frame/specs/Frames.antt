@@ -35,7 +35,7 @@ use Rattle.fields.specs.declared.fault.Fault.{Fault}
 use Rattle.fields.specs.declared.fault.Fault.the-variants.{TooLong, Truncated, UnknownKind, Misplaced, WrongLength}
 use Rattle.fields.specs.declared.fault.Fault.the-variants.{SpareBit, BenchCount, Share, JobCount, Minutes, Allowed}
 use Rattle.fields.specs.declared.fault.Fault.the-variants.{HeavyHyperEdge, Table, BookedBench, BookedTwice}
-use Rattle.fields.specs.declared.fault.Fault.the-variants.{PlaceCount, SetBench}
+use Rattle.fields.specs.declared.fault.Fault.the-variants.{PlaceCount, SetBench, SharedBench}
 use Rattle.fields.specs.Format.{ours, bookingKind, headerSize, versionOf, kindOf, frameSize, bodyOf, bookingOf}
 use Rattle.fields.specs.Tests.{Test, heavyHyperEdgeAt, LowestHeavyHyperEdge}
 use Rattle.judging.specs.FrameTests.{cut}
@@ -91,7 +91,8 @@ movedBy by (Table at) = Table at
 movedBy by (BookedBench at) = BookedBench (at + by at)
 movedBy by (BookedTwice at) = BookedTwice (at + by at)
 movedBy by PlaceCount = PlaceCount
-movedBy by (SetBench bench) = SetBench bench
+movedBy by (SetBench at) = SetBench at
+movedBy by (SharedBench set) = SharedBench set
 
 -- Where by bytes are added at byte from, those before byte at.
 abbrev pub fromOn : ℕ → ℕ → ℕ → ℕ

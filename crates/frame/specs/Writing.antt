@@ -21,8 +21,8 @@ use Rattle.fields.specs.Contents.{Contents, everyBench}
 use Rattle.fields.specs.declared.fault.Fault.the-variants.{Table}
 use Rattle.fields.specs.declared.fault.Verdict.{Verdict}
 use Rattle.fields.specs.declared.fault.Verdict.the-variants.{Accepted, Refused}
-use Rattle.frame.specs.declared.writer.Written.{Written}
-use Rattle.frame.specs.declared.writer.Written.the-variants.{Length, Refusal}
+use Rattle.frame.specs.declared.written.Written.{Written}
+use Rattle.frame.specs.declared.written.Written.the-variants.{Length, Refusal}
 use Rattle.fields.specs.Format.{bookings, sheetBytes}
 use Rattle.fields.specs.Tests.{firstFault, headFaults, bookedFaults, jobFaults, jobTable, hyperEdgeVerdict}
 

@@ -1,7 +1,5 @@
-// The sheet: bytes to its contents, or to the first fault, and back.
-// `read` and `write` are the entry points; neither asks anything of its caller.
-mod reader;
-mod writer;
+// Whole sheets: what is read and what is written, and the laws of both. The types that stand for it; no function.
+mod written;
 
 pub use fields::Booking;
 pub use fields::Fault;
@@ -10,9 +8,6 @@ pub use fields::Job;
 pub use fields::Reading;
 pub use fields::Sheet;
 pub use fields::Verdict;
-pub use reader::read;
 pub use unpacking::FrameHeader;
 pub use unpacking::byte;
-pub use writer::Written;
-pub use writer::check_opening;
-pub use writer::write;
+pub use written::Written;

@@ -17,7 +17,7 @@ pub extern "C" fn yinqocha_inspect(sheet: &[u8], table: &mut [u8]) -> u64
     ensures { λ r. ⌜ (r ≡ inspectWord (readSheet (now (sheet .entry))) (length (now (table .entry))))
         × (now (table .exit) ≡ inspectTable (readSheet (now (sheet .entry))) (now (table .entry))) ⌝ }
 {
-    let reading = frame::read(sheet);
+    let reading = reading::read(sheet);
     let verdict = reading.verdict;
     match verdict {
         Verdict::Refused(f) => tables::fault_word(f),

@@ -1,8 +1,12 @@
-// The text of an answer, into a buffer.
-mod answer;
-mod best;
+// Bytes, numbers and lines into a buffer.
 mod buffer;
 mod decimal;
+mod line;
 
-pub use answer::text;
-pub use best::best_text;
+pub use buffer::bytes;
+pub use line::benches;
+pub use line::end_line;
+pub use line::jobs;
+pub use line::pair;
+pub use line::triple;
+pub use line::word;

@@ -79,7 +79,7 @@ pub fn check_list<'a>(s: &'a [u8], list: &'a [u64]) -> ListAnswer
     ensures equation { λ r. ⌜ r ≡ checkList (now (s .entry)) (now (list .entry)) ⌝ }
     ensures claim { λ r. ⌜ ListClaim (now (s .entry)) (now (list .entry)) r ⌝ }
 {
-    let reading = frame::read(s);
+    let reading = reading::read(s);
     let verdict = reading.verdict;
     match verdict {
         Verdict::Refused(f) => ListAnswer::Fault(f),

@@ -18,7 +18,7 @@ const NOT_PASSED: u64 = 0;
 pub fn short_fault(sheet: &[u8]) -> Fault
     ensures { λ r. ⌜ r ≡ shortFault (readSheet (now (sheet .entry))) ⌝ }
 {
-    let reading = frame::read(sheet);
+    let reading = reading::read(sheet);
     let verdict = reading.verdict;
     match verdict {
         Verdict::Refused(f) => f,
@@ -47,7 +47,7 @@ pub fn check_plan(sheet: &[u8], places: &[u8], answer: &mut [u8]) -> u64
     }
     // A list of 513 places is as wrong as any longer one.
     let mut list = [0u64; 513];
-    let n = tables::load(places, &mut list);
+    let n = entries::load(places, &mut list);
     match list_check::check_list(sheet, &list[..n]) {
         ListAnswer::Passed(p) => {
             put_two(p.largest, p.fullest, answer);

@@ -1,9 +1,10 @@
 -- Request S-6: "Our own plans and sets for the same sheet and target always pass." The sets.
 --     own-set-passes        the set of a none is passed; of whatever call the demand holds
 --     own-set-answered      the same of a call of the planner, by its equation
+--     own-set-on-a-page     so a page with this set alone is passed (request S-7)
 use Prim.Native.Nat.{ℕ}
 use mathlib.Core.Path.{_≡_, subst}
-use mathlib.Core.List.{List}
+use mathlib.Core.List.{List, [], _∷_}
 use lib.ListN.{length}
 use Rattle.sums.proofs.CountLaws.{count-pos-elim}
 use Rattle.fields.specs.Contents.{Contents}
@@ -13,6 +14,7 @@ use Rattle.answers.specs.declared.answer.Answer.the-variants.{None}
 use Rattle.answers.specs.declared.answer.Filled.{Filled}
 use Rattle.answers.specs.declared.answer.NoneAnswer.{NoneAnswer}
 use Rattle.answers.specs.declared.check.SetAnswer.the-variants.{Passed}
+use Rattle.answers.specs.declared.check.PageAnswer.the-variants.{Passed as PagePassed}
 use Rattle.answers.specs.Answers.{Answered}
 use Rattle.algorithm.specs.Answer.{answerFor}
 use Rattle.blocking.specs.Claim.{Answerable, a-none, inSet, PlannerClaim}
@@ -20,6 +22,8 @@ use Rattle.blocking.proofs.Claim.{answered-claim, answered-room}
 use Rattle.set_check.specs.SetCheck.{checkSet}
 use Rattle.set_check.specs.SetClaim.{Judged}
 use Rattle.set_check.proofs.SetLaws.{judged-passed}
+use Rattle.page_check.specs.PageCheck.{checkPage}
+use Rattle.page_check.proofs.SingleSets.{page-of-one}
 
 module _ (s places loads : List ℕ) where
   pub own-set-passes : {r : Answer} {places′ loads′ : List ℕ} → PlannerClaim s places loads r places′ loads′
@@ -45,3 +49,9 @@ module _ (s places loads : List ℕ) where
       let (c, can) =
       answered-room (subst (λ (a : Answer). PlannerClaim s places loads a places′ loads′) none claim) (a-none n) in
       own-set-passes claim c can n none
+
+  pub own-set-on-a-page : {r : Answer} {places′ loads′ : List ℕ} → PlannerClaim s places loads r places′ loads′
+      → (c : Contents) → Answerable s places loads c → (n : NoneAnswer) → r ≡ None n
+      → checkPage s (n .set ∷ []) ≡ PagePassed
+  own-set-on-a-page claim c can n none =
+      page-of-one s (n .set) c (can .sheet-accepted) (own-set-passes claim c can n none)

@@ -45,10 +45,10 @@ use Rattle.algorithm.proofs.SheetDay.{accepted-at}
 use Rattle.arrays.specs.Arrays.{filled}
 use Rattle.arrays.proofs.FilledLaws.{getD-filled}
 use Rattle.start.specs.StartArrays.{Fields}
-use Rattle.deciding.specs.declared.decision.Decision.the-variants.{Plan as DecidedPlan, Long as DecidedLong}
-use Rattle.deciding.specs.declared.decision.Decision.the-variants.{None as DecidedNone}
-use Rattle.deciding.specs.declared.decision.PlanMoves.{PlanMoves}
-use Rattle.deciding.specs.Decision.{decisionOf, placesIn, Lent}
+use Rattle.decisions.specs.declared.decision.Decision.the-variants.{Plan as DecidedPlan, Long as DecidedLong}
+use Rattle.decisions.specs.declared.decision.Decision.the-variants.{None as DecidedNone}
+use Rattle.decisions.specs.declared.decision.PlanMoves.{PlanMoves}
+use Rattle.decisions.specs.Decision.{decisionOf, placesIn, Lent}
 use Rattle.planning.specs.Places.{PlanWritten}
 
 abbrev refusal : Fault → Filled

@@ -78,7 +78,7 @@ pub fn plan(s: &[u8], places: &mut [u64], loads: &mut [u64]) -> Filled
         (answerFor (now (s .entry)) (length (now (places .entry))) (length (now (loads .entry)))) r
         (now (places .entry)) (now (loads .entry)) (now (places .exit)) (now (loads .exit)) ⌝ }
 {
-    let reading = frame::read(s);
+    let reading = reading::read(s);
     let verdict = reading.verdict;
     match verdict {
         Verdict::Refused(f) => unwritten(Answer::Fault(f)),

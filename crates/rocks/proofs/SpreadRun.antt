@@ -22,6 +22,7 @@ use lib.ListN.{getD}
 use lib.Dec.{eqb, ltb}
 use borrow.Author.Tests.{eq-eqb, ne-eqb, eqb-true, lt-ltb, le-ltb, ltb-true}
 use Rattle.bools.proofs.BoolLaws.{split, clash, and-intro, and-left, and-right, and-false-left, and-false-right, or-left, or-right, or-elim, bool-ext, or-unit}
+use Rattle.bools.proofs.BoolLaws.{or-assoc}
 use Rattle.bools.proofs.OrderLaws.{eq-or-ne, last-or-below, lt-or-le}
 use Rattle.sums.proofs.SearchLaws.{any-intro, any-elim}
 use Rattle.bits.specs.Bits.{isSet}
@@ -49,10 +50,6 @@ differ-one true false e = inl (refl, refl)
 differ-one false b e = inr (refl, e)
 
 -- ── one rock ──
-
-or-assoc : (a b e : Bool) → ((a || b) || e) ≡ (a || (b || e))
-or-assoc true b e = refl
-or-assoc false b e = refl
 
 module _ (low high dir : List ℕ) (S : ℕ → Bool) (r : ℕ) where
   pub join-not : {t : Bool} → t ≡ crossesAt low high dir S r → t ≡ false → (v : ℕ) → S v ≡ joinOf low high dir S r v

@@ -27,10 +27,10 @@ use Rattle.algorithm.specs.Best.{givesPlan, Search, middle, afterPlan, afterRef
 use Rattle.algorithm.specs.Best.{bestTarget}
 use Rattle.algorithm.proofs.BestLaws.{seek-plan, seek-refusal, seek-enough, tried-more, few-runs}
 use Rattle.arrays.specs.Arrays.{plusOf}
-use Rattle.deciding.specs.declared.decision.Decision.{Decision}
-use Rattle.deciding.specs.declared.decision.Decision.the-variants.{Plan, Long, None}
-use Rattle.deciding.specs.declared.decision.Decided.{Decided}
-use Rattle.deciding.specs.Decision.{decisionOf, Lent, Decides}
+use Rattle.decisions.specs.declared.decision.Decision.{Decision}
+use Rattle.decisions.specs.declared.decision.Decision.the-variants.{Plan, Long, None}
+use Rattle.decisions.specs.declared.decision.Decided.{Decided}
+use Rattle.decisions.specs.Decision.{decisionOf, Lent, Decides}
 use Rattle.searching.specs.declared.kept.Kept.{Kept}
 use Rattle.searching.specs.Searching.{totalOf, startOf, headAt, toldPlan, movesIn, LentSearch, planDecided}
 use Rattle.searching.specs.Searching.{half, loweredTo, raisedTo, Searching, Finds}

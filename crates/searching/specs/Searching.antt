@@ -21,10 +21,10 @@ use Rattle.day.specs.Day.{Day, withTarget, startTarget}
 use Rattle.algorithm.specs.Best.{givesPlan, seek, searched, bestTarget, targetsRun}
 use Rattle.arrays.specs.Arrays.{plusOf}
 use Rattle.loads.specs.BenchSum.{sumOf}
-use Rattle.deciding.specs.declared.decision.Decision.{Decision}
-use Rattle.deciding.specs.declared.decision.Decision.the-variants.{Plan, Long, None}
-use Rattle.deciding.specs.declared.decision.Decided.{Decided}
-use Rattle.deciding.specs.Decision.{Lent, Decides}
+use Rattle.decisions.specs.declared.decision.Decision.{Decision}
+use Rattle.decisions.specs.declared.decision.Decision.the-variants.{Plan, Long, None}
+use Rattle.decisions.specs.declared.decision.Decided.{Decided}
+use Rattle.decisions.specs.Decision.{Lent, Decides}
 use Rattle.searching.specs.declared.kept.Kept.{Kept}
 use Rattle.searching.specs.declared.kept.Found.{Found}
 

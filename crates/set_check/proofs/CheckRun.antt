@@ -2,7 +2,9 @@
 --     foreign-is        the lowest bench of the set that the head lacks
 --     by-empty, by-foreign, by-long, by-none      what is answered before the set is judged
 --     early             an answer before the set is judged is the answer
---     of-the-day, weighed           else the set and the tables are as the weighing asks for them
+--     head-only         a set without a bench that the head lacks has benches of the head only
+--     weighs-lent       a sheet without a long job is as the weighing asks for it, for any set
+--     of-the-day, weighed           so they are where the set is judged
 --     judged-passed, judged-not     and the set is judged
 --     refused-is, accepted-is       the answer for the bytes
 use Prim.Native.Nat.{ℕ, _≤_, _<_, _^_}
@@ -15,7 +17,7 @@ use denote.Enum.Declared.{tagOf}
 use lib.Dec.{eqb, ltb}
 use lib.ListN.{getD}
 use borrow.Author.Tests.{eq-eqb, ne-eqb, lt-ltb, le-ltb, eqb-false, ltb-false}
-use Rattle.bools.proofs.BoolLaws.{split, clash, and-intro, not-intro-true}
+use Rattle.bools.proofs.BoolLaws.{clash, and-intro, not-intro-true}
 use Rattle.bools.proofs.OrderLaws.{lt-or-le}
 use Rattle.bits.specs.Bits.{isSet}
 use Rattle.bits.proofs.SetBits.{isSet-past}
@@ -38,7 +40,7 @@ use Rattle.algorithm.proofs.SheetDay.{none-long, sound-day}
 use Rattle.sets.specs.Sets.{lowestOf}
 use Rattle.start.specs.StartArrays.{Fields}
 use Rattle.start.proofs.StartRun.{long-job-is}
-use Rattle.deciding.specs.Decision.{Lent}
+use Rattle.decisions.specs.Decision.{Lent}
 use Rattle.placements.specs.LeastWeight.{blocks}
 use Rattle.weighing.specs.Weights.{Weighs, OfTheDay}
 use Rattle.set_check.specs.SetCheck.{foreignIn, answeredBy, firstAnswer, setAnswer, checkSet}
@@ -85,6 +87,41 @@ module _ (d : Day) (set : ℕ) where
       by-none l =
           let there : d .jobs ≤ longJob d = omega (arith, long-is, F .jobs-are) in
           rw (ne-eqb set 0 some, in-head, le-ltb (longJob d) (d .jobs) there) refl
+
+-- ── what the weighing asks for ──
+
+pub head-only : (benches set : ℕ) → ltb (foreignIn benches set) 64 ≡ false
+    → (v : ℕ) → isSet 64 set v ≡ true → v < benches
+unfolding foreignIn
+head-only benches set none v p = elim (lt-or-le v benches) [
+  | inl below ↦ below
+  | inr above ↦
+      let least-most = least-bound 64 (λ u. isSet 64 set u && not (ltb u benches)) v
+      (and-intro p (not-intro-true (le-ltb v benches above))) in
+      let far : 64 ≤ v = omega (arith, least-most, ltb-false (foreignIn benches set) 64 none) in
+      clash p (isSet-past 64 set v far)
+]
+
+pub weighs-lent : (d : Day) → ltb (longJob d) (d .jobs) ≡ false
+    → (h : Head) (jobs : ℕ) (minutes allowed booked : List ℕ) → Lent d h jobs minutes allowed booked → (set : ℕ)
+    → Weighs d (record { benches = h .benches; p = h .p; q = h .q; target = h .target; set = set })
+    jobs minutes allowed booked
+weighs-lent d l h jobs minutes allowed booked L set =
+    record {
+      holds = record {
+        sound = sound-day d (L .accepted) (none-long d l);
+        fields = L .fields;
+        benches-are = L .benches-are;
+        p-is = L .p-is;
+        q-is = L .q-is;
+        target-is = L .target-is;
+      };
+      bookings = record {
+        bounded = L .fields .bounded;
+        benches-are = L .benches-are;
+        booked-are = L .booked-are;
+      };
+    }
 
 -- ── whether the set is judged ──
 
@@ -139,20 +176,12 @@ module _ (d : Day) (set : ℕ) where
     judged-is = let (a, b, l) = judged in rw (a, b, l) refl
 
     pub of-the-day : set < 2 ^ 64 → OfTheDay d set
-    unfolding foreignIn
     of-the-day small =
         let (a, b, l) = judged in
         record {
           some-bench = omega (arith, eqb-false set 0 a);
           of-64-bits = small;
-          of-the-head = λ v p. elim (lt-or-le v (d .benches)) [
-            | inl below ↦ below
-            | inr above ↦
-                let least-most = least-bound 64 (λ u. isSet 64 set u && not (ltb u (d .benches))) v
-                (and-intro p (not-intro-true (le-ltb v (d .benches) above))) in
-                let far : 64 ≤ v = omega (arith, least-most, ltb-false (foreignIn (d .benches) set) 64 b) in
-                clash p (isSet-past 64 set v far)
-          ];
+          of-the-head = head-only (d .benches) set b;
         }
 
     pub weighed : (h : Head) (jobs : ℕ) (minutes allowed booked : List ℕ) → Lent d h jobs minutes allowed booked
@@ -160,21 +189,7 @@ module _ (d : Day) (set : ℕ) where
         jobs minutes allowed booked
     weighed h jobs minutes allowed booked L =
         let (a, b, l) = judged in
-        record {
-          holds = record {
-            sound = sound-day d (L .accepted) (none-long d l);
-            fields = L .fields;
-            benches-are = L .benches-are;
-            p-is = L .p-is;
-            q-is = L .q-is;
-            target-is = L .target-is;
-          };
-          bookings = record {
-            bounded = L .fields .bounded;
-            benches-are = L .benches-are;
-            booked-are = L .booked-are;
-          };
-        }
+        weighs-lent d l h jobs minutes allowed booked L set
 
     pub judged-passed : {t : Bool} → t ≡ blocks d (isSet 64 set) → t ≡ true → Passed ≡ setAnswer d set
     judged-passed e p = sym (judged-is ∙ rw (sym e ∙ p) refl)

@@ -16,7 +16,7 @@ ghost use Rattle.set_check.specs.SetCheck.{foreignIn, firstAnswer, setAn
 ghost use Rattle.set_check.specs.SetClaim.{SetClaim};
 
 // The lowest bench of the set that the head lacks, and 64 where it lacks none.
-fn foreign(benches: usize, set: usize) -> usize
+pub fn foreign(benches: usize, set: usize) -> usize
     ensures { λ r. ⌜ r ≡ foreignIn benches set ⌝ }
 {
     sets::lowest(sets::less(set, sets::everywhere(benches)))
@@ -85,7 +85,7 @@ pub fn check_set(s: &[u8], set: u64) -> SetAnswer
     ensures equation { λ r. ⌜ r ≡ checkSet (now (s .entry)) set ⌝ }
     ensures claim { λ r. ⌜ SetClaim (now (s .entry)) set r ⌝ }
 {
-    let reading = frame::read(s);
+    let reading = reading::read(s);
     let verdict = reading.verdict;
     match verdict {
         Verdict::Refused(f) => SetAnswer::Fault(f),

@@ -2,3 +2,4 @@
 mod check;
 
 pub use check::check_set;
+pub use check::foreign;

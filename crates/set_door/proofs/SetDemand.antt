@@ -1,6 +1,7 @@
 -- What is promised of the check of a set over the bytes of the door (specs/SetDoorClaim), from the equation that a call
 -- ensures (specs/SetDoor) and what is promised of the answer (set_check's specs/SetClaim).
 --     one-case              every call is one of three, and no call is two of them
+--     number-put, one-kept  one number in the answer's table: its entry is read back, and what is after it is kept
 --     door-claim            the claim holds of what a call returns and leaves in the answer's table
 --     with-claim            the equation, and the claim with it
 use Prim.Native.Nat.{ℕ, zero, suc, _^_, _≤_, _<_}
@@ -70,14 +71,14 @@ three-words it-did-not-pass = inl refl
 
 -- ── one number in the answer's table ──
 
-number-put : (n : ℕ) (numbers : List ℕ) → n < 2 ^ 64 → entryOf (putNumbers (n ∷ []) numbers) 0 ≡ n
+pub number-put : (n : ℕ) (numbers : List ℕ) → n < 2 ^ 64 → entryOf (putNumbers (n ∷ []) numbers) 0 ≡ n
 number-put n numbers small = entry-put (n ∷ []) numbers 0 fits (omega arith)
   where
     fits : Fit (n ∷ [])
     fits zero l = small
     fits (suc i) l = absurd (omega arith)
 
-one-kept : (ns numbers : List ℕ) → length ns ≡ 1 → 8 ≤ length numbers
+pub one-kept : (ns numbers : List ℕ) → length ns ≡ 1 → 8 ≤ length numbers
     → (drop 8 (putNumbers ns numbers) ≡ drop 8 numbers) × (length (putNumbers ns numbers) ≡ length numbers)
 one-kept ns numbers e room = (later-kept ns numbers 1 e, length-putNumbers ns numbers (omega arith))
 

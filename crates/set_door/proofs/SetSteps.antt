@@ -1,4 +1,5 @@
 -- The check of a set through the door, from what the calls ensure: what is returned, and the answer's table after it.
+--     one-put               a number put as the first entry
 --     short-called          without room for the answer
 --     passed-called, long-called, not-passed-called, fault-called     with room, by the answer
 use Prim.Native.Nat.{ℕ, _^_, _≤_, _<_}
@@ -21,8 +22,7 @@ use Rattle.set_door.specs.SetDoorClaim.{SetDoorClaim}
 use Rattle.set_door.proofs.SetDemand.{with-claim}
 use Rattle.set_door.proofs.SetReplies.{door-faulty, door-checked}
 
--- A number put as the first entry.
-one-put : (t : List ℕ) (v : ℕ) → 8 ≤ length t → putEntry t 0 v ≡ putNumbers (v ∷ []) t
+pub one-put : (t : List ℕ) (v : ℕ) → 8 ≤ length t → putEntry t 0 v ≡ putNumbers (v ∷ []) t
 one-put t v room = ap (λ (xs : List ℕ). putEntry xs 0 v) (sym (put-nothing t)) ∙ put-more [] t v (omega arith)
 
 module _ (s : List ℕ) (set : ℕ) (numbers : List ℕ) (small : set < 2 ^ 64) where

@@ -33,9 +33,9 @@ fn input_read(n: usize, buffer: &[u8; SHEET_ROOM]) -> Reading
 {
     let whole: &[u8] = buffer;
     if n < whole.len() {
-        return frame::read(&whole[..n]);
+        return reading::read(&whole[..n]);
     }
-    frame::read(whole)
+    reading::read(whole)
 }
 
 fn show_fault(f: Fault) {

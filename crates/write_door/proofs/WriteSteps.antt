@@ -14,8 +14,8 @@ use Rattle.fields.specs.declared.fault.Fault.the-variants.{BookedBench}
 use Rattle.fields.specs.declared.fault.Verdict.the-variants.{Refused}
 use Rattle.fields.specs.Contents.{Contents}
 use Rattle.fields.specs.Format.{bookings}
-use Rattle.frame.specs.declared.writer.Written.{Written}
-use Rattle.frame.specs.declared.writer.Written.the-variants.{Length, Refusal}
+use Rattle.frame.specs.declared.written.Written.{Written}
+use Rattle.frame.specs.declared.written.Written.the-variants.{Length, Refusal}
 use Rattle.frame.specs.Writing.{contentsOf, andThen, openingVerdict, writerVerdict, writeSheet, output}
 use Rattle.frame.proofs.EnoughBookings.{bookings-zeros, writer-bookings, output-bookings, far-refused}
 use Rattle.frame.proofs.EnoughJobs.{jobs-enough, output-jobs-enough}

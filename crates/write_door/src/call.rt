@@ -40,9 +40,9 @@ pub fn write(
         target,
     };
     let mut first = [0u64; 64];
-    let n = tables::load(booked, &mut first);
-    let far = tables::first_from(booked, 64);
-    if far < tables::entries(booked) {
+    let n = entries::load(booked, &mut first);
+    let far = entries::first_from(booked, 64);
+    if far < entries::entries(booked) {
         return tables::fault_word(far_fault(h, &first[..n], far));
     }
     write_jobs(h, &first[..n], minutes, allowed, out)
@@ -52,7 +52,7 @@ pub fn write(
 fn far_fault(h: Head, booked: &[u64], far: usize) -> Fault
     ensures { λ r. ⌜ andThen (openingVerdict h (now (booked .entry))) (Refused (BookedBench far)) ≡ Refused r ⌝ }
 {
-    match frame::check_opening(h, booked) {
+    match writing::check_opening(h, booked) {
         Verdict::Refused(f) => f,
         Verdict::Accepted => Fault::BookedBench(far),
     }
@@ -73,9 +73,9 @@ fn write_jobs(h: Head, booked: &[u64], minutes: &[u8], allowed: &[u8], out: &mut
     // 513 jobs are enough to meet fault 9.
     let mut first = [0u64; 513];
     let mut second = [0u64; 513];
-    let n = tables::load_given(minutes, Job::NO_MINUTES, &mut first);
-    let m = tables::load(allowed, &mut second);
-    match frame::write(h, booked, &first[..n], &second[..m], out) {
+    let n = entries::load_given(minutes, Job::NO_MINUTES, &mut first);
+    let m = entries::load(allowed, &mut second);
+    match writing::write(h, booked, &first[..n], &second[..m], out) {
         Written::Length(k) => k as u64,
         Written::Refusal(f) => tables::fault_word(f),
     }

@@ -8,7 +8,7 @@
 //! - `printed`: what the programs behind `./bay`, `./show` and `./best` print.
 //! - `gen`: generators of sheets and tables, good and damaged.
 //! - `corpus`: small days with their answers, and slow full sheets.
-//! - `papers`: small days with lists and sets from elsewhere, and what their checks say.
+//! - `papers`: small days with lists, sets and pages from elsewhere, and what their checks say.
 //! - `light_days`: full sheets of light jobs with a choice.
 //! - `outcome`: what planning left, entry by entry.
 //! - `stored`: sheets with what planning left, as a text.

@@ -46,7 +46,7 @@ pub fn entry(table: &[u8], index: usize) -> u64 {
 }
 
 /// The numbers of a table, a begun entry counting as one.
-pub fn numbers(table: &[u8]) -> impl ExactSizeIterator<Item = u64> + '_ {
+pub fn numbers(table: &[u8]) -> impl ExactSizeIterator<Item = u64> + Clone + '_ {
     (0..entries(table)).map(|index| entry(table, index))
 }
 

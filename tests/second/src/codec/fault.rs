@@ -39,6 +39,8 @@ pub const BOOKED_TWICE: u32 = 15;
 pub const LIST: u32 = 16;
 /// "number 17 that the set is empty or names a bench not in the head".
 pub const SET: u32 = 17;
+/// "number 18, that it shares a bench with an earlier one": a set on a page.
+pub const SHARED: u32 = 18;
 
 /// "A fault returns its number and place."
 #[derive(Clone, Copy, Debug, PartialEq, Eq)]

@@ -1,10 +1,13 @@
-use super::checks::{judge_list, judge_set};
-use super::{lightest_placement, weight_of_lightest};
+use super::checks::{judge_list, judge_page, judge_set};
+use super::{every_placement, is_blocking, lightest_placement, weight_of_lightest};
 use crate::codec::door::Codec;
+use crate::codec::fault::Fault;
+use crate::gen::bay::placements;
 use crate::gen::day::Day;
-use crate::planner::checker::{ListCheck, SetCheck};
+use crate::planner::checker::{ListCheck, PageCheck, SetCheck};
 use crate::planner::example_tests::{booked, head, job};
 use crate::planner::set::Set;
+use crate::rng::Rng;
 
 fn list(day: &Day, places: &[u64], check: ListCheck) -> Result<(), &'static str> {
     let mut codec = Codec::default();
@@ -14,6 +17,11 @@ fn list(day: &Day, places: &[u64], check: ListCheck) -> Result<(), &'static str>
 fn set(day: &Day, set: Set, check: SetCheck) -> Result<(), &'static str> {
     let mut codec = Codec::default();
     judge_set(codec.read(&day.draft().bytes()).expect("accepted"), set, check)
+}
+
+fn page(day: &Day, sets: &[Set], check: Result<PageCheck, Fault>) -> Result<(), &'static str> {
+    let mut codec = Codec::default();
+    judge_page(codec.read(&day.draft().bytes()).expect("accepted"), sets, check)
 }
 
 #[test]
@@ -46,6 +54,72 @@ fn wrong_checks_of_a_set_are_refused() {
     assert!(set(&day(8, 1), Set::one(0), SetCheck::Long { job: 0 }).is_err());
     assert!(set(&day(7, 1), Set::one(0), SetCheck::Passed).is_err());
     assert!(set(&day(7, 8), Set::one(0), SetCheck::Long { job: 1 }).is_err());
+}
+
+/// Benches 0 and 2 are blocking, benches 1 and 3 are not.
+fn page_day(target: u64) -> Day {
+    booked(head(4, target), &[(0, 9), (2, 9)], &[job(8, &[1]), job(0, &[3])])
+}
+
+#[test]
+fn wrong_checks_of_a_page_are_refused() {
+    let [zero, one, two, three] = [0, 1, 2, 3].map(Set::one);
+    let not_passed = |set| Ok(PageCheck::NotPassed { set });
+    let passed = Ok(PageCheck::Passed);
+    let right = [
+        (&[][..], passed),
+        (&[two, zero], passed),
+        (&[two, one, zero, three], not_passed(1)),
+        (&[zero | one | two], passed),
+    ];
+    for (sets, check) in right {
+        assert_eq!(page(&page_day(8), sets, check), Ok(()), "{sets:?}");
+        assert_eq!(page(&page_day(7), sets, Ok(PageCheck::Long { job: 0 })), Ok(()), "{sets:?}");
+        assert!(page(&page_day(7), sets, check).is_err(), "{sets:?}");
+        let wrong = [passed, not_passed(0), not_passed(1), not_passed(3), not_passed(4)];
+        for other in wrong.into_iter().chain([Err(Fault::new(17, 0)), Err(Fault::new(18, 1))]) {
+            assert_eq!(page(&page_day(8), sets, other).is_ok(), other == check, "{sets:?}");
+        }
+    }
+}
+
+#[test]
+fn wrong_faults_of_a_page_are_refused() {
+    let [zero, one, two, four] = [0, 1, 2, 4].map(Set::one);
+    let right = [
+        (&[Set::EMPTY][..], Fault::new(17, 0)),
+        (&[zero, four], Fault::new(17, 1)),
+        (&[zero, zero | four], Fault::new(17, 1)),
+        (&[zero, zero, four], Fault::new(18, 1)),
+        (&[zero, one, two, two | zero], Fault::new(18, 3)),
+        (&[zero, one, zero, one], Fault::new(18, 2)),
+    ];
+    for (sets, fault) in right {
+        for number in [17, 18] {
+            for place in 0..5 {
+                let other = Fault::new(number, place);
+                let judged = page(&page_day(8), sets, Err(other));
+                assert_eq!(judged.is_ok(), other == fault, "{sets:?} {other:?}");
+            }
+        }
+        assert!(page(&page_day(8), sets, Ok(PageCheck::Passed)).is_err(), "{sets:?}");
+        assert!(page(&page_day(7), sets, Ok(PageCheck::Long { job: 0 })).is_err(), "{sets:?}");
+    }
+}
+
+/// Component by component, and by every placement of all heavy jobs.
+#[test]
+fn both_searches_find_the_same_blocking_sets() {
+    let (mut rng, mut codec) = (Rng::new(8), Codec::default());
+    let mut blocking = 0;
+    for _ in 0..2000 {
+        let (day, set) = placements::levelled(&mut rng);
+        let bytes = day.draft().bytes();
+        let sheet = codec.read(&bytes).expect("accepted");
+        assert_eq!(every_placement::is_blocking(sheet, set), is_blocking(sheet, set), "{day:?}");
+        blocking += usize::from(is_blocking(sheet, set));
+    }
+    assert!((500..1800).contains(&blocking), "{blocking}");
 }
 
 #[test]

@@ -6,10 +6,12 @@
 //! plan.
 //!
 //! - `best`: what a best target must be.
-//! - `checks`: what the check of a list or of a set must say.
+//! - `checks`: what the check of a list, of a set or of a page of sets must say.
+//! - `every_placement`: blocking sets by every placement of all heavy jobs.
 
 pub mod best;
 pub mod checks;
+pub mod every_placement;
 
 #[cfg(test)]
 mod best_tests;

@@ -1,6 +1,7 @@
-//! Lists and sets from elsewhere with what their checks say, as text: tests/plans/checks.txt. A
-//! case has a day in the form of `corpus`, then a list of places or a set of benches, the mistakes
-//! that would lead to another answer, and the answer:
+//! Lists, sets and pages of sets from elsewhere with what their checks say, as text:
+//! tests/plans/checks.txt, and tests/plans/pages.txt for pages. A case has a day in the form of
+//! `corpus`, then a list of places, a set of benches or a page of sets, the mistakes that would lead
+//! to another answer, and the answer:
 //!
 //! ```text
 //! case: what it tells apart
@@ -17,6 +18,15 @@
 //! and the fullest bench in its answer. The other answers are `not passed`, `long JOB` and
 //! `fault NUMBER PLACE`.
 //!
+//! A page has the line `page` with its sets, semicolons between them and `-` for an empty set, and
+//! in `least` the least weight of each. If it is not passed, its answer has the number of the set
+//! that is named:
+//!
+//! ```text
+//! page: 0 2; -; 1
+//! answer: fault 17 1
+//! ```
+//!
 //! - `mistakes`: checks that make one of the mistakes, for the tests.
 
 #[cfg(test)]
@@ -28,15 +38,17 @@ use crate::codec::fault::Fault;
 use crate::corpus::{each_case, numbers, set, Lines};
 use crate::gen::day::Day;
 use crate::planner::algorithm::Planner;
-use crate::planner::checker::{ListCheck, SetCheck};
+use crate::planner::checker::{ListCheck, PageCheck, SetCheck};
 use crate::planner::set::Set;
 
-pub const TEXT: &str = include_str!("../../../plans/checks.txt");
+const TEXT: &str = include_str!("../../../plans/checks.txt");
+const PAGES_TEXT: &str = include_str!("../../../plans/pages.txt");
 
 #[derive(Clone, Debug, PartialEq, Eq)]
 pub enum Paper {
     List(Vec<u64>),
     Set(Set),
+    Page(Vec<Set>),
 }
 
 /// One case; least weight and answer stay text.
@@ -50,8 +62,13 @@ pub struct Case {
     pub answer: String,
 }
 
+/// The cases of both texts.
+pub fn all() -> Vec<Case> {
+    [TEXT, PAGES_TEXT].into_iter().flat_map(cases).collect()
+}
+
 /// The cases of a text in that form.
-pub fn cases(text: &str) -> Vec<Case> {
+fn cases(text: &str) -> Vec<Case> {
     each_case(text, |lines| {
         let mistakes = lines.find("wrong:").map_or(Vec::new(), |names| names.split("; ").collect());
         Case {
@@ -66,10 +83,17 @@ pub fn cases(text: &str) -> Vec<Case> {
 }
 
 fn paper(lines: &Lines) -> Paper {
-    match lines.find("list:") {
-        Some(places) => Paper::List(numbers(places)),
-        None => Paper::Set(set(&numbers(lines.value("set:")))),
+    match (lines.find("list:"), lines.find("page:")) {
+        (Some(places), _) => Paper::List(numbers(places)),
+        (_, Some(sets)) => Paper::Page(page(sets)),
+        _ => Paper::Set(set(&numbers(lines.value("set:")))),
     }
+}
+
+/// The sets between the semicolons of a text, none if it is empty.
+fn page(text: &str) -> Vec<Set> {
+    let sets = text.split(';').filter(|_| !text.is_empty());
+    sets.map(|benches| set(&numbers(benches))).collect()
 }
 
 /// What the second planner says of a paper, as the text has it.
@@ -77,6 +101,7 @@ pub fn check(planner: &mut Planner, sheet: &[u8], paper: &Paper) -> String {
     match paper {
         Paper::List(places) => print_list(planner.check_plan(sheet, places.iter().copied(), true)),
         Paper::Set(set) => print_set(planner.check_set(sheet, *set, true)),
+        Paper::Page(sets) => print_page(planner.check_page(sheet, sets.iter().copied(), true)),
     }
 }
 
@@ -94,6 +119,15 @@ pub fn print_set(check: Result<SetCheck, Fault>) -> String {
         Ok(SetCheck::Passed) => "passed".to_string(),
         Ok(SetCheck::NotPassed) => "not passed".to_string(),
         Ok(SetCheck::Long { job }) => format!("long {job}"),
+    }
+}
+
+pub fn print_page(check: Result<PageCheck, Fault>) -> String {
+    match check {
+        Err(fault) => print_fault(fault),
+        Ok(PageCheck::Passed) => "passed".to_string(),
+        Ok(PageCheck::NotPassed { set }) => format!("not passed {set}"),
+        Ok(PageCheck::Long { job }) => format!("long {job}"),
     }
 }
 

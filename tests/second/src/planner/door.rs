@@ -4,7 +4,7 @@
 
 use super::algorithm::{Answer, Comparison, Planner, Rooms};
 use super::best::Best;
-use super::checker::{ListCheck, SetCheck};
+use super::checker::{ListCheck, PageCheck, SetCheck};
 use super::set::Set;
 use crate::codec::door::{numbers, word, ENTRY_BYTES};
 
@@ -20,7 +20,7 @@ pub const BEST: u64 = 1;
 pub const DIFFERENT: u64 = 0;
 pub const SAME: u64 = 1;
 
-/// The value of the result word for each outcome of a check. A set has `LONG` besides.
+/// The value of the result word for each outcome of a check. A set and a page have `LONG` besides.
 pub const NOT_PASSED: u64 = 0;
 pub const PASSED: u64 = 1;
 
@@ -37,6 +37,10 @@ pub const CHECK_PLAN_ENTRIES: usize = 2;
 
 /// The entries of the answer table of a set: the job of a long one.
 pub const CHECK_SET_ENTRIES: usize = 1;
+
+/// The entries of the answer table of a page: the set of one that is not passed, the job of a long
+/// one.
+pub const CHECK_PAGE_ENTRIES: usize = 1;
 
 /// The entries that a table has room for: a begun one is no room.
 fn room(table: &[u8]) -> usize {
@@ -140,6 +144,20 @@ pub fn check_set(planner: &mut Planner, sheet: &[u8], set: u64, answer: &mut [u8
         Ok(SetCheck::NotPassed) => (0, NOT_PASSED),
         Ok(SetCheck::Passed) => (0, PASSED),
         Ok(SetCheck::Long { job }) => (job as u64, LONG),
+    };
+    put(answer, &[entry]);
+    word
+}
+
+/// Checks a page of sets. On the page a begun entry counts and missing bytes are 0. Later bytes of
+/// the answer table keep their contents, and after a fault all do.
+pub fn check_page(planner: &mut Planner, sheet: &[u8], page: &[u8], answer: &mut [u8]) -> u64 {
+    let has_room = room(answer) >= CHECK_PAGE_ENTRIES;
+    let (entry, word) = match planner.check_page(sheet, numbers(page).map(Set), has_room) {
+        Err(fault) => return word(Err(fault)),
+        Ok(PageCheck::NotPassed { set }) => (set as u64, NOT_PASSED),
+        Ok(PageCheck::Passed) => (0, PASSED),
+        Ok(PageCheck::Long { job }) => (job as u64, LONG),
     };
     put(answer, &[entry]);
     word

@@ -3,6 +3,7 @@
 use super::algorithm::Planner;
 use super::door::{self, BEST, LONG, NONE, NOT_PASSED, PASSED, PLAN};
 use super::example_tests::{booked, head, job};
+use super::set::Set;
 use crate::codec::door::word;
 use crate::codec::fault::Fault;
 use crate::codec::sheet::{Head, Job};
@@ -152,6 +153,41 @@ fn a_checked_set_fills_one_entry() {
     }
 }
 
+/// The same for a page, as a table of bytes.
+fn check_page(day: &Day, page: &[u8], bytes: usize) -> (u64, Vec<u8>) {
+    let mut answer = table(&[], bytes);
+    (door::check_page(&mut Planner::new(), &day.draft().bytes(), page, &mut answer), answer)
+}
+
+#[test]
+fn a_checked_page_fills_one_entry() {
+    let bench = |bench: usize| Set::one(bench).0;
+    let day = |target| booked(head(9, target), &[(0, 9), (8, 9)], &[job(1, &[1]), job(8, &[1])]);
+    let page = |sets: &[u64]| table(sets, 0);
+    let passed = (PASSED, table(&[0], 0));
+    assert_eq!(check_page(&day(8), &[], 8), passed);
+    assert_eq!(check_page(&day(8), &page(&[bench(8), bench(1), bench(0)]), 8), passed);
+    let second = page(&[bench(8), bench(2), bench(0), bench(3)]);
+    assert_eq!(check_page(&day(8), &second, 15), (NOT_PASSED, table(&[1], 7)));
+    for page in [&second[..], &[]] {
+        assert_eq!(check_page(&day(7), page, 16), (LONG, table(&[1], 8)));
+    }
+    // A begun entry counts, and the bytes that it lacks are 0: those of benches 0 to 7.
+    let last = page(&[bench(0), bench(8)]);
+    assert_eq!(check_page(&day(8), &last[..15], 8), passed);
+    for target in [7, 8] {
+        let fault = |page: &[u8], number, place| {
+            let expected = (word(Err(Fault::new(number, place))), table(&[], 8));
+            assert_eq!(check_page(&day(target), page, 8), expected, "{page:?}");
+        };
+        fault(&last[..14], 17, 1);
+        fault(&[0], 17, 0);
+        fault(&page(&[bench(0), bench(0) | bench(9)]), 17, 1);
+        fault(&page(&[bench(0), bench(1), bench(0), 0]), 18, 2);
+        fault(&page(&[bench(0), bench(1), 0, bench(0)]), 17, 2);
+    }
+}
+
 #[test]
 fn the_answer_of_a_check_needs_room_before_the_paper_is_tried() {
     let no_room = word(Err(Fault::new(13, 0)));
@@ -164,10 +200,14 @@ fn the_answer_of_a_check_needs_room_before_the_paper_is_tried() {
     for bytes in 0..8 {
         for set in [0, 1, 1 << 63] {
             assert_eq!(check_set(&day, set, bytes), (no_room, table(&[], bytes)));
+            let page = table(&[set, set], 0);
+            assert_eq!(check_page(&day, &page, bytes), (no_room, table(&[], bytes)));
         }
+        assert_eq!(check_page(&day, &[], bytes), (no_room, table(&[], bytes)));
     }
     // Fault 12 comes before the table.
     let day = Day::new(head(3, 9), vec![job(7, &[0]), job(5, &[0, 1, 2])]);
     assert_eq!(check_plan(&day, &[], 0), (word(Err(Fault::new(12, 1))), vec![]));
     assert_eq!(check_set(&day, 0, 0), (word(Err(Fault::new(12, 1))), vec![]));
+    assert_eq!(check_page(&day, &[], 0), (word(Err(Fault::new(12, 1))), vec![]));
 }

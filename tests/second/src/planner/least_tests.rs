@@ -52,10 +52,7 @@ fn sets_are_brought_to_the_limit() {
     let (mut rng, mut codec) = (Rng::new(7), Codec::default());
     let mut met = [0; 3];
     for _ in 0..3000 {
-        let size = placements::small(&mut rng);
-        let mut day = placements::any(&mut rng, size);
-        let set = placements::any_set(&mut rng, day.head.benches);
-        placements::level(&mut rng, &mut day, set);
+        let (day, set) = placements::levelled(&mut rng);
         let bytes = day.draft().bytes();
         let sheet = codec.read(&bytes).expect("accepted");
         let limit = set.len() as u64 * day.head.target;

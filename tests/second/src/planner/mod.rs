@@ -1,7 +1,7 @@
-//! The second planner: document 01's run, written from that document, requests S-1 to S-4 and S-6
-//! of document 02, chapter 4 of source document 000 and the note on least placements. Sentences in
-//! quotation marks are theirs. Every weight is multiplied by 3q when it enters the run, so that each
-//! comparison is exact.
+//! The second planner: document 01's run, written from that document, requests S-1 to S-4, S-6 and
+//! S-7 of document 02, chapter 4 of source document 000 and the note on least placements. Sentences
+//! in quotation marks are theirs. Every weight is multiplied by 3q when it enters the run, so that
+//! each comparison is exact.
 //!
 //! - `set`: sets of benches and of rocks.
 //! - `rocks`: heavy jobs as edges between benches; crowded components; peeling.
@@ -12,7 +12,7 @@
 //! - `algorithm`: Algorithm 2, from bytes to the answer; the comparison of two plans.
 //! - `best`: the search for the best target.
 //! - `least`: the least weight that a placement leaves in a set of benches.
-//! - `checker`: the check of a list of places and of a set of benches.
+//! - `checker`: the check of a list of places, of a set of benches and of a page of sets.
 //! - `door`: the same through tables and result words, as the static library has them.
 //!
 //! Words of chapter 4: a *rock* is a heavy job with two benches, a *pebble* a light job with two or

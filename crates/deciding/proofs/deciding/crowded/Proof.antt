@@ -1,5 +1,5 @@
 -- The component, as a set (DayRun).
-use Rattle.deciding.proofs.DayRun.{crowded-set}
+use Rattle.decisions.proofs.DayRun.{crowded-set}
 use borrow.Author.Needs.{needs}
 use Rattle.deciding.proofs.deciding.crowded.Statement.{statement}
 use Rattle.deciding.proofs.deciding.crowded.Tie as tie

@@ -1,6 +1,6 @@
 -- A long job, or the rest (DayRun).
 use native.Mathlib.Omega.{arith}
-use Rattle.deciding.proofs.DayRun.{long-decided, not-long}
+use Rattle.decisions.proofs.DayRun.{long-decided, not-long}
 use borrow.Author.Needs.{needs}
 use Rattle.deciding.proofs.deciding.decide.Statement.{statement}
 use Rattle.deciding.proofs.deciding.decide.Tie as tie

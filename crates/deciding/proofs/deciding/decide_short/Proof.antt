@@ -5,9 +5,9 @@ use mathlib.Core.Bool.{Bool, false}
 use native.Mathlib.Omega.{arith}
 use lib.ListN.{length, replicate, length-replicate, getD-replicate}
 use Rattle.algorithm.proofs.SheetDay.{none-long, sound-day}
-use Rattle.deciding.specs.Decision.{Lent}
-use Rattle.deciding.proofs.DayRun.{crowded-decided, not-crowded, marks-are, jobs-gathered, rocks-gathered}
-use Rattle.deciding.proofs.DayRun.{limit-benches, limit-jobs, limit-bound, limit-small, limit-limit}
+use Rattle.decisions.specs.Decision.{Lent}
+use Rattle.decisions.proofs.DayRun.{crowded-decided, not-crowded, marks-are, jobs-gathered, rocks-gathered}
+use Rattle.decisions.proofs.DayRun.{limit-benches, limit-jobs, limit-bound, limit-small, limit-limit}
 use Rattle.rocks.proofs.ComponentRun.{cycles-are}
 use borrow.Author.Needs.{needs}
 use Rattle.deciding.proofs.deciding.decide_short.Statement.{statement}

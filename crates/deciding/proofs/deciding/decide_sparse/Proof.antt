@@ -3,7 +3,7 @@ use Prim.Native.Nat.{ℕ}
 use mathlib.Core.Bool.{Bool, false}
 use native.Mathlib.Omega.{arith}
 use lib.ListN.{replicate, length-replicate}
-use Rattle.deciding.proofs.DayRun.{pebble-marks, weighed, burdened}
+use Rattle.decisions.proofs.DayRun.{pebble-marks, weighed, burdened}
 use borrow.Author.Needs.{needs}
 use Rattle.deciding.proofs.deciding.decide_sparse.Statement.{statement}
 use Rattle.deciding.proofs.deciding.decide_sparse.Tie as tie

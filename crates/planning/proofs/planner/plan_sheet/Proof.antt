@@ -4,7 +4,7 @@ use native.Mathlib.Omega.{arith}
 use lib.ListN.{length}
 use Rattle.day.specs.Day.{dayOf}
 use Rattle.algorithm.specs.Run.{run}
-use Rattle.deciding.specs.Decision.{placesIn}
+use Rattle.decisions.specs.Decision.{placesIn}
 use Rattle.planning.specs.Places.{Places}
 use Rattle.planning.proofs.SheetRun.{day-lent, places-short, loads-short, tables-fit, short-answer, long-enough}
 use Rattle.planning.proofs.SheetRun.{decided-long, decided-none, decided-plan}

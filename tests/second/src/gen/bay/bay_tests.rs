@@ -2,8 +2,11 @@
 
 use super::days::{self, Size};
 use super::heavy::{pairs, Shape, SHAPES};
-use super::{tied, tight, turning};
+use super::{families, placements, tied, tight, turning};
+use crate::codec::fault::{SET, SHARED};
 use crate::planner::algorithm::{Answer, Planner, Rooms};
+use crate::planner::checker::PageCheck;
+use crate::planner::set::Set;
 use crate::rng::Rng;
 
 #[test]
@@ -101,4 +104,47 @@ fn the_turning_target_has_a_plan() {
         let answer = planner.plan(&day.draft().bytes(), Rooms::FULL);
         assert!(matches!(answer, Ok(Answer::Plan { .. })), "{answer:?}");
     }
+}
+
+#[test]
+fn families_are_disjoint_sets_of_the_head() {
+    let mut rng = Rng::new(8);
+    let mut met = [0; 65];
+    for turn in 0..6000 {
+        let benches = 1 + turn % 64;
+        let sets = families::disjoint(&mut rng, benches);
+        let union = families::union(&sets);
+        assert!(sets.iter().all(|set| !set.is_empty()));
+        assert_eq!(sets.iter().map(|set| set.len()).sum::<usize>(), union.len());
+        assert!((union - Set::first(benches as usize)).is_empty());
+        met[sets.len()] += 1;
+    }
+    assert!([1, 2, 3, 10, 40].into_iter().all(|count| met[count] >= 10), "{met:?}");
+}
+
+/// Pages of levelled families pass, or do not, each often enough; spoilt ones meet both faults.
+#[test]
+fn pages_of_families_meet_each_answer_and_each_fault() {
+    let (mut rng, mut planner) = (Rng::new(9), Planner::new());
+    let (mut passed, mut named, mut faults) = (0, [0; 6], [0; 2]);
+    for _ in 0..3000 {
+        let size = placements::small(&mut rng);
+        let mut day = placements::any(&mut rng, size);
+        let mut sets = families::disjoint(&mut rng, day.head.benches);
+        families::level(&mut rng, &mut day, &sets);
+        let sheet = day.draft().bytes();
+        match planner.check_page(&sheet, sets.iter().copied(), true).expect("no fault") {
+            PageCheck::Passed => passed += usize::from(sets.len() > 1),
+            PageCheck::NotPassed { set } => named[set] += 1,
+            PageCheck::Long { .. } => unreachable!("no job is long"),
+        }
+        families::spoil(&mut rng, &mut sets, day.head.benches);
+        match planner.check_page(&sheet, sets.iter().copied(), true).map_err(|fault| fault.number) {
+            Err(SET) => faults[0] += 1,
+            Err(SHARED) => faults[1] += 1,
+            _ => {}
+        }
+    }
+    assert!(passed >= 300 && named[..2].iter().all(|&times| times >= 100), "{passed} {named:?}");
+    assert!(faults.iter().all(|&times| times >= 500), "{faults:?}");
 }

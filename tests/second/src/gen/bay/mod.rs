@@ -5,6 +5,7 @@
 //! - `light`: sets of benches for light jobs.
 //! - `light_only`: full days of light jobs with a choice and nothing else.
 //! - `placements`: days with placements of all sorts, and sets that weigh about k × T.
+//! - `families`: disjoint sets that weigh about k × T each, and ones that are no page.
 //! - `days`: whole days, tiny to full, and ones made from an assignment within T.
 //! - `tight`: days with benches at the limits.
 //! - `tied`: days on which several benches have the largest load.
@@ -12,6 +13,7 @@
 //! - `slow`: full days with many moves.
 
 pub mod days;
+pub mod families;
 pub mod heavy;
 pub mod light;
 pub mod light_only;

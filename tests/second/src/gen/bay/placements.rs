@@ -100,10 +100,25 @@ pub fn any_set(rng: &mut Rng, benches: u64) -> Set {
     some | Set::one(rng.below(benches as usize))
 }
 
-/// Brings the least weight of a set to k × T, one more or one less, by light jobs inside and by
-/// bookings, where it is not above that already.
+/// Brings the least weight of a set to k × T, one more or one less, where it is not above that
+/// already.
 pub fn level(rng: &mut Rng, day: &mut Day, set: Set) {
     let wanted = (set.len() as u64 * day.head.target + rng.range(0, 2)).saturating_sub(1);
+    bring_to(rng, day, set, wanted);
+}
+
+/// A small day, with a set that is brought so.
+pub fn levelled(rng: &mut Rng) -> (Day, Set) {
+    let size = small(rng);
+    let mut day = any(rng, size);
+    let set = any_set(rng, day.head.benches);
+    level(rng, &mut day, set);
+    (day, set)
+}
+
+/// Brings the least weight of a set to a number, by light jobs inside and by bookings, where it is
+/// not above that already.
+pub fn bring_to(rng: &mut Rng, day: &mut Day, set: Set, wanted: u64) {
     let mut codec = Codec::default();
     let bytes = day.draft().bytes();
     let weight = codec.read(&bytes).ok().and_then(|sheet| least_weight(sheet, set));

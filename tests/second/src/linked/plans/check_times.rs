@@ -1,14 +1,17 @@
-//! Times of checking a set and a list of full sheets: the second planner's plain procedure, and,
-//! with the feature `library`, the static library beside it and its time of planning the same
-//! sheet. All start from the same bytes in the same run, in turns.
+//! Times of checking a set, a list and a page of full sheets: the second planner's plain procedure,
+//! and, with the feature `library`, the static library beside it and its time of planning the same
+//! sheet. All start from the same bytes in the same run, in turns. The program fails where a page
+//! takes longer than its sets one by one.
 
 mod check_library;
 // Only planning is timed.
 #[allow(dead_code)]
 mod library;
+mod page_times;
 mod timed_sheets;
 mod timing;
 
+use second::codec::door::Codec;
 use second::codec::sheet::{Head, Job};
 use second::gen::day::{bench_bit, Day};
 use second::lent::empty::Empty;
@@ -18,6 +21,7 @@ use second::planner::algorithm::{Answer, Planner, Rooms};
 use second::planner::door::{self, ANSWER_ENTRIES, CHECK_PLAN_ENTRIES, CHECK_SET_ENTRIES, LONG};
 use second::planner::set::Set;
 use std::hint::black_box;
+use std::process::ExitCode;
 use std::time::Duration;
 use timing::{least, microseconds, time, WARM_UP};
 
@@ -187,17 +191,13 @@ fn heavy_days() -> Vec<(&'static str, Day)> {
     days
 }
 
-fn sheets(planner: &mut Planner) -> Vec<Sheet> {
-    let mut codec = second::codec::door::Codec::default();
-    let mut sheets = Vec::new();
-    for (name, bytes) in timed_sheets::all() {
-        let day = Day::of(codec.read(&bytes).expect("the sheet is accepted"));
-        sheets.push(Sheet::new(planner, name, &day));
-    }
-    for (name, day) in light_days::all().into_iter().chain(heavy_days()) {
-        sheets.push(Sheet::new(planner, name, &day));
-    }
-    sheets
+fn days() -> Vec<(&'static str, Day)> {
+    let mut codec = Codec::default();
+    let day = |(name, bytes): (&'static str, Vec<u8>)| {
+        (name, Day::of(codec.read(&bytes).expect("the sheet is accepted")))
+    };
+    let timed = timed_sheets::all().into_iter().map(day);
+    timed.chain(light_days::all()).chain(heavy_days()).collect()
 }
 
 fn print_heading() {
@@ -212,12 +212,14 @@ fn print_heading() {
     }
 }
 
-fn main() {
+fn print_sets_and_lists(days: &[(&str, Day)]) {
     print_heading();
     let mut pair =
         Pair { planner: Planner::new(), tables: Tables::new(), answer: [0; 16], expected: [0; 16] };
     let mut worst = Worst::default();
-    for sheet in sheets(&mut Planner::new()) {
+    let mut planner = Planner::new();
+    for (name, day) in days {
+        let sheet = Sheet::new(&mut planner, name, day);
         pair.compare(&sheet);
         let [plan, set, list, second_plan, second_set, second_list] = pair.times(&sheet);
         print!("{:<24} {}", sheet.name, sheet.answer);
@@ -233,4 +235,15 @@ fn main() {
         println!();
     }
     worst.print();
+}
+
+fn main() -> ExitCode {
+    let days = days();
+    print_sets_and_lists(&days);
+    println!();
+    if !page_times::print(&days) {
+        println!("check_times: FAILED, a page takes longer than its sets one by one");
+        return ExitCode::FAILURE;
+    }
+    ExitCode::SUCCESS
 }

@@ -1,8 +1,8 @@
-//! Hands lists and sets of random sheets to the second planner's checks, has each answer judged,
-//! and, with the feature `library`, sets the static library against it: answers and tables, byte by
-//! byte. Our own plans and blocking sets are among them, and pass.
+//! Hands lists, sets and pages of sets of random sheets to the second planner's checks, has each
+//! answer judged, and, with the feature `library`, sets the static library against it: answers and
+//! tables, byte by byte. Our own plans and blocking sets are among them, and pass.
 //!
-//! Arguments: the seed (default 1) and the least number of lists and sets (default 500,000).
+//! Arguments: the seed (default 1) and the least number of lists, sets and pages (default 700,000).
 
 mod check_library;
 mod checking;
@@ -16,8 +16,8 @@ use checking::Checks;
 use second::arguments;
 use std::{process::ExitCode, time::Instant};
 
-const PAPERS: u64 = 500_000;
-/// Rounds that a run has at least, so that it meets each kind often enough; 500,000 lists and sets.
+const PAPERS: u64 = 700_000;
+/// Rounds that a run has at least, so that it meets each kind often enough; 700,000 papers.
 const ROUNDS: u64 = 60;
 
 fn main() -> ExitCode {
@@ -36,6 +36,7 @@ fn main() -> ExitCode {
         rounds += 1;
         checking::sets::round(&mut checks);
         checking::lists::round(&mut checks);
+        checking::pages::round(&mut checks);
         checking::own::round(&mut checks);
         checking::refused::round(&mut checks);
     }
@@ -51,9 +52,10 @@ fn main() -> ExitCode {
         "the judge agrees with the second planner (library not linked)"
     };
     println!(
-        "checks: {subject} on all {} lists and {} sets (seed {seed}, {:.1} s)",
+        "checks: {subject} on all {} lists, {} sets and {} pages (seed {seed}, {:.1} s)",
         checks.tally.lists,
         checks.tally.sets,
+        checks.tally.pages,
         start.elapsed().as_secs_f64()
     );
     ExitCode::SUCCESS

@@ -1,6 +1,7 @@
-//! The highest numbers that a sheet has: minutes, bookings, targets, shares, with sets and lists.
+//! The highest numbers that a sheet has: minutes, bookings, targets, shares, with sets, pages and
+//! lists.
 
-use super::{table, Checks};
+use super::{page_table, table, Checks};
 use second::codec::sheet::{Head, Job};
 use second::gen::day::{bench_bit, Day, MOST_MINUTES, MOST_TARGET};
 use second::planner::set::Set;
@@ -55,6 +56,11 @@ fn papers(checks: &mut Checks, day: &Day) {
         (0..64).filter(|bench| bench % 2 == 1).fold(Set::EMPTY, |all, bench| all | Set::one(bench));
     for set in [Set::one(0), Set::one(63), odd, Set::first(32), Set::first(63), Set::first(64)] {
         checks.set(&sheet, set);
+    }
+    let even = Set::first(64) - odd;
+    let alone: Vec<Set> = (0..64).map(Set::one).collect();
+    for sets in [&alone[..], &[odd, even], &[even, odd], &[Set::first(32), Set::one(63)]] {
+        checks.page(&sheet, &page_table(sets));
     }
     let lowest = |job: &Job| u64::from(job.allowed.leading_zeros());
     let highest = |job: &Job| 63 - u64::from(job.allowed.trailing_zeros());

@@ -1,11 +1,11 @@
-//! Fixed lists and sets: those worked by hand, our answers to the corpus, to the samples, to the
-//! slow full sheets and to the light days, answer tables of each length, and little stack.
+//! Fixed lists, sets and pages: those worked by hand, our answers to the corpus, to the samples, to
+//! the slow full sheets and to the light days, answer tables of each length, and little stack.
 
 use super::own::answer_of;
-use super::{table, words, Checks, Said};
+use super::{page_table, table, words, Checks, Said};
 use crate::check_library;
 use second::codec::door::{fault_number, Codec};
-use second::codec::fault::{LIST, NO_ROOM, SET};
+use second::codec::fault::{LIST, NO_ROOM, SET, SHARED};
 use second::codec::sheet::{Head, Job};
 use second::corpus;
 use second::gen::bay::heavy::Shape;
@@ -29,6 +29,7 @@ pub fn all(checks: &mut Checks) {
     own(checks);
     answer_tables(checks);
     wide_lists(checks);
+    wide_pages(checks);
     little_stack(checks);
 }
 
@@ -52,9 +53,16 @@ fn print_set(said: Said) -> String {
     }
 }
 
+fn print_page(said: Said) -> String {
+    match (fault_number(said.word), said.word, said.entries[0]) {
+        (0, NOT_PASSED, set) => format!("not passed {set}"),
+        _ => print_set(said),
+    }
+}
+
 fn worked(checks: &mut Checks) {
-    checks.class("fixed: lists and sets worked by hand");
-    for papers::Case { name, day, paper, answer, .. } in papers::cases(papers::TEXT) {
+    checks.class("fixed: lists, sets and pages worked by hand");
+    for papers::Case { name, day, paper, answer, .. } in papers::all() {
         let sheet = day.draft().bytes();
         match paper {
             Paper::List(places) => {
@@ -65,6 +73,11 @@ fn worked(checks: &mut Checks) {
             Paper::Set(set) => {
                 let said = checks.set(&sheet, set);
                 checks.expect_set(&name, print_set(said) == answer, &sheet, set);
+            }
+            Paper::Page(sets) => {
+                let page = page_table(&sets);
+                let said = checks.page(&sheet, &page);
+                checks.expect_page(&name, print_page(said) == answer, &sheet, &page);
             }
         }
     }
@@ -118,6 +131,11 @@ fn answer_tables(checks: &mut Checks) {
                 let said = checks.set_into(&sheet, set, bytes);
                 let holds = no_room(said) == (bytes < 8);
                 checks.expect_set("fault 13 below 8 bytes", holds, &sheet, set);
+                for page in [&page_table(&[set, set])[..], &page_table(&[set])[..3], &[]] {
+                    let said = checks.page_into(&sheet, page, bytes);
+                    let holds = no_room(said) == (bytes < 8);
+                    checks.expect_page("fault 13 below 8 bytes", holds, &sheet, page);
+                }
             }
         }
     }
@@ -157,8 +175,35 @@ fn wide_lists(checks: &mut Checks) {
     }
 }
 
-/// A check of a list and of a set of full sheets, each on a thread that has no more stack: a call
-/// that needs more ends the program.
+/// Pages of each length about 64 sets, and far above: each bench by itself, then each sort of set.
+/// All benches are blocking, or all but the last; a job is long or not.
+fn wide_pages(checks: &mut Checks) {
+    checks.class("fixed: pages of 63 sets to 100,000");
+    for (last, minutes) in [(8, 1), (7, 1), (8, 8)] {
+        let mut day = Day::new(head(64, 7), vec![Job { minutes, allowed: bench_bit(0) }]);
+        day.booked = [8; 64];
+        day.booked[63] = last;
+        let sheet = day.draft().bytes();
+        for (more, number) in [(Set::one(5), SHARED), (Set::one(63), SHARED), (Set::EMPTY, SET)] {
+            for count in [63, 64, 65, 66, 1000, 100_000] {
+                let mut sets: Vec<Set> = (0..count.min(64)).map(Set::one).collect();
+                sets.resize(count, more);
+                let page = page_table(&sets);
+                let said = print_page(checks.page(&sheet, &page));
+                let expected = match count {
+                    65.. => format!("fault {number} 64"),
+                    _ if minutes == 8 => "long 0".to_string(),
+                    64 if last == 7 => "not passed 63".to_string(),
+                    _ => "passed".to_string(),
+                };
+                checks.expect_page("a wide page", said == expected, &sheet, &page);
+            }
+        }
+    }
+}
+
+/// A check of a list, of a set and of a page of full sheets, each on a thread that has no more
+/// stack: a call that needs more ends the program.
 fn little_stack(checks: &mut Checks) {
     checks.class("fixed: full sheets, little stack");
     let mut rng = Rng::new(1);
@@ -167,13 +212,19 @@ fn little_stack(checks: &mut Checks) {
         let sheet = placements::with(&mut rng, size, Some(shape), Choice::Mixed).draft().bytes();
         let list = vec![0; 8 * 512];
         let set = Set::first(40);
-        let expected = [checks.list(&sheet, &list).word, checks.set(&sheet, set).word];
+        let page = page_table(&[set, Set::one(63)]);
+        let expected = [
+            checks.list(&sheet, &list).word,
+            checks.set(&sheet, set).word,
+            checks.page(&sheet, &page).word,
+        ];
         let lent = (sheet.clone(), list.clone());
         let call = move || {
             let mut answer = [0; 16];
             let list = check_library::check_plan(&lent.0, &lent.1, &mut answer, Empty::Pointer);
             let set = check_library::check_set(&lent.0, set.0, &mut answer, Empty::Pointer);
-            [list, set]
+            let page = check_library::check_page(&lent.0, &page, &mut answer, Empty::Pointer);
+            [list, set, page]
         };
         let words = thread::Builder::new()
             .stack_size(STACK)

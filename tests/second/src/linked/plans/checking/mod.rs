@@ -1,43 +1,40 @@
-//! One list or set through the second planner, through the library where it is linked, and before
-//! the judge. Answer tables are compared byte by byte. The first difference ends the run.
+//! One list, set or page of sets through the second planner, through the library where it is linked,
+//! and before the judge. Answer tables are compared byte by byte. The first difference ends the run.
 //!
-//! - `fixed`: hand-worked lists and sets, samples, tables of each length, little stack.
+//! - `judging`: the judge's part.
+//! - `fixed`: hand-worked papers, samples, tables of each length, little stack.
 //! - `extremes`: the highest numbers that a sheet has.
 //! - `sets`: all sets of small sheets, sets of full sheets.
 //! - `lists`: lists of all sorts.
+//! - `pages`: all pages of tiny sheets, pages of full sheets, pages with faults, wide ones.
 //! - `own`: our own plans and blocking sets, and ones that differ a little.
 //! - `refused`: damaged sheets, short tables, and what is no list and no set of the sheet.
 //! - `kinds`, `tally`: what was met, and how often.
 
 pub mod extremes;
 pub mod fixed;
+mod judging;
 mod kinds;
 pub mod lists;
 pub mod own;
+pub mod pages;
 pub mod refused;
 pub mod sets;
 mod tally;
 
 use crate::check_library;
 use second::codec::door::{entries, entry, fault_number, numbers, Codec, ENTRY_BYTES};
-use second::codec::fault::MINUTES;
+use second::codec::fault::{MINUTES, SET, SHARED};
 use second::corpus::{case_of, print_case};
 use second::hex;
-use second::judge;
-use second::judge::checks::{judge_list, judge_set};
 use second::lent::empty::Empty;
 use second::lent::guarded::Guarded;
 use second::planner::algorithm::Planner;
-use second::planner::checker::{ListCheck, SetCheck};
-use second::planner::door::{self, CHECK_PLAN_ENTRIES, CHECK_SET_ENTRIES, LONG, PASSED};
-use second::planner::least::{least_placement, least_weight};
+use second::planner::door::{self, CHECK_PAGE_ENTRIES, CHECK_PLAN_ENTRIES, CHECK_SET_ENTRIES};
 use second::planner::set::Set;
 use second::rng::Rng;
 use std::process;
 use tally::Tally;
-
-/// The most steps of a search for an assignment within T.
-const STEPS: u64 = 2_000;
 
 pub struct Checks {
     pub rng: Rng,
@@ -53,6 +50,17 @@ pub struct Checks {
 enum Paper<'a> {
     List(&'a [u8]),
     Set(Set),
+    Page(&'a [u8]),
+}
+
+impl<'a> Paper<'a> {
+    /// The table that is lent.
+    fn table(self) -> &'a [u8] {
+        match self {
+            Paper::List(table) | Paper::Page(table) => table,
+            Paper::Set(_) => &[],
+        }
+    }
 }
 
 /// A result word, and the entries of the answer table, 0 where it has fewer.
@@ -74,7 +82,7 @@ impl Checks {
         }
     }
 
-    /// The class that the next lists and sets belong to.
+    /// The class that the next papers belong to.
     pub fn class(&mut self, class: &'static str) {
         self.class = class;
     }
@@ -97,6 +105,12 @@ impl Checks {
         self.set_into(sheet, set, room)
     }
 
+    /// Checks a page of sets, as a table of bytes.
+    pub fn page(&mut self, sheet: &[u8], page: &[u8]) -> Said {
+        let room = self.room(CHECK_PAGE_ENTRIES);
+        self.page_into(sheet, page, room)
+    }
+
     /// Checks a list, with an answer table of so many bytes.
     pub fn list_into(&mut self, sheet: &[u8], list: &[u8], room: usize) -> Said {
         let said = self.check(sheet, Paper::List(list), room);
@@ -117,16 +131,24 @@ impl Checks {
         said
     }
 
+    /// Checks a page, with an answer table of so many bytes.
+    pub fn page_into(&mut self, sheet: &[u8], page: &[u8], room: usize) -> Said {
+        let said = self.check(sheet, Paper::Page(page), room);
+        self.tally.count_page(self.class, said.word);
+        if matches!(fault_number(said.word), 0 | SET | SHARED) {
+            self.judge_page(sheet, page, said);
+        }
+        said
+    }
+
     fn check(&mut self, sheet: &[u8], paper: Paper, room: usize) -> Said {
         let mut expected = Guarded::random(&mut self.rng, room);
         let before = expected.clone();
+        let (planner, answer) = (&mut self.planner, expected.inside_mut());
         let word = match paper {
-            Paper::List(list) => {
-                door::check_plan(&mut self.planner, sheet, list, expected.inside_mut())
-            }
-            Paper::Set(set) => {
-                door::check_set(&mut self.planner, sheet, set.0, expected.inside_mut())
-            }
+            Paper::List(list) => door::check_plan(planner, sheet, list, answer),
+            Paper::Set(set) => door::check_set(planner, sheet, set.0, answer),
+            Paper::Page(page) => door::check_page(planner, sheet, page, answer),
         };
         self.set_library_against(sheet, paper, word, before, &expected);
         self.expect("no sheet meets fault 10", fault_number(word) != MINUTES, sheet, paper);
@@ -143,85 +165,27 @@ impl Checks {
         mut found: Guarded,
         expected: &Guarded,
     ) {
-        let list = if let Paper::List(list) = paper { list } else { &[] };
-        let inputs = [sheet, list].map(|input| Guarded::holding(&mut self.rng, input));
+        let inputs = [sheet, paper.table()].map(|input| Guarded::holding(&mut self.rng, input));
         let lent = inputs.clone();
         let empty = self.rng.pick(&[Empty::Null, Empty::Pointer]);
-        let [lent_sheet, lent_list] = lent.each_ref().map(Guarded::inside);
+        let [lent_sheet, table] = lent.each_ref().map(Guarded::inside);
         let answer = found.inside_mut();
         let library = match paper {
-            Paper::List(_) => check_library::check_plan(lent_sheet, lent_list, answer, empty),
+            Paper::List(_) => check_library::check_plan(lent_sheet, table, answer, empty),
             Paper::Set(set) => check_library::check_set(lent_sheet, set.0, answer, empty),
+            Paper::Page(_) => check_library::check_page(lent_sheet, table, answer, empty),
         };
         let Some(library) = library else { return };
         if library != word {
             let (library, second) = (words(library), words(word));
             self.fail(&format!("library: {library}\nsecond planner: {second}"), sheet, paper);
         }
-        let names = ["the answer table", "the sheet that was lent", "the list that was lent"];
+        let names = ["the answer table", "the sheet that was lent", "the table that was lent"];
         let pairs = [(&found, expected), (&lent[0], &inputs[0]), (&lent[1], &inputs[1])];
         for (name, (found, expected)) in names.into_iter().zip(pairs) {
             if let Some(at) = found.first_difference(expected) {
                 self.fail(&format!("{name} differs first at byte {at}"), sheet, paper);
             }
-        }
-    }
-
-    fn judge_list(&mut self, sheet: &[u8], list: &[u8], said: Said) {
-        let read = self.codec.read(sheet).expect("an answer is for an accepted sheet");
-        let places: Vec<u64> = numbers(list).collect();
-        let [largest, fullest] = said.entries;
-        let check = match said.word {
-            PASSED => ListCheck::Passed { largest, fullest: fullest as usize },
-            _ => ListCheck::NotPassed,
-        };
-        let judged = judge_list(read, &places, check);
-        let kinds = kinds::list(read, list, &places, check);
-        self.meet_all(sheet, Paper::List(list), judged, kinds);
-    }
-
-    /// The least weight is compared as a number, and a passed set leaves the rival nothing.
-    fn judge_set(&mut self, sheet: &[u8], set: Set, said: Said) {
-        let read = self.codec.read(sheet).expect("an answer is for an accepted sheet");
-        let check = match said.word {
-            PASSED => SetCheck::Passed,
-            LONG => SetCheck::Long { job: said.entries[0] as usize },
-            _ => SetCheck::NotPassed,
-        };
-        let mut judged = judge_set(read, set, check);
-        let is_small = read.head().benches <= 6 && read.jobs().len() <= 16;
-        if check == SetCheck::Passed && is_small && judge::has_rival(read, STEPS) == Some(true) {
-            judged = Err("an assignment within T, and a passed set");
-        }
-        // Where a job is long, a heavy one may have three benches, and there are no placements.
-        if !matches!(check, SetCheck::Long { .. }) {
-            if least_placement(read, set) != judge::lightest_placement(read, set) {
-                judged = Err("another least weight of the heavy jobs");
-            }
-            if least_weight(read, set) != judge::weight_of_lightest(read, set) {
-                judged = Err("another least weight");
-            }
-        }
-        let kinds = kinds::set(read, set, check);
-        self.meet_all(sheet, Paper::Set(set), judged, kinds);
-    }
-
-    fn meet_all(
-        &mut self,
-        sheet: &[u8],
-        paper: Paper,
-        judged: Result<(), &'static str>,
-        kinds: Vec<&'static str>,
-    ) {
-        if let Err(what) = judged {
-            self.fail(
-                &format!("the judge refuses the second planner's answer: {what}"),
-                sheet,
-                paper,
-            );
-        }
-        for kind in kinds {
-            self.tally.meet(kind);
         }
     }
 
@@ -231,6 +195,10 @@ impl Checks {
 
     pub fn expect_set(&self, what: &str, holds: bool, sheet: &[u8], set: Set) {
         self.expect(what, holds, sheet, Paper::Set(set));
+    }
+
+    pub fn expect_page(&self, what: &str, holds: bool, sheet: &[u8], page: &[u8]) {
+        self.expect(what, holds, sheet, Paper::Page(page));
     }
 
     fn expect(&self, what: &str, holds: bool, sheet: &[u8], paper: Paper) {
@@ -247,7 +215,11 @@ impl Checks {
         }
         match paper {
             Paper::List(list) => println!("list {}", hex::print(list)),
-            Paper::Set(set) => println!("set {:?}", set.collect::<Vec<usize>>()),
+            Paper::Set(set) => println!("set {}", print_set(set)),
+            Paper::Page(page) => {
+                let sets: Vec<String> = numbers(page).map(|set| print_set(Set(set))).collect();
+                println!("page {} ({} bytes)", sets.join("; "), page.len());
+            }
         }
         println!("sheet {}", hex::print(sheet));
         process::exit(1)
@@ -262,7 +234,16 @@ fn words(word: u64) -> String {
     }
 }
 
+fn print_set(set: Set) -> String {
+    format!("{:?}", set.collect::<Vec<usize>>())
+}
+
 /// A table of these places.
 pub fn table(places: &[u64]) -> Vec<u8> {
     places.iter().flat_map(|place| place.to_le_bytes()).collect()
+}
+
+/// A table of these sets.
+pub fn page_table(sets: &[Set]) -> Vec<u8> {
+    table(&sets.iter().map(|set| set.0).collect::<Vec<u64>>())
 }

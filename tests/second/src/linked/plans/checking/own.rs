@@ -3,6 +3,7 @@
 
 use super::kinds::is_full;
 use super::lists::assignment;
+use super::pages::of_one_set;
 use super::{table, Checks};
 use crate::{best_library, library};
 use second::codec::door::entry;
@@ -146,10 +147,11 @@ fn near_plan(checks: &mut Checks, day: &Day, sheet: &[u8], places: &[u64]) {
 fn own_none(checks: &mut Checks, day: &Day, sheet: &[u8], answer: [u64; ANSWER_ENTRIES]) {
     let [benches, moves, _] = answer;
     let (set, all) = (Set(benches), Set::first(day.head.benches as usize));
-    let said = checks.set(sheet, set);
+    let said = of_one_set(checks, sheet, set);
     let holds = said.word == PASSED && said.entries[0] == 0;
-    checks.expect_set("our set passes", holds, sheet, set);
+    checks.expect_set("our set passes, also as a page", holds, sheet, set);
     checks.tally.meet("own none");
+    checks.tally.meet("own none as a page");
     if moves > 0 {
         checks.tally.meet("own none after moves");
     }

@@ -1,14 +1,14 @@
 //! Checks that end in a fault, or nearly: damaged sheets, answer tables that are too short, and what
-//! is no list and no set of the sheet; one round.
+//! is no list, no set and no page of the sheet; one round.
 
 use super::lists::assignment;
-use super::{table, Checks};
+use super::{page_table, table, Checks};
 use second::codec::door::{fault_number, ENTRY_BYTES};
 use second::codec::fault::SET;
-use second::gen::bay::placements;
+use second::gen::bay::{families, placements};
 use second::gen::damage::{damage, DAMAGES};
 use second::gen::day::Day;
-use second::planner::door::{CHECK_PLAN_ENTRIES, CHECK_SET_ENTRIES};
+use second::planner::door::{CHECK_PAGE_ENTRIES, CHECK_PLAN_ENTRIES, CHECK_SET_ENTRIES};
 use second::planner::set::Set;
 
 pub fn round(checks: &mut Checks) {
@@ -22,15 +22,32 @@ fn small_day(checks: &mut Checks) -> Day {
     placements::any(&mut checks.rng, size)
 }
 
-/// A list and a set of the day, now and then wrong ones.
-fn papers(checks: &mut Checks, day: &Day) -> (Vec<u8>, Set) {
-    let mut list = table(&assignment(checks, day));
-    let mut set = placements::any_set(&mut checks.rng, day.head.benches);
-    if checks.rng.one_in(3) {
-        list.push(0);
-        set = checks.rng.pick(&[Set::EMPTY, Set(1), Set(u64::MAX)]);
+/// What is checked of a day.
+struct Papers {
+    list: Vec<u8>,
+    set: Set,
+    page: Vec<u8>,
+}
+
+impl Papers {
+    /// Of this day, now and then wrong ones.
+    fn of(checks: &mut Checks, day: &Day) -> Papers {
+        let mut list = table(&assignment(checks, day));
+        let mut set = placements::any_set(&mut checks.rng, day.head.benches);
+        let mut sets = families::disjoint(&mut checks.rng, day.head.benches);
+        if checks.rng.one_in(3) {
+            list.push(0);
+            set = checks.rng.pick(&[Set::EMPTY, Set(1), Set(u64::MAX)]);
+            families::spoil(&mut checks.rng, &mut sets, day.head.benches);
+        }
+        Papers { list, set, page: page_table(&sets) }
     }
-    (list, set)
+
+    fn check(&self, checks: &mut Checks, sheet: &[u8]) {
+        checks.list(sheet, &self.list);
+        checks.set(sheet, self.set);
+        checks.page(sheet, &self.page);
+    }
 }
 
 fn damaged(checks: &mut Checks) {
@@ -38,7 +55,7 @@ fn damaged(checks: &mut Checks) {
     for number in DAMAGES {
         for _ in 0..12 {
             let day = small_day(checks);
-            let (list, set) = papers(checks, &day);
+            let papers = Papers::of(checks, &day);
             let mut draft = day.draft();
             draft.sprinkle(&mut checks.rng, 1);
             damage(&mut checks.rng, &mut draft, number);
@@ -46,28 +63,26 @@ fn damaged(checks: &mut Checks) {
                 let number = checks.rng.pick(&DAMAGES);
                 damage(&mut checks.rng, &mut draft, number);
             }
-            checks.list(&draft.bytes(), &list);
-            checks.set(&draft.bytes(), set);
+            papers.check(checks, &draft.bytes());
         }
     }
     checks.class("about 65,536 bytes");
     for length in [65_535, 65_536, 65_537, 65_538, 65_540, 66_000, 70_000, 100_000, 131_072] {
         let day = small_day(checks);
-        let (list, set) = papers(checks, &day);
+        let papers = Papers::of(checks, &day);
         let mut draft = day.draft();
         draft.pad_to(&mut checks.rng, length);
-        checks.list(&draft.bytes(), &list);
-        checks.set(&draft.bytes(), set);
+        papers.check(checks, &draft.bytes());
     }
 }
 
 /// The answer table is one byte, some bytes or all bytes too short; also for a damaged sheet, where
-/// a job is long, and where list and set are wrong.
+/// a job is long, and where list, set and page are wrong.
 fn short_tables(checks: &mut Checks) {
     checks.class("short tables");
     for turn in 0..40 {
         let mut day = small_day(checks);
-        let (list, set) = papers(checks, &day);
+        let Papers { list, set, page } = Papers::of(checks, &day);
         if turn % 4 == 0 {
             day.head.target /= 2;
         }
@@ -80,6 +95,7 @@ fn short_tables(checks: &mut Checks) {
         let room = |entries: usize| (ENTRY_BYTES * entries).saturating_sub(less);
         checks.list_into(&draft.bytes(), &list, room(CHECK_PLAN_ENTRIES));
         checks.set_into(&draft.bytes(), set, room(CHECK_SET_ENTRIES));
+        checks.page_into(&draft.bytes(), &page, room(CHECK_PAGE_ENTRIES));
     }
 }
 

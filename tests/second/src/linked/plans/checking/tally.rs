@@ -1,8 +1,8 @@
-//! How many lists and sets of each class were met, and of which kind.
+//! How many lists, sets and pages of each class were met, and of which kind.
 
-use super::kinds::{FAULTS, WANTED};
+use super::kinds::{FAULTS, PAGE_WANTED, WANTED};
 use second::codec::door::fault_number;
-use second::codec::fault::{LIST, SET};
+use second::codec::fault::{LIST, SET, SHARED};
 use second::planner::set::Set;
 use std::collections::HashMap;
 
@@ -15,11 +15,12 @@ pub struct Tally {
     met: HashMap<String, u64>,
     pub lists: u64,
     pub sets: u64,
+    pub pages: u64,
 }
 
 impl Tally {
     pub fn papers(&self) -> u64 {
-        self.lists + self.sets
+        self.lists + self.sets + self.pages
     }
 
     pub fn meet(&mut self, what: &str) {
@@ -29,7 +30,7 @@ impl Tally {
         }
     }
 
-    /// Fixed lists and sets meet what they were made for, which does not count.
+    /// Fixed papers meet what they were made for, which does not count.
     pub fn forget_met(&mut self) {
         self.met.clear();
     }
@@ -66,6 +67,16 @@ impl Tally {
         }
     }
 
+    /// Counts one check of a page, and a fault that is not the page's own.
+    pub fn count_page(&mut self, class: &'static str, word: u64) {
+        self.pages += 1;
+        self.add_class(class);
+        match fault_number(word) {
+            0 | SET | SHARED => {}
+            number => self.meet(&format!("page: fault {number}")),
+        }
+    }
+
     fn times(&self, what: &str) -> u64 {
         self.met.get(what).copied().unwrap_or(0)
     }
@@ -73,8 +84,8 @@ impl Tally {
     /// Every kind that is wanted.
     fn wanted() -> Vec<String> {
         let of = |paper| FAULTS.map(|number| format!("{paper}: fault {number}"));
-        let kinds = WANTED.iter().map(|kind| kind.to_string());
-        kinds.chain(of("list")).chain(of("set")).collect()
+        let kinds = WANTED.iter().chain(&PAGE_WANTED).map(|kind| kind.to_string());
+        kinds.chain(of("list")).chain(of("set")).chain(of("page")).collect()
     }
 
     /// What was met too seldom.

@@ -1,20 +1,23 @@
-//! What the tally counts of a list or a set that was judged.
+//! What the tally counts of a list, a set or a page that was judged.
 //!
-//! - `list`, `set`: of a list, of a set.
+//! - `list`, `set`, `page`: of a list, of a set, of a page.
 //! - `parts`: the heavy jobs that hang together.
 
 mod list;
+mod page;
 mod parts;
 mod set;
 
 pub use list::list;
+pub use page::{page, PAGE_WANTED};
 pub use set::set;
 
 use second::codec::sheet::Sheet;
 
-/// The faults that both papers meet; 10 is the writer's.
+/// The faults that all papers meet; 10 is the writer's.
 pub const FAULTS: [u32; 14] = [1, 2, 3, 4, 5, 6, 7, 8, 9, 11, 12, 13, 14, 15];
 
+/// The kinds of lists and sets that are wanted.
 pub const WANTED: [&str; 89] = [
     "list passed",
     "list passed: at the bound",

@@ -1,0 +1,5 @@
+pub mod PageReplies
+pub mod PageDemand
+pub mod PageSteps
+pub mod PageDoorExamples
+pub mod PageDoorRefusals

@@ -1,0 +1,2 @@
+pub mod PageDoor
+pub mod PageDoorClaim

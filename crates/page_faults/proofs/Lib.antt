@@ -1,0 +1,2 @@
+pub mod FaultRun
+pub mod FaultExamples

@@ -1,0 +1,3 @@
+pub mod UnionLaws
+pub mod BlockingUnions
+pub mod UnionExamples
