@@ -38,7 +38,7 @@ fn text_of(s: &[u8], out: &mut [u8; TEXT_ROOM]) -> usize
 {
     let mut places = [0u64; 512];
     let mut loads = [0u64; 64];
-    let filled = blocking::plan(s, &mut places, &mut loads);
+    let filled = public_plan::plan(s, &mut places, &mut loads);
     let jobs = filled.places;
     let answer = filled.answer;
     texts::text(answer, &places[..jobs], out)

@@ -22,8 +22,8 @@ use Rattle.tables.specs.Tables.{roomOf, putNumbers, putFitting}
 use Rattle.tables.specs.Words.{faultWord}
 use Rattle.tables.proofs.LentSteps.{left-put}
 use Rattle.tables.proofs.NumberSteps.{put-nothing, fitting-all}
-use Rattle.best_door.specs.BestDoor.{doorBest, bestWord, bestNumbers, BestCalled}
-use Rattle.best_door.proofs.BestReplies.{best-capped, fault-or-room, places-few, loads-few}
+use Rattle.best_promise.specs.BestDoor.{doorBest, bestWord, bestNumbers, BestCalled}
+use Rattle.best_promise.proofs.BestReplies.{best-capped, fault-or-room, places-few, loads-few}
 
 abbrev isFault : BestAnswer → Bool
 isFault (Best b) = false

@@ -1,5 +1,1 @@
-pub mod BestDemand
-pub mod BestDoorExamples
-pub mod BestDoorRefusals
-pub mod BestReplies
 pub mod BestSteps

@@ -4,8 +4,8 @@ use answers::BestPlan;
 ghost use mathlib.Core.Path.{_≡_};
 ghost use Rattle.answers.specs.declared.best.BestAnswer.the-variants.{Best};
 ghost use Rattle.tables.specs.Tables.{roomOf, putFitting};
-ghost use Rattle.best_door.specs.BestDoor.{doorBest, bestNumbers, BestCalled};
-ghost use Rattle.best_door.specs.BestDoorClaim.{BestDoorClaim};
+ghost use Rattle.best_promise.specs.BestDoor.{doorBest, bestNumbers, BestCalled};
+ghost use Rattle.best_promise.specs.BestDoorClaim.{BestDoorClaim};
 
 // The word of a best target.
 const BEST: u64 = 1;

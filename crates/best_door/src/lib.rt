@@ -1,4 +1,4 @@
-// The best target for C: the call behind the door, and what is promised of it (specs/BestDoorClaim).
+// The best target for C: the call behind the door (best_promise has what is promised of it).
 mod call;
 
 pub use call::best;

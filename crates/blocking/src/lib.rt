@@ -1,4 +1,1 @@
-// The planner, with the demand as its promise (specs/Claim). The argument for it is the crate `argument`.
-mod planner;
-
-pub use planner::plan;
+// The demand as one claim (specs/Claim), and its proof from the argument. No code.

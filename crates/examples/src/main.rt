@@ -39,7 +39,7 @@ fn main() {
 fn show_answer(s: &[u8]) {
     let mut places = [0u64; 8];
     let mut loads = [0u64; 8];
-    let filled = blocking::plan(s, &mut places, &mut loads);
+    let filled = public_plan::plan(s, &mut places, &mut loads);
     let jobs = filled.places;
     let answer = filled.answer;
     let mut out = [0u8; 256];

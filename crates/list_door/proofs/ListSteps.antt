@@ -15,10 +15,10 @@ use Rattle.list_check.specs.ListCheck.{checkList}
 use Rattle.tables.specs.Tables.{numbersOf, roomOf, putNumbers, putFitting}
 use Rattle.tables.specs.Words.{faultWord}
 use Rattle.tables.proofs.NumberSteps.{put-nothing, fitting-all}
-use Rattle.list_door.specs.ListDoor.{doorList, shortFault, listWord, listNumbers, ListCalled}
-use Rattle.list_door.specs.ListDoorClaim.{ListDoorClaim}
-use Rattle.list_door.proofs.ListDemand.{with-claim}
-use Rattle.list_door.proofs.ListReplies.{door-faulty, door-checked, list-enough}
+use Rattle.list_promise.specs.ListDoor.{doorList, shortFault, listWord, listNumbers, ListCalled}
+use Rattle.list_promise.specs.ListDoorClaim.{ListDoorClaim}
+use Rattle.list_promise.proofs.ListDemand.{with-claim}
+use Rattle.list_promise.proofs.ListReplies.{door-faulty, door-checked, list-enough}
 
 module _ (s places numbers : List ℕ) where
   abbrev answer : ListAnswer

@@ -6,8 +6,8 @@ ghost use mathlib.Core.Path.{_≡_};
 ghost use mathlib.Core.List.{[], _∷_};
 ghost use Rattle.frame.specs.Reading.{readSheet};
 ghost use Rattle.tables.specs.Tables.{numbersOf, roomOf, putFitting};
-ghost use Rattle.list_door.specs.ListDoor.{shortFault, doorList, ListCalled};
-ghost use Rattle.list_door.specs.ListDoorClaim.{ListDoorClaim};
+ghost use Rattle.list_promise.specs.ListDoor.{shortFault, doorList, ListCalled};
+ghost use Rattle.list_promise.specs.ListDoorClaim.{ListDoorClaim};
 
 // The words of the two answers.
 const PASSED: u64 = 1;

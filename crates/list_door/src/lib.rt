@@ -1,4 +1,4 @@
-// The check of a list of places for C: the call behind the door, and what is promised of it (specs/ListDoorClaim).
+// The check of a list of places for C: the call behind the door (list_promise has what is promised of it).
 mod call;
 
 pub use call::check_plan;

@@ -13,7 +13,7 @@ use Rattle.tables.proofs.EntryLaws.{entry-front, entries-front}
 use Rattle.door.specs.DoorClaim.{RoomFor, PlanInBytes, DoorClaim}
 use Rattle.list_check.specs.ListClaim.{GoodPlaces, GreatestLoad}
 use Rattle.list_check.proofs.PlacesLaws.{greatest-only, good-same, greatest-same}
-use Rattle.list_door.specs.ListDoorClaim.{RoomForList, ListDoorClaim}
+use Rattle.list_promise.specs.ListDoorClaim.{RoomForList, ListDoorClaim}
 use Rattle.own_answers.proofs.OwnPlans.{Told, plan-good, plan-greatest}
 
 told-bytes : (d : Day) (places loads : List ℕ) {places′ loads′ numbers′ : List ℕ}

@@ -1,5 +1,1 @@
-pub mod PageReplies
-pub mod PageDemand
 pub mod PageSteps
-pub mod PageDoorExamples
-pub mod PageDoorRefusals

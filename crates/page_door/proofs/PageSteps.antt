@@ -17,12 +17,12 @@ use Rattle.page_check.proofs.PageFront.{page-enough}
 use Rattle.tables.specs.Tables.{numbersOf, roomOf, putEntry, putNumbers}
 use Rattle.tables.specs.Words.{faultWord}
 use Rattle.tables.proofs.NumberSteps.{put-nothing}
-use Rattle.list_door.specs.ListDoor.{shortFault}
+use Rattle.list_promise.specs.ListDoor.{shortFault}
 use Rattle.set_door.proofs.SetSteps.{one-put}
-use Rattle.page_door.specs.PageDoor.{doorPage, pageWord, pageNumbers, PageCalled}
-use Rattle.page_door.specs.PageDoorClaim.{PageDoorClaim}
-use Rattle.page_door.proofs.PageDemand.{with-claim}
-use Rattle.page_door.proofs.PageReplies.{door-faulty, door-checked}
+use Rattle.page_promise.specs.PageDoor.{doorPage, pageWord, pageNumbers, PageCalled}
+use Rattle.page_promise.specs.PageDoorClaim.{PageDoorClaim}
+use Rattle.page_promise.proofs.PageDemand.{with-claim}
+use Rattle.page_promise.proofs.PageReplies.{door-faulty, door-checked}
 
 abbrev pub empty : List ℕ
 empty = replicate 65 0

@@ -1,8 +1,8 @@
 // The check of a page of sets, from bytes to bytes.
 use answers::PageAnswer;
 ghost use Rattle.tables.specs.Tables.{numbersOf, roomOf};
-ghost use Rattle.page_door.specs.PageDoor.{doorPage, PageCalled};
-ghost use Rattle.page_door.specs.PageDoorClaim.{PageDoorClaim};
+ghost use Rattle.page_promise.specs.PageDoor.{doorPage, PageCalled};
+ghost use Rattle.page_promise.specs.PageDoorClaim.{PageDoorClaim};
 
 // The words of the three answers.
 const PASSED: u64 = 1;

@@ -31,7 +31,7 @@ pub fn plan(sheet: &[u8], places: &mut [u8], loads: &mut [u8], answer: &mut [u8]
     } else {
         tables::room(loads.len(), 64)
     };
-    let filled = blocking::plan(sheet, &mut p[..np], &mut l[..nl]);
+    let filled = public_plan::plan(sheet, &mut p[..np], &mut l[..nl]);
     let jobs = filled.places;
     let benches = filled.loads;
     tables::put_front(&p[..jobs], places);

@@ -1,5 +1,1 @@
-pub mod SetReplies
-pub mod SetDemand
 pub mod SetSteps
-pub mod SetDoorExamples
-pub mod SetDoorRefusals

@@ -16,11 +16,11 @@ use Rattle.set_check.specs.SetCheck.{checkSet}
 use Rattle.tables.specs.Tables.{roomOf, putEntry, putNumbers}
 use Rattle.tables.specs.Words.{faultWord}
 use Rattle.tables.proofs.NumberSteps.{put-nothing, put-more}
-use Rattle.list_door.specs.ListDoor.{shortFault}
-use Rattle.set_door.specs.SetDoor.{doorSet, setWord, setNumbers, SetCalled}
-use Rattle.set_door.specs.SetDoorClaim.{SetDoorClaim}
-use Rattle.set_door.proofs.SetDemand.{with-claim}
-use Rattle.set_door.proofs.SetReplies.{door-faulty, door-checked}
+use Rattle.list_promise.specs.ListDoor.{shortFault}
+use Rattle.set_promise.specs.SetDoor.{doorSet, setWord, setNumbers, SetCalled}
+use Rattle.set_promise.specs.SetDoorClaim.{SetDoorClaim}
+use Rattle.set_promise.proofs.SetDemand.{with-claim}
+use Rattle.set_promise.proofs.SetReplies.{door-faulty, door-checked}
 
 pub one-put : (t : List ℕ) (v : ℕ) → 8 ≤ length t → putEntry t 0 v ≡ putNumbers (v ∷ []) t
 one-put t v room = ap (λ (xs : List ℕ). putEntry xs 0 v) (sym (put-nothing t)) ∙ put-more [] t v (omega arith)

@@ -1,8 +1,8 @@
 // The check of a set of benches, from bytes to bytes.
 use answers::SetAnswer;
 ghost use Rattle.tables.specs.Tables.{roomOf};
-ghost use Rattle.set_door.specs.SetDoor.{doorSet, SetCalled};
-ghost use Rattle.set_door.specs.SetDoorClaim.{SetDoorClaim};
+ghost use Rattle.set_promise.specs.SetDoor.{doorSet, SetCalled};
+ghost use Rattle.set_promise.specs.SetDoorClaim.{SetDoorClaim};
 
 // The words of the three answers.
 const PASSED: u64 = 1;

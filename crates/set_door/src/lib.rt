@@ -1,4 +1,4 @@
-// The check of a set of benches for C: the call behind the door, and what is promised of it (specs/SetDoorClaim).
+// The check of a set of benches for C: the call behind the door (set_promise has what is promised of it).
 mod call;
 
 pub use call::check_set;

@@ -1,7 +1,7 @@
 // The best target of a sheet, for C.
 ghost use Rattle.tables.specs.Tables.{roomOf};
-ghost use Rattle.best_door.specs.BestDoor.{doorBest, BestCalled};
-ghost use Rattle.best_door.specs.BestDoorClaim.{BestDoorClaim};
+ghost use Rattle.best_promise.specs.BestDoor.{doorBest, BestCalled};
+ghost use Rattle.best_promise.specs.BestDoorClaim.{BestDoorClaim};
 
 // Finds the best target of a sheet: the answer's word, its five numbers, each job's bench and each bench's load.
 #[no_mangle]

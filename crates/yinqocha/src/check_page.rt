@@ -1,7 +1,7 @@
 // Checking a page of sets, for C.
 ghost use Rattle.tables.specs.Tables.{numbersOf, roomOf};
-ghost use Rattle.page_door.specs.PageDoor.{doorPage, PageCalled};
-ghost use Rattle.page_door.specs.PageDoorClaim.{PageDoorClaim};
+ghost use Rattle.page_promise.specs.PageDoor.{doorPage, PageCalled};
+ghost use Rattle.page_promise.specs.PageDoorClaim.{PageDoorClaim};
 
 // Checks a page of sets: the answer's word, and its number.
 #[no_mangle]

@@ -1,7 +1,7 @@
 // Checking a list of places, for C.
 ghost use Rattle.tables.specs.Tables.{numbersOf, roomOf};
-ghost use Rattle.list_door.specs.ListDoor.{doorList, ListCalled};
-ghost use Rattle.list_door.specs.ListDoorClaim.{ListDoorClaim};
+ghost use Rattle.list_promise.specs.ListDoor.{doorList, ListCalled};
+ghost use Rattle.list_promise.specs.ListDoorClaim.{ListDoorClaim};
 
 // Checks a list of places: the answer's word, and its two numbers.
 #[no_mangle]

@@ -1,7 +1,7 @@
 // Checking a set of benches, for C.
 ghost use Rattle.tables.specs.Tables.{roomOf};
-ghost use Rattle.set_door.specs.SetDoor.{doorSet, SetCalled};
-ghost use Rattle.set_door.specs.SetDoorClaim.{SetDoorClaim};
+ghost use Rattle.set_promise.specs.SetDoor.{doorSet, SetCalled};
+ghost use Rattle.set_promise.specs.SetDoorClaim.{SetDoorClaim};
 
 // Checks a set of benches: the answer's word, and its number.
 #[no_mangle]

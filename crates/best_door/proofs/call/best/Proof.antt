@@ -13,7 +13,7 @@ use lib.ListN.{length, take, drop, replicate}
 use Rattle.tables.specs.Tables.{roomOf}
 use Rattle.tables.proofs.LentSteps.{front-length, still-inside}
 use Rattle.door.proofs.RoomLaws.{loads-room}
-use Rattle.best_door.proofs.BestDemand.{with-claim}
+use Rattle.best_promise.proofs.BestDemand.{with-claim}
 use Rattle.best_door.proofs.BestSteps.{jobs-fit, benches-fit, best-called, fault-called}
 use Rattle.best_door.proofs.call.best.Statement.{statement}
 use Rattle.best_door.proofs.call.best.Tie as tie

@@ -1,5 +1,5 @@
 -- By cases on the verdict.
-use Rattle.list_door.proofs.ListReplies.{short-refused, short-accepted}
+use Rattle.list_promise.proofs.ListReplies.{short-refused, short-accepted}
 use borrow.Author.Needs.{needs}
 use Rattle.list_door.proofs.call.short_fault.Statement.{statement}
 use Rattle.list_door.proofs.call.short_fault.Tie as tie

@@ -1,0 +1,4 @@
+pub mod BestDemand
+pub mod BestDoorExamples
+pub mod BestDoorRefusals
+pub mod BestReplies

@@ -1,0 +1,4 @@
+pub mod ListReplies
+pub mod ListDemand
+pub mod ListDoorExamples
+pub mod ListDoorRefusals

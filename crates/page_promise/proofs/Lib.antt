@@ -1,0 +1,4 @@
+pub mod PageReplies
+pub mod PageDemand
+pub mod PageDoorExamples
+pub mod PageDoorRefusals

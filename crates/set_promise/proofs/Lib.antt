@@ -1,0 +1,4 @@
+pub mod SetReplies
+pub mod SetDemand
+pub mod SetDoorExamples
+pub mod SetDoorRefusals
