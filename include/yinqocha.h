@@ -6,9 +6,9 @@
  * jobs, each with its minutes and the benches that may take it. A program that has these as plain
  * numbers, such as the depot's screen program, writes a sheet with yinqocha_write(), has it planned
  * with yinqocha_plan(), or with the best target instead of its own with yinqocha_best(), and tells
- * whether two plans of it come to the same with yinqocha_compare(). A plan or a blocking set that
- * comes from elsewhere is checked with yinqocha_check_plan() and yinqocha_check_set(), a page of
- * such sets with yinqocha_check_page(). Link it with libyinqocha.a (x86-64).
+ * whether two plans of it are the same, job by job, with yinqocha_compare(). A plan or a blocking
+ * set that comes from elsewhere is checked with yinqocha_check_plan() and yinqocha_check_set(), a
+ * page of such sets with yinqocha_check_page(). Link it with libyinqocha.a (x86-64).
  *
  * This header is the manual. It says first what holds of every call, then what the numbers mean,
  * then describes each function, with a program that uses it and what the program prints. Jobs and
@@ -479,8 +479,10 @@ uint64_t yinqocha_best(const uint8_t *sheet, size_t sheet_len,
 /*
  * COMPARING TWO PLANS
  *
- * Two plans of one sheet count as the same when every bench has the same load, also if jobs of 0
- * minutes are on other benches. The bookings are the same in both.
+ * Two plans of one sheet are the same when every job is on the same bench, also each job of 0
+ * minutes. Plans that are the same have equal loads on every bench. Plans with equal loads need not
+ * be the same: two jobs of equal minutes may have changed places, or a job of 0 minutes may be
+ * elsewhere. Minutes, bookings and the target play no part in it.
  *
  * In:
  *   sheet     the bytes of a sheet
@@ -491,13 +493,18 @@ uint64_t yinqocha_best(const uint8_t *sheet, size_t sheet_len,
  * table. The lists need not come from yinqocha_plan(), and both may be one buffer.
  *
  * Out:
- *   result    YINQOCHA_SAME or YINQOCHA_DIFFERENT
+ *   result    YINQOCHA_SAME       every job is on the same bench
+ *             YINQOCHA_DIFFERENT  some job is not
  *
  * Faults: those of the sheet, 1 to 9, 11, 12, 14 and 15 as above; then 13, here
  * YINQOCHA_NO_ASSIGNMENT, with place 0 if the first list does not give each job one bench that it
- * allows, and then 13 with place 1 if the second does not.
+ * allows, and then 13 with place 1 if the second does not. A bench that the job does not allow is a
+ * fault, not a difference.
  *
- * Example: three jobs of 5 minutes, each on bench 0 or 1, and four lists of places.
+ * In the example lists 0, 1 and 2 have equal loads, 10 minutes on bench 0 and 5 on bench 1: in list
+ * 1 two jobs of 5 minutes have changed places, in list 2 only the check is elsewhere.
+ *
+ * Example: three jobs of 5 minutes and a check on bench 0 or 1, and five lists of places.
  *
  *     #include "yinqocha.h"
  *
@@ -507,10 +514,11 @@ uint64_t yinqocha_best(const uint8_t *sheet, size_t sheet_len,
  *     int main(void)
  *     {
  *         const uint64_t both = YINQOCHA_BENCH(0) | YINQOCHA_BENCH(1);
- *         const uint64_t minutes[] = { 5, 5, 5 };
- *         const uint64_t allowed[] = { both, both, both };
- *         const uint64_t lists[4][3] = { { 0, 0, 1 }, { 1, 0, 0 }, { 0, 1, 1 }, { 0, 0, 2 } };
- *         uint8_t sheet[YINQOCHA_SHEET_BYTES(0, 3)];
+ *         const uint64_t minutes[] = { 5, 5, 5, 0 };
+ *         const uint64_t allowed[] = { both, both, both, both };
+ *         const uint64_t lists[5][4] = { { 0, 0, 1, 0 }, { 1, 0, 0, 0 }, { 0, 0, 1, 1 },
+ *                                        { 0, 1, 1, 0 }, { 0, 0, 2, 0 } };
+ *         uint8_t sheet[YINQOCHA_SHEET_BYTES(0, 4)];
  *
  *         uint64_t word = yinqocha_write(2, 4, 7, 9, NULL, 0, minutes, sizeof minutes,
  *                                        allowed, sizeof allowed, sheet, sizeof sheet);
@@ -519,7 +527,7 @@ uint64_t yinqocha_best(const uint8_t *sheet, size_t sheet_len,
  *                    YINQOCHA_FAULT(word), YINQOCHA_VALUE(word));
  *             return 1;
  *         }
- *         for (unsigned n = 1; n < 4; n++) {
+ *         for (unsigned n = 0; n < 5; n++) {
  *             word = yinqocha_compare(sheet, sizeof sheet, lists[0], sizeof lists[0],
  *                                     lists[n], sizeof lists[n]);
  *             if (YINQOCHA_FAULT(word) == YINQOCHA_NO_ASSIGNMENT)
@@ -536,9 +544,11 @@ uint64_t yinqocha_best(const uint8_t *sheet, size_t sheet_len,
  *
  * It prints:
  *
- *     0 and 1: the same
+ *     0 and 0: the same
+ *     0 and 1: different
  *     0 and 2: different
- *     0 and 3: the second is no assignment
+ *     0 and 3: different
+ *     0 and 4: the second is no assignment
  */
 #define YINQOCHA_DIFFERENT 0u
 #define YINQOCHA_SAME 1u

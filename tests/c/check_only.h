@@ -6,6 +6,7 @@
 #ifndef CHECK_ONLY_H
 #define CHECK_ONLY_H
 
+#include "comparisons.h"
 #include "door.h"
 
 static void require_cut(const struct fields *fields, size_t minutes_len, size_t allowed_len,
@@ -23,7 +24,7 @@ static void require_cut(const struct fields *fields, size_t minutes_len, size_t 
 static void written_checks(void)
 {
     static const uint64_t on_0[] = { 0, 0, 0 }, check_on_1[] = { 0, 1, 0 };
-    static const uint64_t last_on_1[] = { 0, 0, 1 };
+    static const uint64_t check_on_2[] = { 0, 2, 0 }, last_on_1[] = { 0, 0, 1 };
     uint8_t sheet[sizeof example_12];
     memcpy(sheet, example_12, sizeof sheet);
     memcpy(sheet + 24 + 3, (const uint8_t[]){ 0x00, 0x00, 0x0C }, 3);
@@ -38,12 +39,12 @@ static void written_checks(void)
     require(table_entry(&loads, 0) == 10 && table_entry(&loads, 1) == 0, "a check: loads");
     require_answer(10, 0, 0, "a check: largest load, moves, fullest bench");
     require_entries(&places, 3, "a check: behind the places");
-    uint64_t word = yinqocha_compare(sheet, sizeof sheet, on_0, 24, check_on_1, 24);
-    require(word == YINQOCHA_SAME, "a check elsewhere: the same loads");
-    word = yinqocha_compare(sheet, sizeof sheet, on_0, 24, last_on_1, 24);
-    require(word == YINQOCHA_DIFFERENT, "a job of 5 elsewhere: other loads");
-    word = yinqocha_compare(sheet, sizeof sheet, on_0, 24, on_0, 16);
-    require(YINQOCHA_FAULT(word) == YINQOCHA_NO_ASSIGNMENT, "a check without a place");
+    require_compared(&fields, on_0, on_0, YINQOCHA_SAME, "a check on the same bench");
+    require_compared(&fields, on_0, check_on_1, YINQOCHA_DIFFERENT, "a check elsewhere");
+    require_compared(&fields, on_0, last_on_1, YINQOCHA_DIFFERENT, "a job of 5 elsewhere");
+    require_no_assignment(&fields, check_on_2, on_0, "a check on a bench that is not there");
+    uint64_t word = yinqocha_compare(sheet, sizeof sheet, on_0, 24, on_0, 8);
+    require_list_fault(word, 1, "a check without a place");
     /* 0 minutes on three benches, beside a longest job of 5 and alone. */
     fields.benches = 3;
     fields.allowed[1] |= YINQOCHA_BENCH(2);
@@ -52,7 +53,7 @@ static void written_checks(void)
     require(write_fields(&fields, sizeof sheet) == sizeof sheet, "checks alone");
     fields.allowed[1] = 0;
     require_fault(&fields, sizeof sheet, YINQOCHA_BAD_ALLOWED, 1, "a check that allows no bench");
-    printf("door: a job of 0 minutes is written, read, and has its place\n");
+    printf("door: a job of 0 minutes is written, read, and has its place, which is compared\n");
 }
 
 /* Every length of the table of minutes, of jobs of 5 minutes and of jobs of 0. The first job

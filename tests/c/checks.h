@@ -12,14 +12,6 @@
 
 #define BOTH (YINQOCHA_BENCH(0) | YINQOCHA_BENCH(1))
 
-/* The sheet of the fields, in `out`; its length. */
-static size_t sheet_of(const struct fields *fields)
-{
-    uint64_t length = write_fields(fields, sizeof buffer - 2 * GUARD);
-    require(YINQOCHA_FAULT(length) == YINQOCHA_OK, "a sheet to check on");
-    return length;
-}
-
 /* A call that checks a table. */
 typedef uint64_t check_call(const uint8_t *, size_t, const void *, size_t, void *, size_t);
 

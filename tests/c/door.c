@@ -1,8 +1,8 @@
 /*
  * The C door, from C. Writing: example 12's bytes, each fault of the writer, empty buffers, and
  * outputs that fit exactly or lack one byte. Planning: sheets that were written, with each of the
- * three answers, and tables that fit exactly or lack one byte. Comparing: plans, and lists that are
- * none. bookings.h has the checks of booked benches, answers.h those of the answer table,
+ * three answers, and tables that fit exactly or lack one byte. comparisons.h has the checks of
+ * comparing two plans, bookings.h those of booked benches, answers.h those of the answer table,
  * check_only.h those of jobs of 0 minutes, best.h those of the best target, checks.h those of lists
  * and sets from elsewhere, pages.h those of pages of sets, door.h what all checks use. From the
  * repository root, after `rt staticlib yinqocha`:
@@ -16,6 +16,7 @@
 #include "bookings.h"
 #include "check_only.h"
 #include "checks.h"
+#include "comparisons.h"
 #include "door.h"
 #include "pages.h"
 #include "yinqocha.h"
@@ -184,43 +185,6 @@ static void plan_faults(void)
     word = yinqocha_plan(example_12, sizeof example_12, NULL, 0, NULL, 0, NULL, 0);
     require_plan_fault(word, YINQOCHA_NO_ROOM, 0, "no tables");
     printf("door: planning has the sheet's faults, then fault 13; the tables are untouched\n");
-}
-
-static uint64_t compare_lists(const uint64_t *first, size_t first_len, const uint64_t *second,
-                              size_t second_len)
-{
-    return yinqocha_compare(example_12, sizeof example_12, first, first_len, second, second_len);
-}
-
-static void require_list_fault(uint64_t word, uint32_t place, const char *what)
-{
-    require(YINQOCHA_FAULT(word) == YINQOCHA_NO_ASSIGNMENT, what);
-    require(YINQOCHA_VALUE(word) == place, what);
-}
-
-static void comparisons(void)
-{
-    struct fields fields = example_5(3);
-    require(plan_fields(&fields, 24, 16, ANSWER_BYTES) == YINQOCHA_PLAN, "example 5: a plan");
-    const uint64_t planned[] = { table_entry(&places, 0), table_entry(&places, 1),
-                                 table_entry(&places, 2), 0 };
-    static const uint64_t all_on_0[] = { 0, 0, 0 }, last_on_1[] = { 0, 0, 1 };
-    static const uint64_t first_on_1[] = { 1, 0, 0 }, no_bench[] = { 0, 2, 0 };
-    static uint64_t many[YINQOCHA_MAX_JOBS + 2];
-    require(compare_lists(planned, 24, all_on_0, 24) == YINQOCHA_SAME, "the plan and its places");
-    require(compare_lists(planned, 24, last_on_1, 24) == YINQOCHA_DIFFERENT, "other loads");
-    require(compare_lists(first_on_1, 24, last_on_1, 24) == YINQOCHA_SAME, "the same loads");
-    require(compare_lists(planned, 17, all_on_0, 24) == YINQOCHA_SAME, "a begun entry counts");
-    require_list_fault(compare_lists(no_bench, 24, no_bench, 24), 0, "first list: no such bench");
-    require_list_fault(compare_lists(planned, 24, no_bench, 24), 1, "second list: no such bench");
-    require_list_fault(compare_lists(planned, 16, planned, 24), 0, "first list: too short");
-    require_list_fault(compare_lists(planned, 24, planned, 25), 1, "second list: too long");
-    require_list_fault(compare_lists(planned, 24, many, sizeof many), 1, "second list: 514 places");
-    require_list_fault(compare_lists(NULL, 0, NULL, 0), 0, "no lists");
-    uint64_t word = yinqocha_compare(NULL, 0, NULL, 0, NULL, 0);
-    require(YINQOCHA_FAULT(word) == YINQOCHA_SHEET_CUT, "no sheet to compare on");
-    require(YINQOCHA_VALUE(word) == 0, "no sheet to compare on: place");
-    printf("door: plans are compared by their loads, and a list that is none is fault 13\n");
 }
 
 int main(void)

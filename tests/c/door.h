@@ -81,6 +81,14 @@ static uint64_t write_fields(const struct fields *fields, size_t room)
     return write_tables(fields, 8 * fields->jobs, 8 * fields->jobs, room);
 }
 
+/* The sheet of the fields, in `out`; its length. */
+static size_t sheet_of(const struct fields *fields)
+{
+    uint64_t length = write_fields(fields, sizeof buffer - 2 * GUARD);
+    require(YINQOCHA_FAULT(length) == YINQOCHA_OK, "the sheet of the fields is written");
+    return length;
+}
+
 static void require_fault(const struct fields *fields, size_t room, uint32_t number,
                           uint32_t place, const char *what)
 {
@@ -134,8 +142,7 @@ static void require_answer(uint64_t first, uint64_t second, uint64_t third, cons
 static uint64_t plan_fields(const struct fields *fields, size_t places_len, size_t loads_len,
                             size_t answer_len)
 {
-    uint64_t length = write_fields(fields, sizeof buffer - 2 * GUARD);
-    require(YINQOCHA_FAULT(length) == YINQOCHA_OK, "a sheet to plan");
+    size_t length = sheet_of(fields);
     memset(&places, FILL, sizeof places);
     memset(&loads, FILL, sizeof loads);
     memset(&answer, FILL, sizeof answer);

@@ -6,7 +6,7 @@
 --     planner-claim       the claim holds of the reply to any bytes and any two tables, and of the tables after it
 --     answered-claim      so it holds of whatever call is answered so: `Answered` is what the planner's contract ensures
 --     answered-room       who gets one of the three answers had an accepted sheet and tables with room
-use Prim.Native.Nat.{ℕ, _+_, _≤_, _<_}
+use Prim.Native.Nat.{ℕ, _≤_, _<_}
 use mathlib.Core.Path.{_≡_, refl, sym, ap, subst, _∙_}
 use mathlib.Core.Logic.{_⊎_, inl, inr}
 use mathlib.Core.Bool.{true, false}
@@ -18,7 +18,6 @@ use lib.Dec.{eqb, ltb}
 use borrow.Author.Tests.{lt-ltb, le-ltb, eqb-true}
 use Rattle.bools.proofs.BoolLaws.{clash, or-left, or-right, or-false}
 use Rattle.bools.proofs.OrderLaws.{lt-or-le}
-use Rattle.sums.proofs.SumLaws.{sum-cong}
 use Rattle.bits.proofs.SetBits.{isSet-past}
 use Rattle.sums.proofs.SearchLaws.{any-elim}
 use Rattle.fields.specs.declared.fault.Fault.{Fault}
@@ -28,6 +27,7 @@ use Rattle.frame.specs.Reading.{accepted, refused, readSheet}
 use Rattle.frame.proofs.AcceptedLaws.{accepted-sound}
 use Rattle.frame.proofs.Stored.{read-cases, not-both-read, same-read}
 use Rattle.day.specs.Day.{Day, dayOf, placeIn, loadOf}
+use Rattle.day.proofs.LoadLaws.{load-cong}
 use Rattle.demand.specs.Demand.{SoundLong}
 use Rattle.answers.specs.declared.answer.Answer.{Answer}
 use Rattle.answers.specs.declared.answer.Answer.the-variants.{Plan, Long, None, Fault as Faulty}
@@ -140,7 +140,7 @@ module _ (d : Day) where
       load v l = List·getD-append ls (drop (length ls) loads) 0 v (omega (arith, sound .one-to-a-bench))
 
       same-load : (v : ℕ) → loadOf d (placeIn (front ps places)) v ≡ loadOf d (placeIn ps) v
-      same-load v = ap (λ (k : ℕ). d .booked v + k) (sum-cong (d .jobs) _ _ (λ j l. rw (place j l)))
+      same-load = load-cong d (placeIn (front ps places)) (placeIn ps) place
 
   module _ (day-ok : AcceptedDay d) (few : d .benches ≤ 64) where
     pub named-set : (benches : List ℕ) (moves : ℕ) → SoundNone d benches moves → NamedSet d (record { set = setOf benches; moves = moves })

@@ -5,7 +5,7 @@ ghost use Rattle.comparison.specs.Comparison.{comparePlans};
 ghost use Rattle.tables.specs.Tables.{numbersOf};
 ghost use Rattle.door.specs.PlanDoor.{comparedWord};
 
-// Whether two lists of places give every bench the same load.
+// Whether two lists of places put every job on the same bench.
 pub fn compare(sheet: &[u8], first: &[u8], second: &[u8]) -> u64
     ensures { λ r. ⌜ r ≡ comparedWord
         (comparePlans (now (sheet .entry)) (numbersOf (now (first .entry))) (numbersOf (now (second .entry)))) ⌝ }

@@ -1,5 +1,5 @@
 -- The four answers for an accepted sheet, by whether the first list gives each job a bench (a), whether the second
--- does (b), and whether the loads are the same (c).
+-- does (b), and whether the places are the same (c).
 --     first-faulty, second-faulty, all-same, not-same     each answer from the three tests
 --     of-first-fault, of-second-fault, of-same, of-different      and back
 use Prim.Native.Nat.{ℕ}

@@ -1,7 +1,7 @@
 // The answers of the comparison.
 use frame::Fault;
 
-// Whether two plans give every bench the same load, or the first fault.
+// Whether two plans put every job on the same bench, or the first fault.
 pub enum Compared {
     Same,
     Different,

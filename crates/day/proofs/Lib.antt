@@ -1,2 +1,3 @@
 pub mod CheckOnly
+pub mod LoadLaws
 pub mod DayExamples

@@ -5,7 +5,7 @@
 --     door-claim            the claim holds of what a call returns and leaves in the three tables
 --     with-claim            the equation, and the claim with it
 --     answered-room         who gets the word 1, 2 or 3 had an accepted sheet and tables with room
-use Prim.Native.Nat.{ℕ, _+_, _*_, _≤_, _<_}
+use Prim.Native.Nat.{ℕ, _*_, _≤_, _<_}
 use native.Mathlib.Omega.{arith}
 use mathlib.Core.Path.{_≡_, refl, sym, ap, subst, _∙_}
 use mathlib.Core.Logic.{_⊎_, inl, inr}
@@ -13,13 +13,13 @@ use mathlib.Core.Bool.{true, false}
 use mathlib.Core.List.{List, [], _∷_}
 use lib.ListN.{length, getD, drop}
 use Rattle.bools.proofs.BoolLaws.{clash}
-use Rattle.sums.proofs.SumLaws.{sum-cong}
 use Rattle.fields.specs.declared.fault.Fault.{Fault}
 use Rattle.fields.specs.declared.fault.Fault.the-variants.{Table}
 use Rattle.fields.specs.Contents.{Contents}
 use Rattle.frame.specs.Reading.{accepted, readSheet}
 use Rattle.frame.proofs.AcceptedLaws.{accepted-sound}
 use Rattle.day.specs.Day.{Day, dayOf, placeIn, loadOf}
+use Rattle.day.proofs.LoadLaws.{load-cong}
 use Rattle.demand.specs.Demand.{SoundLong}
 use Rattle.answers.specs.declared.answer.Answer.{Answer}
 use Rattle.answers.specs.declared.answer.Answer.the-variants.{Plan, Long, None, Fault as Faulty}
@@ -105,7 +105,7 @@ module _ (d : Day) (places loads : List ℕ) where
       load v l = entry-put ls loads v (fits .loads-fit) (omega (arith, right .one-to-a-bench))
 
       same-load : (v : ℕ) → loadOf d (entryOf (putNumbers ps places)) v ≡ loadOf d (placeIn ps) v
-      same-load v = ap (λ (k : ℕ). d .booked v + k) (sum-cong (d .jobs) _ _ (λ j l. rw (place j l)))
+      same-load = load-cong d (entryOf (putNumbers ps places)) (placeIn ps) place
 
 module _ (d : Day) (places loads numbers : List ℕ) where
   three : {a : Reply} → SoundAnswer d a

@@ -6,3 +6,4 @@ pub mod DoorRefusals
 pub mod PlanLaws
 pub mod RoomLaws
 pub mod WordLaws
+pub mod ComparedLaws

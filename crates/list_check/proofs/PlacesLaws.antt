@@ -3,19 +3,18 @@
 --     good-or-bad, not-both     one place a job: they are good or bad, and not both
 --     greatest-is, greatest-only    the largest load and the fullest bench are the greatest load; no other numbers are
 --     good-same, bad-same, greatest-same    the same of other places, if each job has the same bench there
-use Prim.Native.Nat.{ℕ, _+_, _<_}
-use mathlib.Core.Path.{_≡_, sym, ap, subst, _∙_}
+use Prim.Native.Nat.{ℕ, _<_}
+use mathlib.Core.Path.{_≡_, sym, subst, _∙_}
 use mathlib.Core.Logic.{_⊎_, inl, inr}
 use mathlib.Core.Bool.{Bool, true, false, _&&_}
 use native.Mathlib.Omega.{arith}
-use lib.Dec.{eqb}
 use Rattle.bools.proofs.BoolLaws.{split, clash, and-intro, and-left, and-right}
 use Rattle.bools.proofs.BoolLaws.{and-false-left, and-false-right, and-false-elim}
-use Rattle.sums.specs.Sum.{on, fullest}
+use Rattle.sums.specs.Sum.{fullest}
 use Rattle.sums.proofs.SearchLaws.{all-intro, all-elim, all-fails, all-false}
-use Rattle.sums.proofs.SumLaws.{sum-cong}
 use Rattle.sums.proofs.LargestLaws.{largest-bound, largest-le, fullest-is}
 use Rattle.day.specs.Day.{Day, loadOf, largestLoad, withinBound}
+use Rattle.day.proofs.LoadLaws.{load-cong}
 use Rattle.demand.specs.Demand.{isAssignment, keepsBound}
 use Rattle.list_check.specs.ListClaim.{GoodPlaces, BadPlaces, GreatestLoad}
 
@@ -98,10 +97,7 @@ module _ (d : Day) (a : ℕ → ℕ) where
 
 module _ (d : Day) (a b : ℕ → ℕ) (same : (j : ℕ) → j < d .jobs → a j ≡ b j) where
   load-same : (v : ℕ) → loadOf d a v ≡ loadOf d b v
-  load-same v =
-      ap (λ (k : ℕ). d .booked v + k)
-      (sum-cong (d .jobs) (λ j. on (eqb (a j) v) (d .minutes j)) (λ j. on (eqb (b j) v) (d .minutes j))
-      (λ j l. ap (λ (k : ℕ). on (eqb k v) (d .minutes j)) (same j l)))
+  load-same = load-cong d a b same
 
   pub good-same : {n : ℕ} → GoodPlaces d n a → GoodPlaces d n b
   good-same g =

@@ -1,12 +1,15 @@
 //! Each generator does what it is for, in the second codec's eyes.
 
-use super::check_only;
+use super::bay::{alike::alike, days};
 use super::damage::{damage, DAMAGES};
-use super::day::{Day, MOST_MINUTES};
+use super::day::{bench_bit, Day, MOST_MINUTES};
 use super::draft;
 use super::tables::{spoil, Tables, SPOILS};
+use super::{check_only, lists};
 use crate::codec::door::{fault_number, Codec};
-use crate::codec::sheet::Head;
+use crate::codec::sheet::{Head, Job};
+use crate::judge::load_of;
+use crate::planner::algorithm::is_assignment;
 use crate::rng::Rng;
 
 const TIMES: usize = 2000;
@@ -131,4 +134,51 @@ fn padding_brings_a_sheet_to_its_length() {
         let number = codec.read(&draft.bytes()).err().map_or(0, |fault| fault.number);
         assert_eq!(number, u32::from(length > 65_536));
     }
+}
+
+/// Every list once.
+#[test]
+fn all_lists_of_so_many_places() {
+    assert_eq!(lists::all(0, 3).collect::<Vec<_>>(), [[0; 0]]);
+    let mut all: Vec<Vec<u64>> = lists::all(3, 2).collect();
+    assert!(all.iter().flatten().all(|&place| place <= 2));
+    all.sort();
+    all.dedup();
+    assert_eq!(all.len(), 27);
+}
+
+/// Both are assignments with equal loads, and two jobs above 0 minutes are elsewhere.
+#[test]
+fn exchanged_lists_have_equal_loads() {
+    let (mut rng, mut codec) = (Rng::new(10), Codec::default());
+    let mut found = 0;
+    for turn in 0..TIMES {
+        let size = if turn % 50 == 0 { days::full(&mut rng) } else { days::tiny(&mut rng) };
+        let day = alike(&mut rng, size);
+        let list = lists::assignment(&mut rng, &day);
+        let bytes = day.draft().bytes();
+        let sheet = codec.read(&bytes).expect("days with jobs that are alike are taken");
+        let Some([one, two]) = lists::exchanged(&mut rng, &day, &list) else { continue };
+        found += 1;
+        assert!([&list, &one, &two].iter().all(|list| is_assignment(sheet, list)));
+        let elsewhere: Vec<usize> = (0..list.len()).filter(|&job| one[job] != two[job]).collect();
+        assert!(elsewhere.len() == 2 && elsewhere.iter().all(|&job| day.jobs[job].minutes > 0));
+        let benches = 0..day.head.benches as usize;
+        for bench in benches {
+            assert_eq!(load_of(sheet, &one, bench), load_of(sheet, &two, bench));
+        }
+    }
+    assert!(found > TIMES / 4, "{found}");
+}
+
+/// Benches that a job allows, that it does not, and what is no bench of the head.
+#[test]
+fn places_of_a_job() {
+    let job = Job { minutes: 5, allowed: bench_bit(1) | bench_bit(3) };
+    let day = Day::new(Head { benches: 5, p: 4, q: 7, target: 9 }, vec![job]);
+    assert_eq!(lists::others(&job, 1), [3]);
+    assert_eq!(lists::others(&job, 4), [1, 3]);
+    assert_eq!(lists::not_allowed(&day, &job), [0, 2, 4]);
+    let mut rng = Rng::new(11);
+    assert!((0..TIMES).all(|_| lists::no_bench(&mut rng, 5, 3) >= 5));
 }

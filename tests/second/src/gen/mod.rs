@@ -6,6 +6,7 @@
 //! - `check_only`: jobs of 0 minutes.
 //! - `damage`: changes to a draft, each aimed at one fault number.
 //! - `bay`: days for the run.
+//! - `lists`: lists of places.
 //! - `tables`: the writer's fields and tables, and changes to them.
 //!
 //! Nothing here uses the second codec's packing of fields, so that an error there cannot hide.
@@ -16,6 +17,7 @@ pub mod check_only;
 pub mod damage;
 pub mod day;
 pub mod draft;
+pub mod lists;
 pub mod tables;
 
 #[cfg(test)]

@@ -1,6 +1,6 @@
 //! What the check of a list, of a set or of a page of sets must say, from the sheet alone.
 
-use super::{every_placement, is_blocking, judge_fullest, judge_loads, require};
+use super::{every_placement, is_blocking, judge_fullest, judge_loads, load_of, require};
 use crate::codec::fault::{Fault, SET, SHARED};
 use crate::codec::sheet::Sheet;
 use crate::planner::checker::{ListCheck, PageCheck, SetCheck};
@@ -11,11 +11,8 @@ const FEW_BENCHES: u64 = 6;
 
 /// A list with one place a job.
 pub fn judge_list(sheet: &Sheet, places: &[u64], check: ListCheck) -> Result<(), &'static str> {
-    let load = |bench: u64| {
-        let here = sheet.jobs().iter().zip(places).filter(|&(_, &place)| place == bench);
-        sheet.booked()[bench as usize] + here.map(|(job, _)| job.minutes).sum::<u64>()
-    };
-    let loads: Vec<u64> = (0..sheet.head().benches).map(load).collect();
+    let benches = 0..sheet.head().benches as usize;
+    let loads: Vec<u64> = benches.map(|bench| load_of(sheet, places, bench)).collect();
     let passes = judge_loads(sheet, places, &loads);
     match check {
         ListCheck::NotPassed => require(passes.is_err(), "the list is to pass"),

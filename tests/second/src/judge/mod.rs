@@ -7,16 +7,20 @@
 //!
 //! - `best`: what a best target must be.
 //! - `checks`: what the check of a list, of a set or of a page of sets must say.
+//! - `comparison`: what the comparison of two lists must say.
 //! - `every_placement`: blocking sets by every placement of all heavy jobs.
 
 pub mod best;
 pub mod checks;
+pub mod comparison;
 pub mod every_placement;
 
 #[cfg(test)]
 mod best_tests;
 #[cfg(test)]
 mod checks_tests;
+#[cfg(test)]
+mod comparison_tests;
 #[cfg(test)]
 mod judge_tests;
 
@@ -66,14 +70,18 @@ fn judge_loads(sheet: &Sheet, places: &[u64], loads: &[u64]) -> Result<(), &'sta
     require(is_assignment(sheet, places), "a job is not on an allowed bench")?;
     require(loads.len() == benches as usize, "not one load for each bench")?;
     for (bench, &load) in loads.iter().enumerate() {
-        let here = sheet.jobs().iter().zip(places).filter(|&(_, &place)| place == bench as u64);
-        let jobs: u64 = here.map(|(job, _)| job.minutes).sum();
-        // Booked minutes "count in loads, in the bound".
-        require(load == sheet.booked()[bench] + jobs, "a load is wrong")?;
+        require(load == load_of(sheet, places, bench), "a load is wrong")?;
         // "A load is within the demand's bound if 3q × load ≤ (5q + p) × T."
         require(3 * q * load <= (5 * q + p) * target, "a load is above the bound")?;
     }
     Ok(())
+}
+
+/// "A bench's load under it is the sum of the minutes of the jobs put there." Booked minutes "count
+/// in loads, in the bound".
+pub fn load_of(sheet: &Sheet, places: &[u64], bench: usize) -> u64 {
+    let here = sheet.jobs().iter().zip(places).filter(|&(_, &place)| place == bench as u64);
+    sheet.booked()[bench] + here.map(|(job, _)| job.minutes).sum::<u64>()
 }
 
 /// No load is above the largest, the fullest bench has it, "the lowest on a tie".

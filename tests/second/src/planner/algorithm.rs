@@ -89,7 +89,7 @@ impl Planner {
         answer(&sheet.with_target(target), &mut self.tables, &mut self.counts)
     }
 
-    /// "Two plans of one sheet count as the same when every bench has the same load."
+    /// "From now on plans are the same when every job is on the same bench."
     pub fn compare(
         &mut self,
         bytes: &[u8],
@@ -104,10 +104,8 @@ impl Planner {
                 return Err(Fault::new(NO_ROOM, place));
             }
         }
-        let mut loads = [[0; 64]; 2];
-        add_loads(sheet, first, &mut loads[0]);
-        add_loads(sheet, second, &mut loads[1]);
-        Ok(if loads[0] == loads[1] { Comparison::Same } else { Comparison::Different })
+        // Each list has one entry for each job.
+        Ok(if first == second { Comparison::Same } else { Comparison::Different })
     }
 }
 

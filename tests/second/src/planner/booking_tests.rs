@@ -1,6 +1,7 @@
 //! Days with booked benches.
 
 use super::example_tests::{booked, head, job, plan_day, planned, Owned};
+use crate::codec::fault::Fault;
 use crate::codec::sheet::Head;
 use crate::planner::algorithm::{Comparison, Planner};
 
@@ -51,9 +52,14 @@ fn fault_12_does_not_know_bookings() {
 
 #[test]
 fn plans_are_the_same_or_not_whatever_is_booked() {
-    let day = booked(head(2, 9), &[(0, 5)], &[job(5, &[0, 1]), job(5, &[0, 1])]);
-    let compare =
-        |first: &[u64], second: &[u64]| Planner::new().compare(&day.draft().bytes(), first, second);
-    assert_eq!(compare(&[0, 1], &[1, 0]), Ok(Comparison::Same));
-    assert_eq!(compare(&[1, 1], &[1, 0]), Ok(Comparison::Different));
+    let jobs = [job(5, &[0, 1]), job(5, &[0, 1])];
+    for bookings in [&[][..], &[(0, 5)], &[(0, 5), (1, 10)], &[(1, 1_048_575)]] {
+        let sheet = booked(head(2, 9), bookings, &jobs).draft().bytes();
+        let compare = |first: &[u64], second: &[u64]| Planner::new().compare(&sheet, first, second);
+        assert_eq!(compare(&[0, 1], &[0, 1]), Ok(Comparison::Same));
+        // Equal loads.
+        assert_eq!(compare(&[0, 1], &[1, 0]), Ok(Comparison::Different));
+        assert_eq!(compare(&[1, 1], &[1, 0]), Ok(Comparison::Different));
+        assert_eq!(compare(&[0, 2], &[0, 1]), Err(Fault::new(13, 0)));
+    }
 }

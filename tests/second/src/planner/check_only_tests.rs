@@ -4,9 +4,10 @@
 use super::algorithm::{Comparison, Planner, Rooms};
 use super::bay::is_heavy;
 use super::example_tests::{booked, head, job, plan, plan_day, planned, Owned};
+use crate::codec::fault::Fault;
 use crate::codec::sheet::{Head, Job};
-use crate::gen::check_only;
 use crate::gen::day::Day;
+use crate::gen::{check_only, lists};
 use crate::rng::Rng;
 
 fn none(benches: &[usize], moves: u64) -> Owned {
@@ -110,12 +111,32 @@ fn they_count_in_the_most_moves() {
     }
 }
 
+/// "Two plans with equal loads were filed as one although a 0-minute check had moved."
 #[test]
-fn plans_that_differ_in_them_alone_have_the_same_loads() {
-    let day = Day::new(head(2, 9), vec![job(0, &[0, 1]), job(5, &[0, 1])]);
-    let compare =
-        |first: &[u64], second: &[u64]| Planner::new().compare(&day.draft().bytes(), first, second);
-    assert_eq!(compare(&[0, 0], &[1, 0]), Ok(Comparison::Same));
-    assert_eq!(compare(&[0, 0], &[0, 1]), Ok(Comparison::Different));
-    assert!(compare(&[2, 0], &[0, 0]).is_err() && compare(&[0], &[0, 0]).is_err());
+fn plans_that_differ_in_them_alone_are_different() {
+    let jobs = [job(0, &[0, 1]), job(5, &[0, 1]), job(0, &[1])];
+    for day in [Day::new(head(2, 9), jobs.to_vec()), booked(head(2, 9), &[(1, 4)], &jobs)] {
+        let sheet = day.draft().bytes();
+        let compare = |first: &[u64], second: &[u64]| Planner::new().compare(&sheet, first, second);
+        assert_eq!(compare(&[0, 0, 1], &[0, 0, 1]), Ok(Comparison::Same));
+        assert_eq!(compare(&[0, 0, 1], &[1, 0, 1]), Ok(Comparison::Different));
+        assert_eq!(compare(&[0, 0, 1], &[0, 1, 1]), Ok(Comparison::Different));
+        // A bench that they do not allow, one that the head lacks, and no place for one.
+        for bad in [&[0, 0, 0][..], &[2, 0, 1], &[0, 0]] {
+            assert_eq!(compare(bad, &[0, 0, 1]), Err(Fault::new(13, 0)));
+            assert_eq!(compare(&[0, 0, 1], bad), Err(Fault::new(13, 1)));
+        }
+    }
+}
+
+#[test]
+fn alone_they_make_as_many_plans_as_there_are_lists() {
+    let day = Day::new(head(2, 0), vec![job(0, &[0, 1]); 3]);
+    let (mut planner, sheet) = (Planner::new(), day.draft().bytes());
+    for first in lists::all(3, 1) {
+        for second in lists::all(3, 1) {
+            let same = planner.compare(&sheet, &first, &second) == Ok(Comparison::Same);
+            assert_eq!(same, first == second, "{first:?} and {second:?}");
+        }
+    }
 }

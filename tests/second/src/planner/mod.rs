@@ -1,7 +1,7 @@
-//! The second planner: document 01's run, written from that document, requests S-1 to S-4, S-6 and
-//! S-7 of document 02, chapter 4 of source document 000 and the note on least placements. Sentences
-//! in quotation marks are theirs. Every weight is multiplied by 3q when it enters the run, so that
-//! each comparison is exact.
+//! The second planner: document 01's run, written from that document, requests S-1 to S-4 and S-6
+//! to S-8 of document 02, chapter 4 of source document 000 and the note on least placements.
+//! Sentences in quotation marks are theirs. Every weight is multiplied by 3q when it enters the
+//! run, so that each comparison is exact.
 //!
 //! - `set`: sets of benches and of rocks.
 //! - `rocks`: heavy jobs as edges between benches; crowded components; peeling.

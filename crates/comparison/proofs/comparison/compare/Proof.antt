@@ -24,7 +24,7 @@ returns c =
 
 returns-2 : tie.Need-returns-2
 returns-2 c =
-    let told = c .before .before .before .before .before .before .before .before in
+    let told = c .before .before .before .before .before in
     let at-read = told .before .before in
     let x = at-read .before .before .before .before .args in
     accepted-is (x .s .now) (x .first .now) (x .second .now) (at-read .read .result) (at-read .read .ensures)

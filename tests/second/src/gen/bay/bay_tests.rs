@@ -1,5 +1,6 @@
 //! Each generator does what it is for, in the second planner's eyes.
 
+use super::alike::alike;
 use super::days::{self, Size};
 use super::heavy::{pairs, Shape, SHAPES};
 use super::{families, placements, tied, tight, turning};
@@ -22,6 +23,23 @@ fn days_are_accepted() {
         let day = days::any(&mut rng, size);
         planner.plan(&day.draft().bytes(), Rooms::FULL).expect("an accepted day");
     }
+}
+
+/// Where the head has two benches, every job has, and most days have two jobs that are the same.
+#[test]
+fn days_with_jobs_that_are_alike() {
+    let mut rng = Rng::new(8);
+    let mut planner = Planner::new();
+    let mut with_equal = 0;
+    for _ in 0..1000 {
+        let size = Size { jobs: 20, ..days::middle(&mut rng) };
+        let day = alike(&mut rng, size);
+        planner.plan(&day.draft().bytes(), Rooms::FULL).expect("an accepted day");
+        assert!(day.jobs.iter().all(|job| job.allowed.count_ones() > 1), "{day:?}");
+        let has_copy = |job: usize| day.jobs[..job].contains(&day.jobs[job]);
+        with_equal += usize::from((0..day.jobs.len()).any(has_copy));
+    }
+    assert!(with_equal > 900, "{with_equal}");
 }
 
 #[test]

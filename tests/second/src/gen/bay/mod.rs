@@ -9,9 +9,11 @@
 //! - `days`: whole days, tiny to full, and ones made from an assignment within T.
 //! - `tight`: days with benches at the limits.
 //! - `tied`: days on which several benches have the largest load.
+//! - `alike`: days with many plans whose loads are equal.
 //! - `turning`: targets around the one where none turns to plan.
 //! - `slow`: full days with many moves.
 
+pub mod alike;
 pub mod days;
 pub mod families;
 pub mod heavy;

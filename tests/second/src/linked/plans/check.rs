@@ -2,6 +2,7 @@
 //! judge. Tables are compared byte by byte. The first difference ends the run.
 
 mod best;
+mod compare;
 
 use crate::kinds::kinds;
 use crate::library;
@@ -151,28 +152,9 @@ impl Check {
         }
     }
 
-    /// Compares two lists of places.
-    pub fn compare(&mut self, sheet: &[u8], lists: [&[u8]; 2]) -> u64 {
-        let word = door::compare(&mut self.planner, sheet, lists[0], lists[1]);
-        let inputs = [sheet, lists[0], lists[1]].map(|of| Guarded::holding(&mut self.rng, of));
-        let lent = inputs.clone();
-        let empty = self.rng.pick(&[Empty::Null, Empty::Pointer]);
-        let [first, second] = [lent[1].inside(), lent[2].inside()];
-        if let Some(library) = library::compare(lent[0].inside(), [first, second], empty) {
-            self.same_word(library, word, sheet);
-            for (lent, input) in lent.iter().zip(&inputs) {
-                self.same_bytes("a buffer lent to the library", lent, input, sheet);
-            }
-        }
-        self.expect("no sheet meets fault 10", fault_number(word) != MINUTES, sheet);
-        self.tally.count_comparison(self.class, word);
-        word
-    }
-
     fn same_word(&self, library: u64, second: u64, sheet: &[u8]) {
         if library != second {
-            let (library, second) = (words(library), words(second));
-            self.fail(&format!("library: {library}\nsecond planner: {second}"), sheet);
+            self.fail(&two_words(library, second), sheet);
         }
     }
 
@@ -197,4 +179,8 @@ impl Check {
         println!("sheet {}", hex::print(sheet));
         process::exit(1)
     }
+}
+
+fn two_words(library: u64, second: u64) -> String {
+    format!("library: {}\nsecond planner: {}", words(library), words(second))
 }

@@ -1,11 +1,9 @@
-//! Times of checking a set, a list and a page of full sheets: the second planner's plain procedure,
-//! and, with the feature `library`, the static library beside it and its time of planning the same
-//! sheet. All start from the same bytes in the same run, in turns. The program fails where a page
-//! takes longer than its sets one by one.
+//! Times of checking a set, a list and a page of full sheets and of comparing two lists: the second
+//! planner's plain procedure, and, with the feature `library`, the static library beside it and its
+//! time of planning the same sheet. All start from the same bytes in the same run, in turns. The
+//! program fails where a page takes longer than its sets one by one.
 
 mod check_library;
-// Only planning is timed.
-#[allow(dead_code)]
 mod library;
 mod page_times;
 mod timed_sheets;
@@ -14,12 +12,16 @@ mod timing;
 use second::codec::door::Codec;
 use second::codec::sheet::{Head, Job};
 use second::gen::day::{bench_bit, Day};
+use second::gen::lists::table;
 use second::lent::empty::Empty;
 use second::lent::tables::Tables;
 use second::light_days;
 use second::planner::algorithm::{Answer, Planner, Rooms};
-use second::planner::door::{self, ANSWER_ENTRIES, CHECK_PLAN_ENTRIES, CHECK_SET_ENTRIES, LONG};
+use second::planner::door::{
+    self, ANSWER_ENTRIES, CHECK_PLAN_ENTRIES, CHECK_SET_ENTRIES, LONG, SAME,
+};
 use second::planner::set::Set;
+use std::array;
 use std::hint::black_box;
 use std::process::ExitCode;
 use std::time::Duration;
@@ -30,13 +32,16 @@ const SAMPLES: usize = 20;
 const CALLS: u32 = 20;
 
 /// A sheet, with the set and the list that are checked: those of its answer where it has them, else
-/// all benches, and the lowest bench of each job.
+/// all benches, and the lowest bench of each job. The list is compared with itself in another
+/// buffer: every job is looked at, and a library that compares loads says the same of it, so that
+/// it can be timed too.
 struct Sheet {
     name: String,
     bytes: Vec<u8>,
     answer: &'static str,
     set: Set,
     list: Vec<u8>,
+    again: Vec<u8>,
 }
 
 impl Sheet {
@@ -55,8 +60,8 @@ impl Sheet {
             }
             _ => unreachable!("no job is long"),
         };
-        let list = places.iter().flat_map(|place| place.to_le_bytes()).collect();
-        Sheet { name: name.to_string(), bytes, answer, set, list }
+        let [list, again] = [table(&places), table(&places)];
+        Sheet { name: name.to_string(), bytes, answer, set, list, again }
     }
 }
 
@@ -105,6 +110,16 @@ impl Pair {
         door::check_plan(&mut self.planner, black_box(&sheet.bytes), list, answer)
     }
 
+    fn library_comparison(&self, sheet: &Sheet) -> Option<u64> {
+        let lists = [&sheet.list, &sheet.again].map(|list| black_box(&list[..]));
+        library::compare(black_box(&sheet.bytes), lists, Empty::Pointer)
+    }
+
+    fn second_comparison(&mut self, sheet: &Sheet) -> u64 {
+        let [first, second] = [&sheet.list, &sheet.again].map(black_box);
+        door::compare(&mut self.planner, black_box(&sheet.bytes), first, second)
+    }
+
     fn same(&self, name: &str, library: Option<u64>, second: u64) {
         let (found, expected): (Said, Said) =
             ((library, self.answer), (Some(second), self.expected));
@@ -119,52 +134,68 @@ impl Pair {
         self.same(&sheet.name, library, second);
         let (library, second) = (self.library_list(sheet), self.second_list(sheet));
         self.same(&sheet.name, library, second);
+        let (library, second) = (self.library_comparison(sheet), self.second_comparison(sheet));
+        assert_eq!(second, SAME, "{}: the same list is another", sheet.name);
+        self.same(&sheet.name, library, second);
     }
 
-    /// The times of the calls: planning, a set, a list, by the library and by the second planner.
-    fn times(&mut self, sheet: &Sheet) -> [f64; 6] {
+    /// The times of the calls, by the library and by the second planner.
+    fn times(&mut self, sheet: &Sheet) -> [Times; 2] {
         let many = |call: &mut dyn FnMut()| (0..CALLS).for_each(|_| call());
-        let times: [Duration; 6] = least(SAMPLES, |index| match index {
+        let times: [Duration; 8] = least(SAMPLES, |index| match index {
             0 => time(|| self.library_plan(sheet)),
             1 => time(|| many(&mut || _ = black_box(self.library_set(sheet)))) / CALLS,
             2 => time(|| many(&mut || _ = black_box(self.library_list(sheet)))) / CALLS,
-            3 => time(|| self.second_plan(sheet)),
-            4 => time(|| many(&mut || _ = black_box(self.second_set(sheet)))) / CALLS,
-            _ => time(|| many(&mut || _ = black_box(self.second_list(sheet)))) / CALLS,
+            3 => time(|| many(&mut || _ = black_box(self.library_comparison(sheet)))) / CALLS,
+            4 => time(|| self.second_plan(sheet)),
+            5 => time(|| many(&mut || _ = black_box(self.second_set(sheet)))) / CALLS,
+            6 => time(|| many(&mut || _ = black_box(self.second_list(sheet)))) / CALLS,
+            _ => time(|| many(&mut || _ = black_box(self.second_comparison(sheet)))) / CALLS,
         });
-        times.map(microseconds)
+        let [plan, set, list, comparison, rest @ ..] = times.map(microseconds);
+        let [second_plan, second_set, second_list, second_comparison] = rest;
+        [
+            Times { plan, calls: [set, list, comparison] },
+            Times { plan: second_plan, calls: [second_set, second_list, second_comparison] },
+        ]
     }
+}
+
+/// What is timed beside planning.
+const CALLED: [&str; 3] = ["set", "list", "compare"];
+
+/// The times of planning and of each of those.
+struct Times {
+    plan: f64,
+    calls: [f64; 3],
 }
 
 /// The largest of what was met.
 #[derive(Default)]
 struct Worst {
     plan: f64,
-    set: f64,
-    list: f64,
-    set_ratio: f64,
-    list_ratio: f64,
+    calls: [f64; 3],
+    ratios: [f64; 3],
 }
 
 impl Worst {
-    fn add(&mut self, plan: f64, set: f64, list: f64, ratios: [f64; 2]) {
-        self.plan = self.plan.max(plan);
-        self.set = self.set.max(set);
-        self.list = self.list.max(list);
-        self.set_ratio = self.set_ratio.max(ratios[0]);
-        self.list_ratio = self.list_ratio.max(ratios[1]);
+    fn add(&mut self, times: &Times, ratios: [f64; 3]) {
+        let larger = |one: [f64; 3], two: [f64; 3]| array::from_fn(|call| one[call].max(two[call]));
+        self.plan = self.plan.max(times.plan);
+        self.calls = larger(self.calls, times.calls);
+        self.ratios = larger(self.ratios, ratios);
     }
 
     fn print(&self) {
+        let of_each = |text: &dyn Fn(usize) -> String| [0, 1, 2].map(text).join(", ");
         println!(
-            "slowest set {:.1}, {:.4} of the slowest plan; slowest list {:.1}, {:.4} of it",
-            self.set,
-            self.set / self.plan,
-            self.list,
-            self.list / self.plan
+            "slowest {}; of the slowest plan {}",
+            of_each(&|call| format!("{} {:.1}", CALLED[call], self.calls[call])),
+            of_each(&|call| format!("{:.4}", self.calls[call] / self.plan))
         );
         if library::LINKED {
-            println!("worst ratios: set {:.2}, list {:.2}", self.set_ratio, self.list_ratio);
+            let ratio = |call: usize| format!("{} {:.2}", CALLED[call], self.ratios[call]);
+            println!("worst ratios: {}", of_each(&ratio));
         }
     }
 }
@@ -201,18 +232,23 @@ fn days() -> Vec<(&'static str, Day)> {
 }
 
 fn print_heading() {
-    println!("checks of full sheets; best of {SAMPLES} after {WARM_UP}, microseconds;");
+    println!(
+        "checks and comparisons of full sheets; best of {SAMPLES} after {WARM_UP}, microseconds;"
+    );
     println!("/plan: how many times as long as planning the same sheet");
-    print!("{:<29} {:>10} {:>8} {:>8}", "", "plan", "set", "list");
+    print!("{:<29} {:>10}", "", "plan");
+    CALLED.iter().for_each(|call| print!(" {call:>8}"));
     if library::LINKED {
-        print!(" {:>10} {:>8} {:>6} {:>7}", "library", "set", "ratio", "/plan");
-        println!(" {:>8} {:>6} {:>7}", "list", "ratio", "/plan");
+        print!(" {:>10}", "library");
+        CALLED.iter().for_each(|call| print!(" {call:>8} {:>6} {:>7}", "ratio", "/plan"));
+        println!();
     } else {
         println!(" (second planner; library not linked)");
     }
 }
 
-fn print_sets_and_lists(days: &[(&str, Day)]) {
+/// Prints the times of each day but for those of pages.
+fn print_calls(days: &[(&str, Day)]) {
     print_heading();
     let mut pair =
         Pair { planner: Planner::new(), tables: Tables::new(), answer: [0; 16], expected: [0; 16] };
@@ -221,16 +257,18 @@ fn print_sets_and_lists(days: &[(&str, Day)]) {
     for (name, day) in days {
         let sheet = Sheet::new(&mut planner, name, day);
         pair.compare(&sheet);
-        let [plan, set, list, second_plan, second_set, second_list] = pair.times(&sheet);
-        print!("{:<24} {}", sheet.name, sheet.answer);
-        print!(" {second_plan:>10.1} {second_set:>8.2} {second_list:>8.2}");
+        let [library, second] = pair.times(&sheet);
+        print!("{:<24} {} {:>10.1}", sheet.name, sheet.answer, second.plan);
+        second.calls.iter().for_each(|time| print!(" {time:>8.2}"));
         if library::LINKED {
-            let ratios = [set / second_set, list / second_list];
-            print!(" {plan:>10.1} {set:>8.2} {:>6.2} {:>7.4}", ratios[0], set / plan);
-            print!(" {list:>8.2} {:>6.2} {:>7.4}", ratios[1], list / plan);
-            worst.add(plan, set, list, ratios);
+            let ratios = array::from_fn(|call| library.calls[call] / second.calls[call]);
+            print!(" {:>10.1}", library.plan);
+            for (time, ratio) in library.calls.into_iter().zip(ratios) {
+                print!(" {time:>8.2} {ratio:>6.2} {:>7.4}", time / library.plan);
+            }
+            worst.add(&library, ratios);
         } else {
-            worst.add(second_plan, second_set, second_list, [0.0; 2]);
+            worst.add(&second, [0.0; 3]);
         }
         println!();
     }
@@ -239,7 +277,7 @@ fn print_sets_and_lists(days: &[(&str, Day)]) {
 
 fn main() -> ExitCode {
     let days = days();
-    print_sets_and_lists(&days);
+    print_calls(&days);
     println!();
     if !page_times::print(&days) {
         println!("check_times: FAILED, a page takes longer than its sets one by one");

@@ -16,8 +16,9 @@ pub fn kinds(sheet: &Sheet, answer: &Answer) -> Vec<String> {
     }
 }
 
-fn that_hold<const N: usize>(all: [(bool, String); N]) -> Vec<String> {
-    all.into_iter().filter(|&(holds, _)| holds).map(|(_, kind)| kind).collect()
+/// The kinds of those that hold.
+pub fn that_hold<K, const N: usize>(all: [(bool, K); N]) -> Vec<K> {
+    all.into_iter().filter(|(holds, _)| *holds).map(|(_, kind)| kind).collect()
 }
 
 fn sheet_kinds(sheet: &Sheet, name: &str) -> Vec<String> {

@@ -1,5 +1,6 @@
-//! Plans random sheets by the second planner, finds best targets, has each answer judged, and, with
-//! the feature `library`, sets the static library against it: answers and tables, byte by byte.
+//! Plans random sheets by the second planner, finds best targets, compares lists of places, has
+//! each answer judged, and, with the feature `library`, sets the static library against it: answers
+//! and tables, byte by byte.
 //!
 //! Arguments: the seed (default 1) and the least number of sheets (default 100,000).
 
@@ -11,6 +12,7 @@ mod check;
 mod check_only;
 mod classes;
 mod compare;
+mod compare_kinds;
 mod fixed;
 mod fixed_best;
 mod fixed_check_only;
@@ -66,6 +68,7 @@ fn all(check: &mut Check, sheets: u64) {
     fixed_fullest::all(check);
     fixed_check_only::all(check);
     fixed_best::all(check);
+    compare::fixed(check);
     check.tally.forget_met();
     let mut rounds = 0;
     while rounds < ROUNDS || check.tally.sheets < sheets {

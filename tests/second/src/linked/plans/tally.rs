@@ -1,15 +1,18 @@
 //! How many sheets of each class were met, and what their runs did.
 
+use crate::compare_kinds;
 use second::codec::door::fault_number;
 use second::codec::fault::Fault;
 use second::planner::algorithm::Counts;
 use second::planner::best::Best;
-use second::planner::door::{LONG, PLAN, SAME};
+use second::planner::door::{LONG, PLAN};
+use std::collections::HashMap;
 
 /// A run whose random sheets meet one of these less often has not tested it.
 const LEAST: u64 = 100;
 
-const WANTED: [&str; 105] = [
+/// What is wanted of sheets that are planned, and of best targets.
+const WANTED: [&str; 99] = [
     "plan at once",
     "plan after moves",
     "none of a crowded component",
@@ -74,12 +77,6 @@ const WANTED: [&str; 105] = [
     "an assignment within T, by search",
     "no assignment within T, by search",
     "an assignment within T, planted",
-    "comparison: same",
-    "comparison: different",
-    "comparison: fault of the sheet",
-    "comparison: fault 13, place 0",
-    "comparison: fault 13, place 1",
-    "comparison: of two plans",
     "best: target 0",
     "best: the start",
     "best: between 0 and the start",
@@ -120,7 +117,7 @@ const WANTED: [&str; 105] = [
 #[derive(Default)]
 pub struct Tally {
     classes: Vec<(&'static str, u64)>,
-    met: Vec<(String, u64)>,
+    met: HashMap<String, u64>,
     pub sheets: u64,
     pub comparisons: u64,
     pub searches: u64,
@@ -134,16 +131,19 @@ pub struct Tally {
     highest_level: usize,
 }
 
-fn add<N: PartialEq>(rows: &mut Vec<(N, u64)>, name: N) {
-    match rows.iter_mut().find(|(other, _)| *other == name) {
-        Some((_, count)) => *count += 1,
-        None => rows.push((name, 1)),
-    }
-}
-
 impl Tally {
     pub fn meet(&mut self, what: &str) {
-        add(&mut self.met, what.to_string());
+        match self.met.get_mut(what) {
+            Some(count) => *count += 1,
+            None => _ = self.met.insert(what.to_string(), 1),
+        }
+    }
+
+    fn add_class(&mut self, class: &'static str) {
+        match self.classes.iter_mut().find(|(other, _)| *other == class) {
+            Some((_, count)) => *count += 1,
+            None => self.classes.push((class, 1)),
+        }
     }
 
     /// Fixed sheets meet what they were made for, which does not count.
@@ -154,7 +154,7 @@ impl Tally {
     /// Counts one call of planning: its result word, the moves made, and what the run did.
     pub fn count_plan(&mut self, class: &'static str, word: u64, moves: u64, counts: &Counts) {
         self.sheets += 1;
-        add(&mut self.classes, class);
+        self.add_class(class);
         match (fault_number(word), word) {
             (0, LONG) => self.meet("long"),
             (0, PLAN) => self.meet(if moves == 0 { "plan at once" } else { "plan after moves" }),
@@ -191,7 +191,7 @@ impl Tally {
     /// Counts one search for the best target.
     pub fn count_search(&mut self, class: &'static str, best: Result<Best, Fault>) {
         self.searches += 1;
-        add(&mut self.classes, class);
+        self.add_class(class);
         match best {
             Err(Fault { number, .. }) => self.meet(&format!("best: fault {number}")),
             Ok(Best { runs, .. }) => {
@@ -201,36 +201,35 @@ impl Tally {
         }
     }
 
-    pub fn count_comparison(&mut self, class: &'static str, word: u64) {
+    /// Counts one comparison of these kinds.
+    pub fn count_comparison(&mut self, class: &'static str, kinds: &[String]) {
         self.comparisons += 1;
-        add(&mut self.classes, class);
-        self.meet(match (fault_number(word), word as u32) {
-            (0, outcome) if u64::from(outcome) == SAME => "comparison: same",
-            (0, _) => "comparison: different",
-            (13, 0) => "comparison: fault 13, place 0",
-            (13, _) => "comparison: fault 13, place 1",
-            _ => "comparison: fault of the sheet",
-        });
+        self.add_class(class);
+        kinds.iter().for_each(|kind| self.meet(kind));
     }
 
     fn times(&self, what: &str) -> u64 {
-        self.met.iter().find(|(name, _)| name == what).map_or(0, |&(_, count)| count)
+        self.met.get(what).copied().unwrap_or(0)
+    }
+
+    fn wanted() -> Vec<String> {
+        WANTED.iter().map(|kind| kind.to_string()).chain(compare_kinds::wanted()).collect()
     }
 
     /// What was met too seldom.
     pub fn too_seldom(&self) -> Vec<String> {
-        let rows = WANTED.iter().map(|what| (what, self.times(what)));
-        rows.filter(|&(_, met)| met < LEAST).map(|(what, met)| format!("{what}: {met}")).collect()
+        let rows = Tally::wanted().into_iter().map(|what| (self.times(&what), what));
+        rows.filter(|&(met, _)| met < LEAST).map(|(met, what)| format!("{what}: {met}")).collect()
     }
 
     pub fn print(&self) {
-        println!("\n{:<52} {:>9}", "class", "calls");
+        println!("\n{:<80} {:>9}", "class", "calls");
         for (name, count) in &self.classes {
-            println!("{name:<52} {count:>9}");
+            println!("{name:<80} {count:>9}");
         }
-        println!("\n{:<52} {:>9}", "met by random sheets", "times");
-        for what in WANTED {
-            println!("{what:<52} {:>9}", self.times(what));
+        println!("\n{:<80} {:>9}", "met by random sheets", "times");
+        for what in Tally::wanted() {
+            println!("{what:<80} {:>9}", self.times(&what));
         }
         println!(
             "\n{} searches run {} targets, most in one search {}",

@@ -1,9 +1,10 @@
 //! The highest numbers that a sheet has: minutes, bookings, targets, shares, with sets, pages and
 //! lists.
 
-use super::{page_table, table, Checks};
+use super::{page_table, Checks};
 use second::codec::sheet::{Head, Job};
 use second::gen::day::{bench_bit, Day, MOST_MINUTES, MOST_TARGET};
+use second::gen::lists::table;
 use second::planner::set::Set;
 
 const SHARES: [(u64, u64); 3] = [(4, 7), (126, 127), (73, 127)];

@@ -2,7 +2,7 @@
 //! the slow full sheets and to the light days, answer tables of each length, and little stack.
 
 use super::own::answer_of;
-use super::{page_table, table, words, Checks, Said};
+use super::{page_table, words, Checks, Said};
 use crate::check_library;
 use second::codec::door::{fault_number, Codec};
 use second::codec::fault::{LIST, NO_ROOM, SET, SHARED};
@@ -12,6 +12,7 @@ use second::gen::bay::heavy::Shape;
 use second::gen::bay::light::Choice;
 use second::gen::bay::{days, placements};
 use second::gen::day::{bench_bit, Day};
+use second::gen::lists::table;
 use second::lent::empty::Empty;
 use second::light_days;
 use second::papers::{self, Paper};

@@ -1,10 +1,10 @@
 //! Random lists, one round.
 
-use super::{table, Checks};
+use super::Checks;
 use second::gen::bay::{days, placements};
 use second::gen::check_only;
-use second::gen::day::{Day, MOST_MINUTES};
-use second::planner::set::Set;
+use second::gen::day::MOST_MINUTES;
+use second::gen::lists::{self, assignment, table};
 
 pub fn round(checks: &mut Checks) {
     all_lists(checks);
@@ -13,15 +13,6 @@ pub fn round(checks: &mut Checks) {
     no_bench(checks);
     lengths(checks);
     full(checks);
-}
-
-/// One allowed bench for each job.
-pub fn assignment(checks: &mut Checks, day: &Day) -> Vec<u64> {
-    let mut place = |allowed: u64| {
-        let benches: Vec<usize> = Set(allowed).collect();
-        checks.rng.pick(&benches) as u64
-    };
-    day.jobs.iter().map(|job| place(job.allowed)).collect()
 }
 
 /// Every list of places below the number of benches, and of one that is no bench.
@@ -36,10 +27,8 @@ fn all_lists(checks: &mut Checks) {
             day = check_only::only(&mut checks.rng, benches, jobs);
         }
         let sheet = day.draft().bytes();
-        let places = benches + 1;
-        for list in 0..places.pow(day.jobs.len() as u32) {
-            let place = |job: usize| list / places.pow(job as u32) % places;
-            checks.list(&sheet, &table(&(0..day.jobs.len()).map(place).collect::<Vec<u64>>()));
+        for list in lists::all(day.jobs.len(), benches) {
+            checks.list(&sheet, &table(&list));
         }
     }
 }
@@ -59,7 +48,7 @@ fn any_lists(checks: &mut Checks) {
         let mut draft = day.draft();
         draft.sprinkle(&mut checks.rng, 1);
         let sheet = draft.bytes();
-        let mut places = assignment(checks, &day);
+        let mut places = assignment(&mut checks.rng, &day);
         checks.list(&sheet, &table(&places));
         if !places.is_empty() {
             let job = checks.rng.below(places.len());
@@ -79,7 +68,7 @@ fn at_the_bound(checks: &mut Checks) {
         if turn % 2 == 0 {
             day.head.target += 3 * day.head.q - day.head.target % (3 * day.head.q);
         }
-        let places = assignment(checks, &day);
+        let places = assignment(&mut checks.rng, &day);
         let (p, q, target) = (day.head.p, day.head.q, day.head.target);
         let most = (5 * q + p) * target / (3 * q);
         let bench = checks.rng.below(day.head.benches as usize);
@@ -98,27 +87,12 @@ fn no_bench(checks: &mut Checks) {
     for _ in 0..40 {
         let size = days::middle(&mut checks.rng);
         let day = days::any(&mut checks.rng, size);
-        let mut places = assignment(checks, &day);
+        let mut places = assignment(&mut checks.rng, &day);
         if places.is_empty() {
             continue;
         }
         let job = checks.rng.below(places.len());
-        let benches = day.head.benches;
-        let own = places[job];
-        let no_bench = [
-            benches,
-            63,
-            64,
-            64 + own,
-            255,
-            256 + own,
-            (1 << 32) + own,
-            (1 << 63) + own,
-            1 << 63,
-            own << 56 | 1 << 8,
-            u64::MAX,
-        ];
-        places[job] = checks.rng.pick(&no_bench);
+        places[job] = lists::no_bench(&mut checks.rng, day.head.benches, places[job]);
         checks.list(&day.draft().bytes(), &table(&places));
     }
 }
@@ -131,7 +105,7 @@ fn lengths(checks: &mut Checks) {
         let size = if turn == 0 { days::FULL } else { placements::small(&mut checks.rng) };
         let day = days::any(&mut checks.rng, size);
         let sheet = day.draft().bytes();
-        let whole = table(&assignment(checks, &day));
+        let whole = table(&assignment(&mut checks.rng, &day));
         let mut list = whole.clone();
         match checks.rng.below(6) {
             0 => list.truncate(list.len().saturating_sub(checks.rng.pick(&[1, 4, 7]))),
@@ -148,7 +122,7 @@ fn lengths(checks: &mut Checks) {
     for _ in 0..10 {
         let size = placements::small(&mut checks.rng);
         let day = days::any(&mut checks.rng, size);
-        let list = table(&assignment(checks, &day));
+        let list = table(&assignment(&mut checks.rng, &day));
         let begun = list.len().saturating_sub(checks.rng.pick(&[1, 3, 7]));
         checks.list(&day.draft().bytes(), &list[..begun]);
     }
@@ -159,7 +133,7 @@ fn full(checks: &mut Checks) {
     for turn in 0..10 {
         let size = days::full(&mut checks.rng);
         let mut day = days::any(&mut checks.rng, size);
-        let places = assignment(checks, &day);
+        let places = assignment(&mut checks.rng, &day);
         if turn % 2 == 0 {
             day.head.target *= checks.rng.range(2, 6);
         }

@@ -26,6 +26,7 @@ use crate::check_library;
 use second::codec::door::{entries, entry, fault_number, numbers, Codec, ENTRY_BYTES};
 use second::codec::fault::{MINUTES, SET, SHARED};
 use second::corpus::{case_of, print_case};
+use second::gen::lists::table;
 use second::hex;
 use second::lent::empty::Empty;
 use second::lent::guarded::Guarded;
@@ -236,11 +237,6 @@ fn words(word: u64) -> String {
 
 fn print_set(set: Set) -> String {
     format!("{:?}", set.collect::<Vec<usize>>())
-}
-
-/// A table of these places.
-pub fn table(places: &[u64]) -> Vec<u8> {
-    places.iter().flat_map(|place| place.to_le_bytes()).collect()
 }
 
 /// A table of these sets.

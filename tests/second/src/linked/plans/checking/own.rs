@@ -2,13 +2,13 @@
 //! that differ from ours a little.
 
 use super::kinds::is_full;
-use super::lists::assignment;
 use super::pages::of_one_set;
-use super::{table, Checks};
+use super::Checks;
 use crate::{best_library, library};
 use second::codec::door::entry;
 use second::gen::bay::{days, placements, tight, turning};
 use second::gen::day::Day;
+use second::gen::lists::{assignment, table};
 use second::judge::lightest_placement;
 use second::lent::empty::Empty;
 use second::lent::tables::Tables;
@@ -131,7 +131,7 @@ fn near_plan(checks: &mut Checks, day: &Day, sheet: &[u8], places: &[u64]) {
     }
     let bench = checks.rng.range(0, day.head.benches - 1);
     checks.list(sheet, &table(&[places, &[bench]].concat()));
-    let other = assignment(checks, day);
+    let other = assignment(&mut checks.rng, day);
     if checks.list(sheet, &table(&other)).word == PASSED && other != places {
         checks.tally.meet("a list that our plan is not, passed");
     }

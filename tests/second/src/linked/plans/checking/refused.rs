@@ -1,13 +1,13 @@
 //! Checks that end in a fault, or nearly: damaged sheets, answer tables that are too short, and what
 //! is no list, no set and no page of the sheet; one round.
 
-use super::lists::assignment;
-use super::{page_table, table, Checks};
+use super::{page_table, Checks};
 use second::codec::door::{fault_number, ENTRY_BYTES};
 use second::codec::fault::SET;
 use second::gen::bay::{families, placements};
 use second::gen::damage::{damage, DAMAGES};
 use second::gen::day::Day;
+use second::gen::lists::{assignment, table};
 use second::planner::door::{CHECK_PAGE_ENTRIES, CHECK_PLAN_ENTRIES, CHECK_SET_ENTRIES};
 use second::planner::set::Set;
 
@@ -32,7 +32,7 @@ struct Papers {
 impl Papers {
     /// Of this day, now and then wrong ones.
     fn of(checks: &mut Checks, day: &Day) -> Papers {
-        let mut list = table(&assignment(checks, day));
+        let mut list = table(&assignment(&mut checks.rng, day));
         let mut set = placements::any_set(&mut checks.rng, day.head.benches);
         let mut sets = families::disjoint(&mut checks.rng, day.head.benches);
         if checks.rng.one_in(3) {

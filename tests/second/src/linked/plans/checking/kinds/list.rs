@@ -3,6 +3,7 @@
 use super::{has_check_only, is_full, that_hold};
 use second::codec::door::ENTRY_BYTES;
 use second::codec::sheet::{Head, Job, Sheet};
+use second::judge::load_of;
 use second::planner::algorithm::is_assignment;
 use second::planner::checker::ListCheck;
 
@@ -13,7 +14,7 @@ pub fn list(sheet: &Sheet, bytes: &[u8], places: &[u64], check: ListCheck) -> Ve
         ListCheck::Passed { largest, fullest } => {
             let Head { p, q, target, .. } = sheet.head();
             let bound = (5 * q + p) * target;
-            let load = |bench| load(sheet, places, bench);
+            let load = |bench| load_of(sheet, places, bench);
             let benches = 0..sheet.head().benches as usize;
             let booked = sheet.booked();
             let own = |bench: usize| load(bench) - booked[bench];
@@ -44,11 +45,6 @@ pub fn list(sheet: &Sheet, bytes: &[u8], places: &[u64], check: ListCheck) -> Ve
     }
 }
 
-fn load(sheet: &Sheet, places: &[u64], bench: usize) -> u64 {
-    let here = sheet.jobs().iter().zip(places).filter(|&(_, &place)| place == bench as u64);
-    sheet.booked()[bench] + here.map(|(job, _)| job.minutes).sum::<u64>()
-}
-
 fn list_not_passed(sheet: &Sheet, places: &[u64]) -> Vec<&'static str> {
     let Head { benches, p, q, target } = sheet.head();
     let bound = (5 * q + p) * target;
@@ -67,7 +63,8 @@ fn list_not_passed(sheet: &Sheet, places: &[u64]) -> Vec<&'static str> {
             (places.iter().any(|&place| place >= 64), "list not passed: 64 or more"),
         ]);
     }
-    let loads: Vec<u64> = (0..benches as usize).map(|bench| load(sheet, places, bench)).collect();
+    let loads: Vec<u64> =
+        (0..benches as usize).map(|bench| load_of(sheet, places, bench)).collect();
     let largest = *loads.iter().max().expect("a bench");
     let without = |bench: usize| loads[bench] - sheet.booked()[bench];
     let by_booking = |bench: usize| above(loads[bench]) && !above(without(bench));
