@@ -1,1 +1,2 @@
 // Algorithm 2: definitions and theorems; no code.
+#![tactic(auto)]

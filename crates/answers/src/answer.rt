@@ -10,13 +10,13 @@ pub struct PlanAnswer {
 }
 
 // The lowest job with more minutes than the target.
-#[derive(Drop)]
+#[derive(Clone, Copy)]
 pub struct LongAnswer {
     pub job: u64,
 }
 
 // A blocking set, bench b as the bit of weight 2 ^ (63 - b), and the moves made.
-#[derive(Drop)]
+#[derive(Clone, Copy)]
 pub struct NoneAnswer {
     pub set: u64,
     pub moves: u64,

@@ -1,5 +1,7 @@
 // The answers of the planner, of the search for the best target and of the checks: their cases with named values
 // (specs/Answers, specs/BestAnswers and specs/CheckAnswers have the number and the values of each).
+#![tactic(auto)]
+
 mod answer;
 mod best;
 mod check;

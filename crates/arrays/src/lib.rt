@@ -1,5 +1,7 @@
 // Arrays read and written at any index, and numbers that stop at the greatest. None of these asks anything of its
 // caller.
+#![tactic(auto)]
+
 mod arrays;
 
 pub use arrays::{

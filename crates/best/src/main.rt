@@ -1,6 +1,12 @@
 // Finds the best target for a sheet that is read from standard input, and prints it with its plan.
-ghost use Rattle.std.specs.Prelude.{◌≡◌, List, ℕ, length, take};
-ghost use Rattle.best.specs.Printed.{BestPrints};
+#![tactic(auto)]
+
+ghost use Rattle.std.specs.Prelude.{◌≡◌, List, ℕ, IfSome, OnOk, length, take};
+ghost use Rattle.std.specs.Io.KnownBytes.{Appends};
+ghost use Rattle.best.specs.Printed.{best_printed, BestPrints};
+
+use std::io;
+use std::io::{Read, Write};
 
 // One byte more than a sheet may have, so that fault 1 can be seen.
 const SHEET_ROOM: usize = 65537;
@@ -8,12 +14,20 @@ const SHEET_ROOM: usize = 65537;
 // Room for the longest text of 512 jobs.
 const TEXT_ROOM: usize = 32768;
 
-fn main() {
+fn main(rt: HostRuntime) -> io::Result<()> {
+    reply(&mut rt.stdin(), &mut rt.stdout())
+}
+
+// Writes the text for the whole input, where neither reading nor writing fails.
+fn reply<R: Read, W: Write>(reader: &mut R, writer: &mut W) -> io::Result<()>
+    ensures { OnOk result (IfSome (R.remaining reader.old) (λ s.
+        Appends (W.contents writer.old) (W.contents writer.new) (best_printed s))) }
+{
     let mut buffer = [0u8; SHEET_ROOM];
-    let n = io::read_full(0, &mut buffer);
+    let n = input::read_full(reader, &mut buffer)?;
     let mut out = [0u8; TEXT_ROOM];
     let end = printed(n, &buffer, &mut out);
-    io::write_all(1, &out[..end]);
+    writer.write_all(&out[..end])
 }
 
 // Writes the text for the whole input s to the front of `out`, and returns its length,

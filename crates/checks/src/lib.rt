@@ -1,4 +1,6 @@
 // The tests of faults 7 to 12, 14 and 15, for the reader and the writer alike.
+#![tactic(auto)]
+
 mod hyper_edges;
 mod tests;
 

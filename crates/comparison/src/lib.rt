@@ -1,4 +1,6 @@
 // The comparison of two plans of a sheet.
+#![tactic(auto)]
+
 mod compared;
 mod comparison;
 

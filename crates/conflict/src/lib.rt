@@ -1,4 +1,6 @@
 // CONFLICT SET CONSTRUCTION on arrays (figure 4.6).
+#![tactic(auto)]
+
 mod conflict;
 
 pub use conflict::{Grown, construct};

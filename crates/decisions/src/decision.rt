@@ -2,13 +2,13 @@
 use answers::{LongAnswer, NoneAnswer};
 
 // A plan, made by so many moves.
-#[derive(Drop)]
+#[derive(Clone, Copy)]
 pub struct PlanMoves {
     pub moves: u64,
 }
 
 // One of the three answers, before anything is written.
-#[derive(Drop)]
+#[derive(Clone, Copy)]
 pub enum Decision {
     Plan(PlanMoves),
     Long(LongAnswer),

@@ -1,4 +1,6 @@
 // What is decided of a day, and the run of a day with its decision.
+#![tactic(auto)]
+
 mod decision;
 mod running;
 

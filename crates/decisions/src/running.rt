@@ -30,11 +30,11 @@ fn finish<'a>(
     low: &'a [usize],
     high: &'a [usize],
 ) -> Decided
-    ensures* { λ r. ⌜ ((d : Day) → (weights : List ℕ) → (amount : List ℕ) → (pebbles : List Bool) → (allowed : List ℕ)
+    ensures { (d : Day) → (weights : List ℕ) → (amount : List ℕ) → (pebbles : List Bool) → (allowed : List ℕ)
         → Ready d n low.now high.now weights amount pebbles allowed
         → ((r : ℕ) → r < count d.jobs (is_left d) → get_or job.now r 0 ≡ left_job d r)
         → Last d last place aims → ltb (long_job d) d.jobs ≡ false → ltb (crowded_bench d) d.benches ≡ false
-        → Decides d r) ⌝ }
+        → Decides d result }
 {
     let active = last.active;
     if active != 0 {

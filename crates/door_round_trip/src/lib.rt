@@ -1,1 +1,2 @@
 // What the C door writes it reads back (specs/GivenBack, proofs/). No code.
+#![tactic(auto)]

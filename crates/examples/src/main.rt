@@ -1,41 +1,46 @@
 // Runs the examples of document 01 that are not proved, 11 and 12, and prints each finding beside the expected one.
 // A line end within a finding is shown as a semicolon.
+#![tactic(auto)]
+
 ghost use Rattle.std.specs.Prelude.{◌≡◌, ◌-◌};
 
 use frame::{Head, Written};
+use std::io;
 
-fn main() {
-    io::write_all(1, b"11 empty sheet: ");
-    show_answer(b"");
-    io::write_all(1, b", expected fault 2 0\n");
+fn main(rt: HostRuntime) -> io::Result<()> {
+    print!(rt; "11 empty sheet: ")?;
+    show_answer(&rt, b"")?;
+    println!(rt; ", expected fault 2 0")?;
 
     // Head, three jobs, end; then the same with 21 00 01 FF after the head.
-    io::write_all(1, b"12 read: ");
+    print!(rt; "12 read: ")?;
     show_answer(
+        &rt,
         b"\x11\x00\x07\x04\x10\x38\x00\x00\x01\x20\
         \x12\x00\x0B\x00\x00\x5C\x00\x00\x00\x00\x00\x00\x00\x00\
         \x12\x00\x0B\x00\x00\x5C\x00\x00\x00\x00\x00\x00\x00\x00\
         \x12\x00\x0B\x00\x00\x5C\x00\x00\x00\x00\x00\x00\x00\x00\
         \x13\x00\x00",
-    );
-    io::write_all(1, b", expected plan 15 0 0;0 0;1 0;2 0\n");
+    )?;
+    println!(rt; ", expected plan 15 0 0;0 0;1 0;2 0")?;
 
-    io::write_all(1, b"12 with a foreign frame: ");
+    print!(rt; "12 with a foreign frame: ")?;
     show_answer(
+        &rt,
         b"\x11\x00\x07\x04\x10\x38\x00\x00\x01\x20\
         \x21\x00\x01\xFF\
         \x12\x00\x0B\x00\x00\x5C\x00\x00\x00\x00\x00\x00\x00\x00\
         \x12\x00\x0B\x00\x00\x5C\x00\x00\x00\x00\x00\x00\x00\x00\
         \x12\x00\x0B\x00\x00\x5C\x00\x00\x00\x00\x00\x00\x00\x00\
         \x13\x00\x00",
-    );
-    io::write_all(1, b", expected plan 15 0 0;0 0;1 0;2 0\n");
+    )?;
+    println!(rt; ", expected plan 15 0 0;0 0;1 0;2 0")?;
 
-    show_written();
+    show_written(&rt)
 }
 
 // Plans a sheet of at most 8 jobs and benches, and prints the answer in one line.
-fn show_answer(s: &[u8]) {
+fn show_answer(rt: &impl Print, s: &[u8]) -> io::Result<()> {
     let mut places = [0u64; 8];
     let mut loads = [0u64; 8];
     let filled = public_plan::plan(s, &mut places, &mut loads);
@@ -45,15 +50,13 @@ fn show_answer(s: &[u8]) {
     let n = texts::text(answer, &places[..jobs], &mut out);
     join(&mut out);
     // Without the last line end.
-    io::write_all(1, &out[..one_less(n)]);
+    rt.write_all(&out[..one_less(n)])
 }
 
 // Puts a semicolon for each line end.
 fn join(out: &mut [u8]) {
-    let mut i = 0;
-    while i < out.len() {
-        out[i] = joined(out[i]);
-        i += 1;
+    for b in out {
+        *b = joined(*b);
     }
 }
 
@@ -68,7 +71,7 @@ fn one_less(n: usize) -> usize
 }
 
 // Writes the sheet of example 5, and prints its frames.
-fn show_written() {
+fn show_written(rt: &impl Print) -> io::Result<()> {
     // Nothing is booked.
     let booked = [0u64; 2];
     let minutes = [5u64; 3];
@@ -87,43 +90,27 @@ fn show_written() {
         &allowed,
         &mut out,
     );
-    io::write_all(1, b"12 length written: ");
     let size = match written {
         Written::Length(n) => n,
-        Written::Refusal(f) => 0,
+        Written::Refusal(_) => 0,
     };
-    io::print_decimal(1, size as u64);
-    io::write_all(1, b", expected 55\n12 head written:");
-    show_bytes(&out[..10]);
-    io::write_all(
-        1,
-        b", expected 11 00 07 04 10 38 00 00 01 20\n12 job 0 written:",
-    );
-    show_bytes(&out[10..24]);
-    io::write_all(
-        1,
-        b", expected 12 00 0b 00 00 5c 00 00 00 00 00 00 00 00\n12 job 1 written:",
-    );
-    show_bytes(&out[24..38]);
-    io::write_all(
-        1,
-        b", expected 12 00 0b 00 00 5c 00 00 00 00 00 00 00 00\n12 job 2 written:",
-    );
-    show_bytes(&out[38..52]);
-    io::write_all(
-        1,
-        b", expected 12 00 0b 00 00 5c 00 00 00 00 00 00 00 00\n12 end written:",
-    );
-    show_bytes(&out[52..55]);
-    io::write_all(1, b", expected 13 00 00\n");
+    print!(rt; "12 length written: {size}, expected 55\n12 head written:")?;
+    show_bytes(rt, &out[..10])?;
+    print!(rt; ", expected 11 00 07 04 10 38 00 00 01 20\n12 job 0 written:")?;
+    show_bytes(rt, &out[10..24])?;
+    print!(rt; ", expected 12 00 0b 00 00 5c 00 00 00 00 00 00 00 00\n12 job 1 written:")?;
+    show_bytes(rt, &out[24..38])?;
+    print!(rt; ", expected 12 00 0b 00 00 5c 00 00 00 00 00 00 00 00\n12 job 2 written:")?;
+    show_bytes(rt, &out[38..52])?;
+    print!(rt; ", expected 12 00 0b 00 00 5c 00 00 00 00 00 00 00 00\n12 end written:")?;
+    show_bytes(rt, &out[52..55])?;
+    println!(rt; ", expected 13 00 00")
 }
 
 // Prints bytes in hexadecimal, each behind a space.
-fn show_bytes(s: &[u8]) {
-    let mut i = 0;
-    while i < s.len() {
-        io::write_all(1, b" ");
-        io::print_hex(1, s[i] as u64, 2);
-        i += 1;
+fn show_bytes(rt: &impl Print, s: &[u8]) -> io::Result<()> {
+    for b in s {
+        print!(rt; " {b:02x}")?;
     }
+    Ok(())
 }

@@ -1,48 +1,47 @@
 // The lines that are printed (main.rt says which there are).
 use rocks::Limits;
+use std::io;
 
 // Stands for no number.
 pub const NONE: usize = 18446744073709551615;
 
 // A space and a number, or `-`.
-fn number(n: usize) {
+fn number(rt: &impl Print, n: usize) -> io::Result<()> {
     if n == NONE {
-        io::write_all(1, b" -");
+        print!(rt; " -")
     } else {
-        io::write_all(1, b" ");
-        io::print_decimal(1, n as u64);
+        print!(rt; " {n}")
     }
 }
 
-fn member(set: usize, v: usize) {
+fn member(rt: &impl Print, set: usize, v: usize) -> io::Result<()> {
     if sets::has(set, v) {
-        number(v);
+        number(rt, v)?;
     }
+    Ok(())
 }
 
 // The benches of a set, rising.
-fn benches_of(set: usize) {
-    let mut v = 0;
-    while v < 64 {
-        member(set, v);
-        v += 1;
+fn benches_of(rt: &impl Print, set: usize) -> io::Result<()> {
+    for v in 0..64usize {
+        member(rt, set, v)?;
     }
+    Ok(())
 }
 
-fn numbers(t: &[usize]) {
-    let mut i = 0;
-    while i < t.len() {
-        number(arrays::at(t, i));
-        i += 1;
+fn numbers(rt: &impl Print, t: &[usize]) -> io::Result<()> {
+    for n in t {
+        number(rt, *n)?;
     }
+    Ok(())
 }
 
 // A line: its word, numbers, and the benches of a set.
-pub fn line<'a>(word: &'a [u8], t: &'a [usize], set: usize) {
-    io::write_all(1, word);
-    numbers(t);
-    benches_of(set);
-    io::write_all(1, b"\n");
+pub fn line(rt: &impl Print, word: &str, t: &[usize], set: usize) -> io::Result<()> {
+    print!(rt; "{word}")?;
+    numbers(rt, t)?;
+    benches_of(rt, set)?;
+    println!(rt; "")
 }
 
 // The weight 3q × minutes in minutes again.
@@ -62,16 +61,17 @@ fn round_of(benches: usize, rounds: &[usize], v: usize) -> usize {
     NONE
 }
 
-fn bench<'a>(
+fn bench(
+    rt: &impl Print,
     n: Limits,
     q: usize,
-    booked: &'a [usize],
-    own: &'a [usize],
-    load: &'a [usize],
-    joined: &'a [usize],
-    level: &'a [usize],
+    booked: &[usize],
+    own: &[usize],
+    load: &[usize],
+    joined: &[usize],
+    level: &[usize],
     v: usize,
-) {
+) -> io::Result<()> {
     let fields = [
         v,
         arrays::at(booked, v),
@@ -80,23 +80,23 @@ fn bench<'a>(
         round_of(n.benches, joined, v),
         round_of(n.benches, level, v),
     ];
-    line(b"bench", &fields, 0);
+    line(rt, "bench", &fields, 0)
 }
 
-pub fn benches<'a>(
+pub fn benches(
+    rt: &impl Print,
     n: Limits,
     q: usize,
-    booked: &'a [usize],
-    own: &'a [usize],
-    load: &'a [usize],
-    joined: &'a [usize],
-    level: &'a [usize],
-) {
-    let mut v = 0;
-    while v < n.benches {
-        bench(n, q, booked, own, load, joined, level, v);
-        v += 1;
+    booked: &[usize],
+    own: &[usize],
+    load: &[usize],
+    joined: &[usize],
+    level: &[usize],
+) -> io::Result<()> {
+    for v in 0..n.benches {
+        bench(rt, n, q, booked, own, load, joined, level, v)?;
     }
+    Ok(())
 }
 
 // The bench of a direction, which is one more, and none of a neutral rock.
@@ -105,72 +105,75 @@ fn bench_of(dir: usize) -> usize {
 }
 
 // Rock r, where its lower bench is in the set.
-fn heavy<'a>(
-    minutes: &'a [usize],
-    job: &'a [usize],
-    low: &'a [usize],
-    high: &'a [usize],
-    dir: &'a [usize],
+fn heavy(
+    rt: &impl Print,
+    minutes: &[usize],
+    job: &[usize],
+    low: &[usize],
+    high: &[usize],
+    dir: &[usize],
     set: usize,
     r: usize,
-) {
+) -> io::Result<()> {
     let v = arrays::at(low, r);
     if sets::has(set, v) {
         let j = arrays::at(job, r);
         let to = bench_of(arrays::at(dir, r));
         let fields = [j, arrays::at(minutes, j), v, arrays::at(high, r), to];
-        line(b"heavy", &fields, 0);
+        line(rt, "heavy", &fields, 0)?;
     }
+    Ok(())
 }
 
 // The rocks between benches of the set.
-pub fn heavies<'a>(
+pub fn heavies(
+    rt: &impl Print,
     rocks: usize,
-    minutes: &'a [usize],
-    job: &'a [usize],
-    low: &'a [usize],
-    high: &'a [usize],
-    dir: &'a [usize],
+    minutes: &[usize],
+    job: &[usize],
+    low: &[usize],
+    high: &[usize],
+    dir: &[usize],
     set: usize,
-) {
-    let mut r = 0;
-    while r < rocks {
-        heavy(minutes, job, low, high, dir, set, r);
-        r += 1;
+) -> io::Result<()> {
+    for r in 0..rocks {
+        heavy(rt, minutes, job, low, high, dir, set, r)?;
     }
+    Ok(())
 }
 
 // Job j, where it is no rock that is left.
-fn other<'a>(
-    minutes: &'a [usize],
-    allowed: &'a [usize],
-    left: &'a [bool],
-    pebble: &'a [bool],
-    place: &'a [u8],
+fn other(
+    rt: &impl Print,
+    minutes: &[usize],
+    allowed: &[usize],
+    left: &[bool],
+    pebble: &[bool],
+    place: &[u8],
     j: usize,
-) {
+) -> io::Result<()> {
     if arrays::holds(left, j) {
-        return;
+        return Ok(());
     }
     let fields = [j, arrays::at(minutes, j), arrays::byte(place, j)];
     if arrays::holds(pebble, j) {
-        line(b"light", &fields, arrays::at(allowed, j));
+        line(rt, "light", &fields, arrays::at(allowed, j))
     } else {
-        line(b"fixed", &fields, arrays::at(allowed, j));
+        line(rt, "fixed", &fields, arrays::at(allowed, j))
     }
 }
 
-pub fn others<'a>(
+pub fn others(
+    rt: &impl Print,
     jobs: usize,
-    minutes: &'a [usize],
-    allowed: &'a [usize],
-    left: &'a [bool],
-    pebble: &'a [bool],
-    place: &'a [u8],
-) {
-    let mut j = 0;
-    while j < jobs {
-        other(minutes, allowed, left, pebble, place, j);
-        j += 1;
+    minutes: &[usize],
+    allowed: &[usize],
+    left: &[bool],
+    pebble: &[bool],
+    place: &[u8],
+) -> io::Result<()> {
+    for j in 0..jobs {
+        other(rt, minutes, allowed, left, pebble, place, j)?;
     }
+    Ok(())
 }

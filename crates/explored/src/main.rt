@@ -20,6 +20,8 @@
 //     least MINUTES           the least that heavy jobs weigh inside the activated set, in any placement of them; `-`
 //         where there is no placement
 //     none MOVES BENCH..      the moves made, and the activated set
+#![tactic(auto)]
+
 mod lines;
 mod steps;
 
@@ -27,14 +29,15 @@ ghost use Rattle.std.specs.Prelude.{◌≡◌, ℕ, List, length, take};
 ghost use Rattle.frame.specs.Reading.{read_sheet, stored};
 
 use frame::Reading;
+use std::io;
 
 // One byte more than a sheet may have, so that fault 1 can be seen.
 const SHEET_ROOM: usize = 65537;
 
-fn main() {
+fn main(rt: HostRuntime) -> io::Result<()> {
     let mut buffer = [0u8; SHEET_ROOM];
-    let n = io::read_full(0, &mut buffer);
-    steps::see(input_read(n, &buffer));
+    let n = input::read_full(&mut rt.stdin(), &mut buffer)?;
+    steps::see(&rt, input_read(n, &buffer))
 }
 
 // What the whole input s is read as, if the buffer's first n bytes are those of s, as far as the buffer has room.

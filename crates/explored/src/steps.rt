@@ -6,21 +6,22 @@ use placements::Least;
 use placing::Bay;
 use rocks::Limits;
 use run::State;
+use std::io;
 
 // A fault, or the sheet.
-pub fn see(reading: Reading) {
+pub fn see(rt: &impl Print, reading: Reading) -> io::Result<()> {
     let verdict = reading.verdict;
     match verdict {
-        Verdict::Refused(f) => lines::line(b"fault", &[f.number() as usize, f.place()], 0),
+        Verdict::Refused(f) => lines::line(rt, "fault", &[f.number() as usize, f.place()], 0),
         Verdict::Accepted => {
             let sheet = reading.sheet;
-            see_sheet(sheet);
+            see_sheet(rt, sheet)
         }
     }
 }
 
 // The fields of a sheet, in tables as wide as the run has them: a long job, or the day without one.
-fn see_sheet(s: Sheet) {
+fn see_sheet(rt: &impl Print, s: Sheet) -> io::Result<()> {
     let h = s.head;
     let jobs = s.count;
     let benches = h.benches as usize;
@@ -28,24 +29,24 @@ fn see_sheet(s: Sheet) {
     arrays::narrow(jobs, &s.minutes, &mut minutes);
     let long = start::long_job(jobs, h.target as usize, &minutes);
     if long < jobs {
-        lines::line(b"long", &[long], 0);
-        return;
+        return lines::line(rt, "long", &[long], 0);
     }
     let mut allowed = [0usize; 512];
     arrays::narrow(jobs, &s.allowed, &mut allowed);
     let mut booked = [0usize; 64];
     arrays::narrow(benches, &s.booked, &mut booked);
-    see_short(h, jobs, &minutes, &allowed, &booked);
+    see_short(rt, h, jobs, &minutes, &allowed, &booked)
 }
 
 // A day without a long job: a crowded component, or the run.
-fn see_short<'a>(
+fn see_short(
+    rt: &impl Print,
     h: Head,
     jobs: usize,
-    minutes: &'a [usize],
-    allowed: &'a [usize],
-    booked: &'a [usize],
-) {
+    minutes: &[usize],
+    allowed: &[usize],
+    booked: &[usize],
+) -> io::Result<()> {
     let p = h.p as usize;
     let q = h.q as usize;
     let target = h.target as usize;
@@ -57,47 +58,48 @@ fn see_short<'a>(
     let rocks = start::gather(jobs, &rock, allowed, &mut job, &mut low, &mut high);
     let mut n = start::limits(h.benches as usize, jobs, p, q, target);
     n.rocks = rocks;
-    lines::line(b"sheet", &[n.benches, p, q, target, jobs], 0);
+    lines::line(rt, "sheet", &[n.benches, p, q, target, jobs], 0)?;
     let mut balance = [rocks::UNKNOWN; 64];
     rocks::balances(n, &low, &high, &mut balance);
     let v = rocks::crowded_bench(n.benches, &balance);
     if v < n.benches {
-        see_crowded(n, minutes, &job, &low, &high, v);
-        return;
+        return see_crowded(rt, n, minutes, &job, &low, &high, v);
     }
     see_run(
-        h, n, rock, minutes, allowed, booked, &job, &low, &high, &balance,
-    );
+        rt, h, n, rock, minutes, allowed, booked, &job, &low, &high, &balance,
+    )
 }
 
 // The component of bench v, with its rocks.
-fn see_crowded<'a>(
+fn see_crowded(
+    rt: &impl Print,
     n: Limits,
-    minutes: &'a [usize],
-    job: &'a [usize],
-    low: &'a [usize],
-    high: &'a [usize],
+    minutes: &[usize],
+    job: &[usize],
+    low: &[usize],
+    high: &[usize],
     v: usize,
-) {
+) -> io::Result<()> {
     let set = rocks::component(n, low, high, v);
     let dir = [0usize; 64];
-    lines::heavies(n.rocks, minutes, job, low, high, &dir, set);
-    lines::line(b"none", &[0], set);
+    lines::heavies(rt, n.rocks, minutes, job, low, high, &dir, set)?;
+    lines::line(rt, "none", &[0], set)
 }
 
 // The first state of the run, with its tables.
-fn see_run<'a>(
+fn see_run(
+    rt: &impl Print,
     h: Head,
     n: Limits,
     rock: [bool; 512],
-    minutes: &'a [usize],
-    allowed: &'a [usize],
-    booked: &'a [usize],
-    job: &'a [usize],
-    low: &'a [usize],
-    high: &'a [usize],
-    balance: &'a [usize],
-) {
+    minutes: &[usize],
+    allowed: &[usize],
+    booked: &[usize],
+    job: &[usize],
+    low: &[usize],
+    high: &[usize],
+    balance: &[usize],
+) -> io::Result<()> {
     let q = h.q as usize;
     let mut own = [0usize; 64];
     start::weigh(n.benches, q, booked, &mut own);
@@ -121,26 +123,27 @@ fn see_run<'a>(
         &mut reach,
     );
     see_turns(
-        h, n, first, minutes, allowed, booked, &amount, &pebble, &left, &mut place, &mut own,
+        rt, h, n, first, minutes, allowed, booked, &amount, &pebble, &left, &mut place, &mut own,
         &mut reach,
-    );
+    )
 }
 
 // The turns of the run from its first state.
-fn see_turns<'a>(
+fn see_turns(
+    rt: &impl Print,
     h: Head,
     n: Limits,
     first: State,
-    minutes: &'a [usize],
-    allowed: &'a [usize],
-    booked: &'a [usize],
-    amount: &'a [usize],
-    pebble: &'a [bool],
-    left: &'a [bool],
+    minutes: &[usize],
+    allowed: &[usize],
+    booked: &[usize],
+    amount: &[usize],
+    pebble: &[bool],
+    left: &[bool],
     place: &mut [u8],
     own: &mut [usize],
     reach: &mut [usize],
-) {
+) -> io::Result<()> {
     let mut job = [0usize; 64];
     let mut low = [0usize; 64];
     let mut high = [0usize; 64];
@@ -156,6 +159,7 @@ fn see_turns<'a>(
         &mut dir,
     );
     see_last(
+        rt,
         last,
         m,
         h.q as usize,
@@ -167,25 +171,26 @@ fn see_turns<'a>(
         &weight,
         own,
         reach,
-    );
-    lines::others(n.jobs, minutes, allowed, left, pebble, place);
-    see_answer(last, h, n.jobs, minutes, allowed);
+    )?;
+    lines::others(rt, n.jobs, minutes, allowed, left, pebble, place)?;
+    see_answer(rt, last, h, n.jobs, minutes, allowed)
 }
 
 // The last exploration once more, with its tables. No move came after it, so what it reads is as it was.
-fn see_last<'a>(
+fn see_last(
+    rt: &impl Print,
     last: State,
     n: Limits,
     q: usize,
-    minutes: &'a [usize],
-    booked: &'a [usize],
-    job: &'a [usize],
-    low: &'a [usize],
-    high: &'a [usize],
-    weight: &'a [usize],
-    own: &'a [usize],
-    reach: &'a [usize],
-) {
+    minutes: &[usize],
+    booked: &[usize],
+    job: &[usize],
+    low: &[usize],
+    high: &[usize],
+    weight: &[usize],
+    own: &[usize],
+    reach: &[usize],
+) -> io::Result<()> {
     let mut graph = [0usize; 323];
     rock_graph::fill_graph(n, low, high, weight, &mut graph);
     let mut dir = [0usize; 64];
@@ -202,16 +207,22 @@ fn see_last<'a>(
         &mut joined,
         &mut level,
     );
-    lines::benches(n, q, booked, own, &load, &joined, &level);
+    lines::benches(rt, n, q, booked, own, &load, &joined, &level)?;
     let all = sets::everywhere(64);
-    lines::heavies(n.rocks, minutes, job, low, high, &dir, all);
+    lines::heavies(rt, n.rocks, minutes, job, low, high, &dir, all)
 }
 
 // What the last state comes to: a plan, or none with the activated set and what the heavy jobs weigh inside it.
-fn see_answer<'a>(last: State, h: Head, jobs: usize, minutes: &'a [usize], allowed: &'a [usize]) {
+fn see_answer(
+    rt: &impl Print,
+    last: State,
+    h: Head,
+    jobs: usize,
+    minutes: &[usize],
+    allowed: &[usize],
+) -> io::Result<()> {
     if last.active == 0 {
-        lines::line(b"plan", &[last.moves], 0);
-        return;
+        return lines::line(rt, "plan", &[last.moves], 0);
     }
     let bay = Bay {
         benches: h.benches as usize,
@@ -221,8 +232,8 @@ fn see_answer<'a>(last: State, h: Head, jobs: usize, minutes: &'a [usize], allow
         set: last.active,
     };
     let least = placing::least_heavy(bay, jobs, minutes, allowed);
-    lines::line(b"least", &[weight_of(least)], 0);
-    lines::line(b"none", &[last.moves], last.active);
+    lines::line(rt, "least", &[weight_of(least)], 0)?;
+    lines::line(rt, "none", &[last.moves], last.active)
 }
 
 fn weight_of(least: Least) -> usize {

@@ -1,4 +1,6 @@
 // What a sheet is made of: its head, its bookings, its jobs, and its faults with number and place.
+#![tactic(auto)]
+
 mod fault;
 mod sheet;
 

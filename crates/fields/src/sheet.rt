@@ -2,7 +2,7 @@
 use crate::fault::Verdict;
 
 // Benches, the share p / q, and the target in minutes.
-#[derive(Drop)]
+#[derive(Clone, Copy)]
 pub struct Head {
     pub benches: u64,
     pub p: u64,
@@ -11,14 +11,14 @@ pub struct Head {
 }
 
 // Minutes booked on a bench before the day begins.
-#[derive(Drop)]
+#[derive(Clone, Copy)]
 pub struct Booking {
     pub bench: usize,
     pub minutes: u64,
 }
 
 // Minutes, and the benches allowed as the sheet's 64-bit field: bench b is the bit of weight 2 ^ (63 - b).
-#[derive(Drop)]
+#[derive(Clone, Copy)]
 pub struct Job {
     pub minutes: u64,
     pub allowed: u64,

@@ -1,4 +1,6 @@
 // FORCED ORIENTATIONS on arrays (figure 4.5).
+#![tactic(auto)]
+
 mod forced;
 
 pub use forced::force;

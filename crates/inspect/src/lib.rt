@@ -1,4 +1,6 @@
 // Reading, shown as a table of numbers: for tests only.
+#![tactic(auto)]
+
 ghost use Rattle.std.specs.Prelude.{◌≡◌, ◌+◌, ◌*◌, ◌≤◌, ◌++◌, length, take, drop};
 ghost use Rattle.bits.specs.Little.{little_all};
 ghost use Rattle.fields.specs.Tests.{job_table};

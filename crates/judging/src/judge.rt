@@ -9,7 +9,7 @@ use fields::{Booking, Fault, Head, Job, Verdict};
 use unpacking::FrameHeader;
 
 // Which frames may come: the head; bookings, jobs or the end; or none of version 1.
-#[derive(Drop)]
+#[derive(Clone, Copy)]
 pub enum Stage {
     Start,
     Open,

@@ -1,4 +1,6 @@
 // Bytes, numbers and lines into a buffer.
+#![tactic(auto)]
+
 mod buffer;
 mod decimal;
 mod line;

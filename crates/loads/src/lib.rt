@@ -1,4 +1,6 @@
 // Loads of benches: the amounts of jobs summed bench by bench, the largest of the loads, and the fullest bench.
+#![tactic(auto)]
+
 mod bench_sum;
 mod own;
 

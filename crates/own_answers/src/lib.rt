@@ -1,1 +1,2 @@
 // The planner's own answers pass the checks (proofs/). No code.
+#![tactic(auto)]

@@ -9,7 +9,7 @@ ghost use Rattle.placing.specs.ClassArrays.{price_in, raise_of, relabel_of};
 ghost use Rattle.placing.specs.ClassArrays.{Job, Listed, Modest, Shows, Tries};
 
 // What is asked: the head's numbers, and the set.
-#[derive(Drop)]
+#[derive(Clone, Copy)]
 pub struct Bay {
     pub benches: usize,
     pub p: usize,

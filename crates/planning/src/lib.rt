@@ -1,4 +1,6 @@
 // Planning: the planner for a sheet decides its day, then writes the tables of a plan.
+#![tactic(auto)]
+
 mod planner;
 mod write;
 

@@ -1,1 +1,2 @@
 // What is replied to a sheet, and how long its text is: laws only.
+#![tactic(auto)]

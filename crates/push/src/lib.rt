@@ -1,4 +1,6 @@
 // PUSH on arrays (Definition 4.4.3), and what a move changes.
+#![tactic(auto)]
+
 mod kept;
 mod push;
 

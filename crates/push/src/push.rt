@@ -21,7 +21,7 @@ pub struct Move {
 }
 
 // The benches with a child, and those with a father that is too heavy for light_fathers.
-#[derive(Drop)]
+#[derive(Clone, Copy)]
 pub struct Marks {
     pub children: usize,
     pub heavy: usize,

@@ -1,4 +1,6 @@
 // The rocks that are left, as one table that a run lends to all its steps, and tests at one of them.
+#![tactic(auto)]
+
 mod graph;
 mod maps;
 

@@ -1,4 +1,6 @@
 // The rocks as arrays: tests at a rock, components and their balances.
+#![tactic(auto)]
+
 mod components;
 mod rocks;
 mod spreading;

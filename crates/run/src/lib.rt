@@ -1,4 +1,6 @@
 // Algorithm 2 on arrays: the state of the run, and the tables of its answer.
+#![tactic(auto)]
+
 mod state;
 mod tables;
 

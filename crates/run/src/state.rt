@@ -16,7 +16,7 @@ use rocks::Limits;
 //   pebbles on it may go to;
 // - of the last exploration, dir and load: directions of the rocks and loads under them; joined, level: the round in
 //   which each bench joined the conflict set, and its level.
-#[derive(Drop)]
+#[derive(Clone, Copy)]
 pub struct State {
     pub moves: usize,
     pub active: usize,

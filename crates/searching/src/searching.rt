@@ -4,7 +4,7 @@ ghost use Rattle.day.specs.Day.{Day, start_target};
 ghost use Rattle.searching.specs.Searching.{head_at, told_plan, moves_in, LentSearch, Searching, Finds};
 
 use crate::kept::{Found, Kept};
-use crate::{kept, start};
+use crate::{first_target, kept};
 use deciding::Decision;
 use fields::Head;
 
@@ -105,7 +105,7 @@ pub fn search<'a>(
     ensures { (d : Day) → LentSearch d h jobs minutes.now allowed.now booked
         → Finds d result }
 {
-    let start = start::start_target(jobs, h.benches as usize, minutes, &booked);
+    let start = first_target::start_target(jobs, h.benches as usize, minutes, &booked);
     let mut kept = begin(h, start, jobs, minutes, allowed, booked);
     while kept.low < kept.high {
         kept = next(kept, h, jobs, minutes, allowed, booked);

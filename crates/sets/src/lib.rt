@@ -1,4 +1,6 @@
 // Sets of numbers below 64, benches or rocks, each as one number of 64 bits.
+#![tactic(auto)]
+
 mod set_loops;
 mod sets;
 

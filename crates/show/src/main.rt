@@ -1,22 +1,25 @@
 // Shows a sheet that is read from standard input: its head, bookings and jobs, or its first fault.
+#![tactic(auto)]
+
 ghost use Rattle.std.specs.Prelude.{◌≡◌, ℕ, List, length, take};
 ghost use Rattle.frame.specs.Reading.{read_sheet, stored};
 
 use frame::{Fault, Reading, Sheet, Verdict};
+use std::io;
 
 // One byte more than a sheet may have, so that fault 1 can be seen.
 const SHEET_ROOM: usize = 65537;
 
-fn main() {
+fn main(rt: HostRuntime) -> io::Result<()> {
     let mut buffer = [0u8; SHEET_ROOM];
-    let n = io::read_full(0, &mut buffer);
+    let n = input::read_full(&mut rt.stdin(), &mut buffer)?;
     let reading = input_read(n, &buffer);
     let verdict = reading.verdict;
     match verdict {
-        Verdict::Refused(f) => show_fault(f),
+        Verdict::Refused(f) => show_fault(&rt, f),
         Verdict::Accepted => {
             let sheet = reading.sheet;
-            show_sheet(sheet);
+            show_sheet(&rt, sheet)
         }
     }
 }
@@ -33,70 +36,44 @@ fn input_read(n: usize, buffer: &[u8; SHEET_ROOM]) -> Reading
     reading::read(whole)
 }
 
-fn show_fault(f: Fault) {
-    io::write_all(1, b"fault ");
-    io::print_decimal(1, f.number());
-    io::write_all(1, b" ");
-    io::print_decimal(1, f.place() as u64);
-    io::write_all(1, b"\n");
+fn show_fault(rt: &impl Print, f: Fault) -> io::Result<()> {
+    println!(rt; "fault {} {}", f.number(), f.place())
 }
 
-fn show_sheet(s: Sheet) {
+fn show_sheet(rt: &impl Print, s: Sheet) -> io::Result<()> {
     let h = s.head;
-    io::print_decimal(1, h.benches);
-    io::write_all(1, b" benches, share ");
-    io::print_decimal(1, h.p);
-    io::write_all(1, b"/");
-    io::print_decimal(1, h.q);
-    io::write_all(1, b", target ");
-    io::print_decimal(1, h.target);
-    io::write_all(1, b" minutes, ");
-    io::print_decimal(1, s.count as u64);
-    io::write_all(1, b" jobs\n");
-    show_bookings(&s.booked);
     let count = s.count;
-    let mut n = 0;
-    while n < 512 {
+    println!(rt;
+        "{} benches, share {}/{}, target {} minutes, {count} jobs",
+        h.benches, h.p, h.q, h.target
+    )?;
+    show_bookings(rt, &s.booked)?;
+    for n in 0..512usize {
         if count <= n {
-            return;
+            return Ok(());
         }
-        show_job(n, s.minutes[n], s.allowed[n]);
-        n += 1;
+        show_job(rt, n, s.minutes[n], s.allowed[n])?;
     }
+    Ok(())
 }
 
 // The minutes booked on each bench, by rising bench, where there are any.
-fn show_bookings(booked: &[u64]) {
-    let mut b = 0;
-    while b < booked.len() {
-        if booked[b] != 0 {
-            show_booking(b, booked[b]);
+fn show_bookings(rt: &impl Print, booked: &[u64]) -> io::Result<()> {
+    for b in 0..booked.len() {
+        let minutes = booked[b];
+        if minutes != 0 {
+            println!(rt; "bench {b}: {minutes} minutes booked")?;
         }
-        b += 1;
     }
+    Ok(())
 }
 
-fn show_booking(b: usize, minutes: u64) {
-    io::write_all(1, b"bench ");
-    io::print_decimal(1, b as u64);
-    io::write_all(1, b": ");
-    io::print_decimal(1, minutes);
-    io::write_all(1, b" minutes booked\n");
-}
-
-fn show_job(n: usize, minutes: u64, allowed: u64) {
-    io::write_all(1, b"job ");
-    io::print_decimal(1, n as u64);
-    io::write_all(1, b": ");
-    io::print_decimal(1, minutes);
-    io::write_all(1, b" minutes, benches");
-    let mut b: u64 = 0;
-    while b < 64 {
+fn show_job(rt: &impl Print, n: usize, minutes: u64, allowed: u64) -> io::Result<()> {
+    print!(rt; "job {n}: {minutes} minutes, benches")?;
+    for b in 0..64u64 {
         if (allowed >> (63 - b)) % 2 == 1 {
-            io::write_all(1, b" ");
-            io::print_decimal(1, b);
+            print!(rt; " {b}")?;
         }
-        b += 1;
     }
-    io::write_all(1, b"\n");
+    println!(rt; "")
 }

@@ -1,4 +1,6 @@
 // The start of the run: kinds of jobs, limits, the rocks of a day, and peeling.
+#![tactic(auto)]
+
 mod peeling;
 mod start;
 

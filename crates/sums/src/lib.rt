@@ -1,1 +1,2 @@
 // Mathematics only: definitions in specs/, laws in proofs/.
+#![tactic(auto)]

@@ -1,4 +1,6 @@
 // What the C door takes and returns: tables of numbers, and result words.
+#![tactic(auto)]
+
 mod front;
 mod table;
 mod words;

@@ -1,4 +1,6 @@
 // The text of an answer, into a buffer (lines' specs/ say which text).
+#![tactic(auto)]
+
 mod answer;
 mod best;
 

@@ -1,4 +1,6 @@
 // Fields out of bytes: frame headers, and what the bodies of heads, bookings and jobs hold.
+#![tactic(auto)]
+
 mod bytes;
 mod header;
 

@@ -1,4 +1,6 @@
 // The C door of Yinqocha: plain numbers and byte slices. The header include/yinqocha.h is its manual.
+#![tactic(auto)]
+
 mod best;
 mod check_page;
 mod check_plan;
