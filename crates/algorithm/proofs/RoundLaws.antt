@@ -17,14 +17,13 @@
 use Prim.Native.Nat.{ℕ, zero, suc, ◌≤◌, ◌<◌}
 use mathlib.Core.Path.{◌≡◌, refl, ◌∙◌}
 use mathlib.Core.Logic.{inl, inr, ⊎_elim}
-use mathlib.Core.Bool.{true, false, cond, not, ◌&&◌}
+use mathlib.Core.Bool.{true, false, not, ◌&&◌}
 use mathlib.Core.List.{List}
 use native.Mathlib.Omega.{arith}
 use lib.ListN.{length, set, length-set}
 use borrow.Author.Tests.{lt-ltb, ltb-true, ltb-false}
 use Rattle.bools.proofs.BoolLaws.{split, clash, and_intro, and_left, and_right, not_intro_true, not-true, and-false_elim, not-false, cond-true, cond-false}
 use Rattle.sums.specs.Search.{any}
-use Rattle.sums.specs.Table.{table}
 use Rattle.sums.proofs.SearchLaws.{any_intro}
 use Rattle.sums.proofs.TableLaws.{length-table, get_or-table}
 use Rattle.sums.proofs.CountLaws.{count-le}

@@ -10,7 +10,7 @@
 --     whole_claim         demand 3
 --     reached_visited     the run comes by every state that it reaches, and goes on from there
 --     levels_never_fall   Lemma 4.4.5
-use Prim.Native.Nat.{ℕ, ◌*◌, ◌≤◌, ◌<◌}
+use Prim.Native.Nat.{ℕ, ◌≤◌, ◌<◌}
 use mathlib.Core.Path.{◌≡◌, refl, ◌∙◌}
 use mathlib.Core.Logic.{⊎_elim}
 use mathlib.Core.Bool.{Bool, true, false}
@@ -21,8 +21,8 @@ use Rattle.bools.proofs.BoolLaws.{split, clash}
 use Rattle.sums.proofs.TableLaws.{length-table}
 use Rattle.sums.proofs.SearchLaws.{least-before, all_elim}
 use Rattle.day.specs.Day.{Day, load_of, long_job, move_bound}
-use Rattle.algorithm.specs.Start.{State, component, crowded, crowded_bench}
-use Rattle.algorithm.specs.Run.{long, blocked, board_of, places_of, explored, congested, can_move, next_state, answer_at, run}
+use Rattle.algorithm.specs.Start.{State, crowded, crowded_bench}
+use Rattle.algorithm.specs.Run.{board_of, places_of, explored, congested, can_move, next_state, answer_at, run}
 use Rattle.algorithm.specs.States.{Reached, at_start, by_move, level_of, RunFrom}
 use Rattle.algorithm.specs.Push.{push_job, push_bench}
 use Rattle.answers.specs.Answers.{Reply, is_plan, is_long}

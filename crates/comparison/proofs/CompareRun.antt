@@ -5,12 +5,11 @@
 --     refused_is, accepted_is   the answer for the bytes
 use Prim.Native.Nat.{ℕ}
 use mathlib.Core.Path.{◌≡◌, sym, ap, ap₂, ◌∙◌}
-use mathlib.Core.Bool.{Bool, true, false, not, ◌&&◌}
+use mathlib.Core.Bool.{Bool, true, false, ◌&&◌}
 use mathlib.Core.List.{List}
 use lib.ListN.{length}
 use lib.Dec.{eqb}
 use borrow.Author.Tests.{eq-eqb, ne_eqb}
-use Rattle.bools.proofs.BoolLaws.{not-true, not-false}
 use Rattle.sums.specs.Search.{all}
 use Rattle.fields.specs.declared.sheet.Reading.{Reading}
 use Rattle.fields.specs.declared.fault.Fault.{Fault}
@@ -61,20 +60,20 @@ module _ (c : Contents) (benches : ℕ) (booked : List ℕ) (jobs : ℕ) (minute
     abbrev same : Bool
     same = same_places d first second
 
-    pub found_first_faulty : not t ≡ true → ComparedFault (Table 0) ≡ compared_of d first second
-    found_first_faulty n = sym (first-faulty one two same (sym (e ∙ gives_is first) ∙ not-true t n))
+    pub found_first_faulty : t ≡ false → ComparedFault (Table 0) ≡ compared_of d first second
+    found_first_faulty n = sym (first-faulty one two same (sym (e ∙ gives_is first) ∙ n))
 
-    module _ (n : not t ≡ false) {u : Bool} (f : u ≡ gives_in jobs allowed second) where
+    module _ (n : t ≡ true) {u : Bool} (f : u ≡ gives_in jobs allowed second) where
       given_first : one ≡ true
-      given_first = sym (e ∙ gives_is first) ∙ not-false t n
+      given_first = sym (e ∙ gives_is first) ∙ n
 
-      pub found_second_faulty : not u ≡ true → ComparedFault (Table 1) ≡ compared_of d first second
+      pub found_second_faulty : u ≡ false → ComparedFault (Table 1) ≡ compared_of d first second
       found_second_faulty m =
-          sym (second_faulty one two same given_first (sym (f ∙ gives_is second) ∙ not-true u m))
+          sym (second_faulty one two same given_first (sym (f ∙ gives_is second) ∙ m))
 
-      module _ (m : not u ≡ false) {w : Bool} (g : w ≡ all jobs (same_place first second)) where
+      module _ (m : u ≡ true) {w : Bool} (g : w ≡ all jobs (same_place first second)) where
         given_second : two ≡ true
-        given_second = sym (f ∙ gives_is second) ∙ not-false u m
+        given_second = sym (f ∙ gives_is second) ∙ m
 
         same-found : w ≡ same
         same-found = g ∙ same-is first second

@@ -11,7 +11,6 @@ use lib.ListN.{length, get_or, set, replicate, length-map, length-append, length
 use lib.Seq.{set_at, append_snoc}
 use Rattle.sums.proofs.TableLaws.{table_cong, table-get_or, get_or-there}
 use Rattle.fields.specs.declared.sheet.Job.{Job}
-use Rattle.judging.specs.declared.judge.Frame.TheVariants as frame
 use Rattle.fields.specs.Tests.{no_minutes, job_table, job_at, no_job}
 use Rattle.frame.specs.Reading.{padded}
 

@@ -133,11 +133,11 @@ module _ (c : Contents) (benches : ℕ) (booked : List ℕ) (jobs : ℕ) (minute
     assigned : t ≡ is_assignment d (place_in list)
     assigned = et ∙ fits_is c _ _ _ _ _ T list
 
-    pub found-not-allowed : not t ≡ true → NotPassed ≡ listed_of d list
+    pub found-not-allowed : t ≡ false → NotPassed ≡ listed_of d list
     found-not-allowed n =
-        sym (listed_not d list counted (and-false_left (keeps_bound d (place_in list)) (sym assigned ∙ not-true t n)))
+        sym (listed_not d list counted (and-false_left (keeps_bound d (place_in list)) (sym assigned ∙ n)))
 
-    module _ (n : not t ≡ false) {r : BenchSum}
+    module _ (n : t ≡ true) {r : BenchSum}
         (er : r ≡ record { largest = largest_of d list; fullest = fullest_of d list })
         {w : Bool} (ew : r.largest < 2 ^ 30 → w ≡ within_bound d r.largest) where
       largest-is : r.largest ≡ largest_of d list
@@ -148,16 +148,16 @@ module _ (c : Contents) (benches : ℕ) (booked : List ℕ) (jobs : ℕ) (minute
           ew (omega (arith, largest-is, largest-small)) ∙ ap (within_bound d) largest-is
           ∙ sym (bound_of-largest d (place_in list) T.sound.head.some_bench)
 
-      pub found_above : not w ≡ true → NotPassed ≡ listed_of d list
+      pub found_above : w ≡ false → NotPassed ≡ listed_of d list
       found_above m =
-          sym (listed_not d list counted (and-false_right (is_assignment d (place_in list)) (sym kept ∙ not-true w m)))
+          sym (listed_not d list counted (and-false_right (is_assignment d (place_in list)) (sym kept ∙ m)))
 
-      pub found_passed : not w ≡ false
+      pub found_passed : w ≡ true
           → Passed (record { largest = r.largest; fullest = r.fullest }) ≡ listed_of d list
       found_passed m =
           ap (λ (x : BenchSum). Passed (record { largest = x.largest; fullest = x.fullest })) er
           ∙ sym (listed_passed d list counted
-          (and_intro (sym assigned ∙ not-false t n) (sym kept ∙ not-false w m)))
+          (and_intro (sym assigned ∙ n) (sym kept ∙ m)))
 
 -- ── the bytes ──
 

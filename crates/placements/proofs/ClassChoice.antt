@@ -6,9 +6,9 @@
 --     Joins, joins      what a job finds that makes one class of two
 --     relabel_cases     classes that are one now were one before, or were the two
 --     raised-by-high, raised-by-low, raised-else      how much more the benches of the joined class cost
-use Prim.Native.Nat.{ℕ, ◌+◌, ◌-◌, ◌≤◌}
+use Prim.Native.Nat.{ℕ, ◌-◌, ◌≤◌}
 use mathlib.Core.Path.{◌≡◌, refl, sym, ◌∙◌}
-use mathlib.Core.Bool.{Bool, true, false, not, cond, ◌&&◌, ◌||◌}
+use mathlib.Core.Bool.{true, false, ◌||◌}
 use mathlib.Core.Logic.{◌⊎◌, inl, inr, ◌≢◌}
 use native.Mathlib.Omega.{arith}
 use lib.Dec.{eqb, leb}
@@ -16,7 +16,7 @@ use borrow.Author.Tests.{eqb-true, eqb-false, eq-eqb, ne_eqb, leb-true, leb-fals
 use Rattle.bools.proofs.BoolLaws.{split, clash, or-false, or-false_left, or-false_right, or_elim}
 use Rattle.bools.proofs.OrderLaws.{eq-or-ne}
 use Rattle.sums.specs.Sum.{on}
-use Rattle.placements.specs.Classes.{Heavies, Classes, cost, price_low, price_high, to_low, taken, paid, stuck_at}
+use Rattle.placements.specs.Classes.{Heavies, Classes, price_low, price_high, to_low, taken, paid, stuck_at}
 use Rattle.placements.specs.Classes.{closes, raised, relabelled}
 
 module _ (g : Heavies) (s : Classes) (i : ℕ) where

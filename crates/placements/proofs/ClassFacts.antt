@@ -9,15 +9,15 @@
 use Prim.Native.Nat.{ℕ, suc, ◌+◌, ◌≤◌, ◌<◌}
 use mathlib.Core.Path.{◌≡◌, refl, sym, ap, ◌∙◌}
 use mathlib.Core.Bool.{Bool, true, false, not, ◌&&◌, ◌||◌}
-use mathlib.Core.Logic.{◌⊎◌, inl, inr, ◌≢◌}
+use mathlib.Core.Logic.{◌⊎◌, inl, inr}
 use native.Mathlib.Omega.{arith}
 use lib.Dec.{eqb}
 use borrow.Author.Tests.{eq-eqb, ne_eqb}
-use Rattle.bools.proofs.BoolLaws.{split, clash, and_intro, or_left, or_right, or-false, or-false_left, or_unit}
+use Rattle.bools.proofs.BoolLaws.{split, clash, and_intro, or_left, or_right, or-false_left, or_unit}
 use Rattle.bools.proofs.BoolLaws.{and-false_left, and-false_right}
 use Rattle.sums.specs.Sum.{on, sum}
 use Rattle.sums.specs.Search.{any}
-use Rattle.sums.proofs.SearchLaws.{any_intro, any_false}
+use Rattle.sums.proofs.SearchLaws.{any_false}
 use Rattle.placements.specs.Classes.{Heavies, Classes, cost}
 use Rattle.placements.proofs.ClassSums.{remove_one}
 

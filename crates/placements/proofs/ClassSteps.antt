@@ -6,7 +6,7 @@
 --     placed-sound      either
 use Prim.Native.Nat.{ℕ, suc, ◌+◌, ◌-◌, ◌≤◌, ◌<◌}
 use mathlib.Core.Path.{◌≡◌, refl, sym, ap, subst, ◌∙◌}
-use mathlib.Core.Bool.{Bool, true, false, not, cond, ◌&&◌, ◌||◌}
+use mathlib.Core.Bool.{Bool, true, false, not, ◌&&◌, ◌||◌}
 use mathlib.Core.Logic.{◌⊎◌, inl, inr, ◌≢◌}
 use native.Mathlib.Omega.{arith}
 use lib.Dec.{eqb}
@@ -20,12 +20,12 @@ use Rattle.sums.specs.Search.{any}
 use Rattle.sums.proofs.SearchLaws.{any_elim, any_none}
 use Rattle.sums.proofs.SumLaws.{sum_cong, sum-le}
 use Rattle.sums.proofs.MoreSumLaws.{on-le-on}
-use Rattle.placements.specs.Classes.{Heavies, Classes, cost, price_low, price_high, taken, paid, stuck_at, closes}
+use Rattle.placements.specs.Classes.{Heavies, Classes, cost, taken, paid, stuck_at, closes}
 use Rattle.placements.specs.Classes.{closed, joined, raised, relabelled, placed}
 use Rattle.placements.proofs.ClassSums.{raised_once, raised_there}
 use Rattle.placements.proofs.ClassFacts.{held, spent, total, Puts, Free, Sound, puts_before, held-before}
 use Rattle.placements.proofs.ClassFacts.{held-here, was_free, spent-at_least, end_open}
-use Rattle.placements.proofs.ClassChoice.{TakesEnd, takes_end, paid-low, paid-high, closes-same, Joins, joins}
+use Rattle.placements.proofs.ClassChoice.{takes_end, paid-low, paid-high, closes-same, Joins, joins}
 use Rattle.placements.proofs.ClassChoice.{as_before, low_high, high_low, relabel_cases, relabel_same}
 use Rattle.placements.proofs.ClassChoice.{relabel_joined}
 use Rattle.placements.proofs.ClassChoice.{raised-by-high, raised-by-low}

@@ -12,7 +12,6 @@ use borrow.Author.Tests.{eqb-true, eq-eqb, ne_eqb}
 use Rattle.bools.proofs.BoolLaws.{split, clash, and_intro, or_left, or_right, or-false}
 use Rattle.bools.proofs.OrderLaws.{last_or_below}
 use Rattle.sums.specs.Sum.{on, sum}
-use Rattle.sums.specs.Search.{any}
 use Rattle.sums.proofs.SearchLaws.{any_intro, any_cong}
 use Rattle.sums.proofs.SumLaws.{on-le, sum_cong, sum-le, sum-term}
 use Rattle.placements.specs.Classes.{Heavies, Classes, cost}

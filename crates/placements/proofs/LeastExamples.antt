@@ -20,7 +20,6 @@ use mathlib.Core.Path.{◌≡◌, refl}
 use mathlib.Core.Bool.{true, false}
 use mathlib.Core.List.{[], ◌∷◌}
 use Rattle.bits.specs.Bits.{is_set}
-use Rattle.fields.specs.Format.{booked_from}
 use Rattle.day.specs.Day.{Day}
 use Rattle.day.specs.SmallSheets.{day_with, booked_day, bay, first, second, both, outside}
 use Rattle.algorithm.specs.Rocks.{lowest, highest}

@@ -16,7 +16,7 @@ use lib.Dec.{eqb, leb, ltb}
 use borrow.Author.Tests.{lt-ltb}
 use Rattle.bools.proofs.BoolLaws.{split}
 use Rattle.bools.proofs.OrderLaws.{lt-or-le, last_or_below}
-use Rattle.sums.specs.Sum.{on, sum, count}
+use Rattle.sums.specs.Sum.{on, count}
 use Rattle.sums.specs.Search.{least}
 use Rattle.sums.specs.Members.{members}
 use Rattle.sums.proofs.SearchLaws.{least-found, least-holds, least-before}

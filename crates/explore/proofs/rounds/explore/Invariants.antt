@@ -1,0 +1,25 @@
+-- The arrays show a state from which the rounds that are left give what the exploration gives (ExploreSets).
+use Prim.Native.Nat.{◌+◌, ◌<◌, ◌^◌, ◌-◌}
+use native.Mathlib.Omega.{arith}
+use mathlib.Core.Path.{◌≡◌, refl, ◌∙◌}
+use lib.ListN.{length, replicate}
+use Rattle.algorithm.specs.Board.{Board}
+use Rattle.algorithm.specs.Forced.{forced_orientations}
+use Rattle.arrays.specs.Arrays.{plus_of}
+use Rattle.rocks.specs.BoardArrays.{Seen, Owned}
+use Rattle.explore.specs.ExploreArrays.{Reaches}
+use Rattle.forced.specs.SetArrays.{Nowhere, forces_at}
+use Rattle.forced.specs.CandidateArrays.{Neutral}
+use Rattle.forced.proofs.NeutralLaws.{neutral_starts}
+use Rattle.explore.proofs.RoundRun.{seen_none}
+use Rattle.explore.proofs.ExploreSets.{covers_touched, Exploration, exploration_starts, exploration_goes_on, exploration_ends, exploration_spent}
+use Rattle.rock_graph.specs.Graph.{ends, lows, highs, weights, RockGraph}
+use Rattle.rock_graph.proofs.GraphLaws.{touched_there, every_bench_there, every_rock_there}
+use borrow.Author.Rules.{rules}
+use Rattle.explore.proofs.rounds.explore.Given as goal
+
+abbrev pub invariant-loop-i : goal.invariant-loop-i
+invariant-loop-i l = (length l.dir ≡ length l.initial.dir) × (length l.load ≡ length l.initial.load) × (length l.joined ≡ length l.initial.joined) × (length l.level ≡ length l.initial.level) × ((b : Board) (G : RockGraph b l.n l.graph) → Owned b l.own → Reaches b l.reach → Seen b (forced_orientations b (replicate b.jobs 0)) l.initial.dir l.initial.load → Nowhere l.n (lows l.graph) (highs l.graph) (forces_at l.n.bound (weights l.graph) l.initial.dir l.initial.load) → Neutral l.n l.initial.dir l.initial.neutral → l.initial.joined ≡ replicate 64 (plus_of l.n.benches 1) → l.initial.level ≡ replicate 64 (plus_of l.n.benches 1) → Exploration b l.n (lows l.graph) (highs l.graph) (weights l.graph) G.rocks l.i l.all l.dir l.load l.joined l.level l.neutral l.active l.fresh l.wait)
+
+abbrev pub decreases-loop-i : goal.decreases-loop-i
+decreases-loop-i l = l.turns - l.i

@@ -1,0 +1,12 @@
+-- A number and a space, and the line of the two others.
+use mathlib.Core.List.{[], ◌∷◌}
+use Rattle.lines.proofs.BufferLaws.{puts_then, puts_as}
+use Rattle.lines.specs.Lines.{digits}
+use Rattle.lines.proofs.LineSteps.{line_word}
+use Rattle.lines.proofs.line.triple.Goals as goal
+
+pub returns : goal.returns
+returns c =
+    let a = c.args in
+    puts_as (line_word (digits a.x) (digits a.y) (digits a.z ∷ []))
+    (puts_then (puts_then c.number-end.ensures c.byte-end.ensures) c.pair.ensures)

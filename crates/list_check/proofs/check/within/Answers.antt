@@ -1,0 +1,10 @@
+-- Each product is that of the definition.
+use Rattle.list_check.proofs.CheckRun.{within_exact}
+use borrow.Author.Rules.{rules}
+use Rattle.list_check.proofs.check.within.Goals as goal
+
+pub returns : goal.returns
+returns c =
+    let x = c.args in
+    λ s sound e small. within_exact s sound x.h e x.load small c.times-scale.ensures
+    c.times.ensures c.plus-share.ensures c.times-2.ensures c.times-3.ensures

@@ -1,0 +1,32 @@
+-- The loop's invariant: the numbers of the first i jobs stand from byte 544 on, and all else is as it was.
+use Prim.Native.Nat.{◌+◌, ◌*◌, ◌-◌, ◌≤◌}
+use native.Mathlib.Omega.{arith}
+use mathlib.Core.Path.{◌≡◌, refl, ◌∙◌}
+use lib.ListN.{length}
+use borrow.Author.Rules.{rules}
+use Rattle.tables.proofs.TableSteps.{put_some}
+use Rattle.bits.specs.Little.{little_all}
+use Rattle.fields.specs.Tests.{job_table}
+use Rattle.frame.proofs.WriterSteps.{written}
+use Rattle.read_door.specs.ReadDoor.{job_numbers}
+use Rattle.read_door.proofs.ReadSteps.{jobs_none, jobs_more}
+use Rattle.read_door.proofs.call.put_jobs.Goals as goal
+
+pub loop-i-init : goal.loop-i-init
+loop-i-init c = (omega arith, refl, jobs_none c.args.contents.now)
+
+pub loop-i-preserved : goal.loop-i-preserved
+loop-i-preserved c =
+    let a = c.args in
+    let more = jobs_more a.contents.now a.minutes.now a.allowed.now c.loop-i.i (omega arith)
+    (omega arith) c.loop-i.invariant.2 (c.put.ensures ∙ put_some _ (68 + 2 * c.loop-i.i) _ (omega arith))
+    (c.put-in-loop-i.ensures ∙ put_some _ (69 + 2 * c.loop-i.i) _ (omega arith)) in
+    (omega arith, c.put-in-loop-i.auto.t ∙ c.put.auto.t ∙ c.loop-i.invariant.1, more)
+
+pub shape_of-contents : goal.shape_of-contents
+shape_of-contents c = c.loop-i.invariant.1
+
+pub returns : goal.returns
+returns c =
+    let e : c.loop-i.i ≡ c.args.n = omega arith in
+    rw (← e) c.loop-i.invariant.2

@@ -1,0 +1,16 @@
+-- `finish`: the stage decides; the numbers were read from fields, so 12 is looked for.
+use mathlib.Core.Path.{◌∙◌}
+use Rattle.checks.proofs.HyperEdges.{checked_fits}
+use Rattle.reading.proofs.reader.finish.Goals as goal
+
+pub returns-in-Closed : goal.returns-in-Closed
+returns-in-Closed c bs =
+    let a = c.args in
+    rw c.in-Closed.is
+    (c.check_hyper_edges.ensures ∙ checked_fits a.minutes.now a.allowed.now a.count a.h c.requires)
+
+pub returns-in-Start : goal.returns-in-Start
+returns-in-Start c bs = rw c.in-Start.is
+
+pub returns-in-Open : goal.returns-in-Open
+returns-in-Open c bs = rw c.in-Open.is

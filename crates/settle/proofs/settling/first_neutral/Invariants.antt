@@ -1,0 +1,16 @@
+-- v is the lowest end of the rocks passed.
+use Prim.Native.Nat.{◌≤◌, ◌-◌}
+use mathlib.Core.Path.{◌≡◌}
+use native.Mathlib.Omega.{arith}
+use Rattle.bits.specs.Bits.{is_set}
+use Rattle.rocks.specs.RockArrays.{lowest_end}
+use Rattle.settle.specs.SettleArrays.{follows_at}
+use Rattle.rocks.proofs.RockLaws.{lowest_none, lowest_more}
+use borrow.Author.Rules.{rules}
+use Rattle.settle.proofs.settling.first_neutral.Given as goal
+
+abbrev pub invariant-loop-r : goal.invariant-loop-r
+invariant-loop-r l = (l.r ≤ l.n.rocks) × (l.v ≡ lowest_end l.n.benches l.r l.low l.high (follows_at l.dir (is_set 64 l.marked)))
+
+abbrev pub decreases-loop-r : goal.decreases-loop-r
+decreases-loop-r l = l.n.rocks - l.r

@@ -1,0 +1,8 @@
+-- The word, the line of the three numbers, and the lines of the jobs.
+use Rattle.lines.proofs.LineSteps.{plan_put}
+use Rattle.texts.proofs.answer.plan_lines.Goals as goal
+
+pub returns : goal.returns
+returns c =
+    let args = c.args in
+    plan_put args.places.now args.a c.bytes-end.ensures c.triple-end.ensures c.jobs.ensures

@@ -1,0 +1,8 @@
+-- `big7`: the definition of `big`, written out from `big4`.
+use native.Mathlib.Omega.{arith}
+use Rattle.bits.specs.Bits.{big}
+use Rattle.unpacking.proofs.bytes.big7.Goals as goal
+
+pub returns : goal.returns
+unfolding big
+returns c = omega arith

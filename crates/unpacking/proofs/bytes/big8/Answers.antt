@@ -1,0 +1,8 @@
+-- `big8`: the definition of `big`, written out from `big7`.
+use native.Mathlib.Omega.{arith}
+use Rattle.bits.specs.Bits.{big}
+use Rattle.unpacking.proofs.bytes.big8.Goals as goal
+
+pub returns : goal.returns
+unfolding big
+returns c = omega arith

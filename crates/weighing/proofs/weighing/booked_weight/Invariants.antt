@@ -1,0 +1,17 @@
+-- What is booked on the benches passed (WeightLaws).
+use Prim.Native.Nat.{◌≤◌, ◌-◌}
+use mathlib.Core.Path.{◌≡◌, refl}
+use native.Mathlib.Omega.{arith}
+use Rattle.sums.specs.Sum.{sum}
+use Rattle.day.specs.Day.{Day}
+use Rattle.weighing.specs.Weights.{Bookings}
+use Rattle.weighing.proofs.WeightLaws.{booked_in, booked_more, booked_ends}
+use borrow.Author.Rules.{rules}
+use Rattle.weighing.proofs.weighing.booked_weight.Given as goal
+
+abbrev pub invariant-loop-v : goal.invariant-loop-v
+invariant-loop-v l = (l.v ≤ l.benches)
+    × ((d : Day) → (B : Bookings d l.benches l.booked) → l.total ≡ sum l.v (booked_in d l.benches l.booked l.set B))
+
+abbrev pub decreases-loop-v : goal.decreases-loop-v
+decreases-loop-v l = l.benches - l.v

@@ -1,0 +1,17 @@
+-- What the light jobs passed weigh that can go nowhere but into the set (WeightLaws).
+use Prim.Native.Nat.{◌≤◌, ◌-◌}
+use mathlib.Core.Path.{◌≡◌, refl}
+use native.Mathlib.Omega.{arith}
+use Rattle.sums.specs.Sum.{sum}
+use Rattle.day.specs.Day.{Day}
+use Rattle.placing.specs.ClassArrays.{Holds}
+use Rattle.weighing.proofs.WeightLaws.{light_at, light-more, light-ends}
+use borrow.Author.Rules.{rules}
+use Rattle.weighing.proofs.weighing.light_weight.Given as goal
+
+abbrev pub invariant-loop-j : goal.invariant-loop-j
+invariant-loop-j l = (l.j ≤ l.jobs)
+    × ((d : Day) → (H : Holds d l.bay l.jobs l.minutes l.allowed) → l.total ≡ sum l.j (light_at d l.bay l.jobs l.minutes l.allowed H))
+
+abbrev pub decreases-loop-j : goal.decreases-loop-j
+decreases-loop-j l = l.jobs - l.j
