@@ -7,7 +7,7 @@
 #     make uninstall    removes what install installed with the same variables
 #     make clean        removes what was compiled from C; what was proved stays
 #
-# Everything is made below target/. CC, CFLAGS and LDFLAGS may come from the command line or the environment.
+# Everything is made below target/, but for what rt makes in crates/*/out. CC, CFLAGS and LDFLAGS may come from the command line or the environment.
 
 VERSION = 0.1.0
 
@@ -33,15 +33,15 @@ fortify = $(if $(filter -O1 -O2 -O3 -Os,$(CFLAGS)),-U_FORTIFY_SOURCE -D_FORTIFY_
 hardening = $(fortify) -fstack-protector-strong -fPIE
 sanitizers = -O1 -g -fsanitize=address,undefined -fno-sanitize-recover=all -fno-omit-frame-pointer
 
-archive = target/staticlib/libyinqocha.a
-bay = target/bin/bay
+archive = crates/yinqocha/out/libyinqocha.a
+bay = crates/bay/out/bay
 command = target/desk/yinqocha
 sanitized = target/desk-sanitized/yinqocha
 
 sources = $(wildcard desk/*/*.c)
 objects = $(sources:desk/%.c=target/desk/%.o)
 sanitized_objects = $(sources:desk/%.c=target/desk-sanitized/%.o)
-proved_sources = crates.txt $(shell find crates -name '*.rt' -o -name '*.antt')
+proved_sources = crates.txt $(shell find crates -path 'crates/*/out' -prune -o \( -name '*.rt' -o -name '*.antt' \) -print)
 
 # The page of the library is found under each function's name too.
 functions = write read plan best compare check_plan check_set check_page
@@ -81,21 +81,23 @@ target/desk-sanitized/compile: FORCE
 target/desk/version: FORCE
 	@$(call keep,$(VERSION))
 
-# What is proved. rt itself finds out what is to be proved again; touch tells make that it has. The two are made one
-# after the other, for both write to rt's folders in target/.
+# What is proved, by a command of rt in the folder of a crate. rt itself finds out what is to be proved again; touch tells
+# make that it has. The two are made one after the other: the second finds the libraries that the first proved. rt runs a
+# program that it makes, here with an empty input.
 prove = if command -v $(RT) >/dev/null 2>&1; then \
-        echo "$(RT) $(1): proves the sources of $@, the first time for some minutes"; \
-        $(RT) $(1) >target/desk/rt.log 2>&1 || { cat target/desk/rt.log >&2; exit 1; }; touch -c $@; \
+        echo "$(RT) $(2) in crates/$(1): proves the sources of $@, which takes long the first time"; \
+        (cd crates/$(1) && $(RT) $(2)) </dev/null >target/desk/rt.log 2>&1 || \
+            { cat target/desk/rt.log >&2; exit 1; }; touch -c $@; \
     elif [ -f $@ ]; then echo "$@ is older than its sources and used as it is, for there is no $(RT)"; \
     else echo "$@ is not there, and there is no $(RT) to make it" >&2; exit 1; fi
 
 $(archive): $(proved_sources)
 	@mkdir -p target/desk
-	@$(call prove,staticlib yinqocha)
+	@$(call prove,yinqocha,lib)
 
 $(bay): $(proved_sources) | $(archive)
 	@mkdir -p target/desk
-	@$(call prove,check bay)
+	@$(call prove,bay,run)
 
 target/desk/man/%: man/% target/desk/version
 	@mkdir -p $(@D)

@@ -1,6 +1,6 @@
 //! Links libyinqocha.a from the folder that YINQOCHA_LIB names; where it names none, from that of
-//! the installed package by pkg-config; where none is installed, from target/staticlib of the
-//! repository. Without the feature `link` it links nothing.
+//! the installed package by pkg-config; where none is installed, from crates/yinqocha/out
+//! of the repository. Without the feature `link` it links nothing.
 
 use std::path::{Path, PathBuf};
 use std::process::{Command, ExitCode};
@@ -47,14 +47,13 @@ fn folder() -> Result<PathBuf, String> {
         return holding(folder, "the folder that pkg-config names");
     }
     let package = PathBuf::from(env::var_os("CARGO_MANIFEST_DIR").unwrap_or_default());
-    holding(package.join("../../target/staticlib"), "target/staticlib of the repository").map_err(
-        |message| {
-            format!(
-                "{message}\nMake it with 'rt staticlib yinqocha', install yinqocha where \
-                 pkg-config finds it, or name its folder with YINQOCHA_LIB."
-            )
-        },
-    )
+    let built = package.join("../../crates/yinqocha/out");
+    holding(built, "crates/yinqocha/out of the repository").map_err(|message| {
+        format!(
+            "{message}\nMake it with 'rt lib' in crates/yinqocha, install yinqocha where \
+             pkg-config finds it, or name its folder with YINQOCHA_LIB."
+        )
+    })
 }
 
 fn holding(folder: PathBuf, what: &str) -> Result<PathBuf, String> {

@@ -5,10 +5,10 @@
  * comparing two plans, bookings.h those of booked benches, answers.h those of the answer table,
  * check_only.h those of jobs of 0 minutes, best.h those of the best target, checks.h those of lists
  * and sets from elsewhere, pages.h those of pages of sets, reading.h those of reading, door.h what
- * all checks use. From the repository root, after `rt staticlib yinqocha`:
+ * all checks use. From the repository root, after `rt lib` in crates/yinqocha:
  *
  *     gcc -std=c11 -Wall -Wextra -Werror -Iinclude tests/c/door.c \
- *         target/staticlib/libyinqocha.a -o target/door
+ *         crates/yinqocha/out/libyinqocha.a -o target/door
  */
 
 #include "answers.h"

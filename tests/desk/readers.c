@@ -6,8 +6,8 @@
  * hold. tests/desk/run builds it with the objects of the desk; by hand, from the repository root:
  *
  *     gcc -std=c11 -D_POSIX_C_SOURCE=200809L -Wall -Wextra -Wconversion -Werror -Idesk -Iinclude \
- *         tests/desk/readers.c desk/day/?*.c desk/base/?*.c target/staticlib/libyinqocha.a \
- *         -o readers
+ *         tests/desk/readers.c desk/day/?*.c desk/base/?*.c \
+ *         crates/yinqocha/out/libyinqocha.a -o readers
  */
 
 #include "readers.h"

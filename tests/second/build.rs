@@ -1,4 +1,4 @@
-//! Links the archive that `rt staticlib yinqocha` writes into the programs that call it.
+//! Links the archive that `rt lib` writes in crates/yinqocha into the programs that call it.
 //! YINQOCHA_ARCHIVES names another folder to take it from.
 
 use std::{env, path::PathBuf};
@@ -17,7 +17,7 @@ fn main() {
     let package = PathBuf::from(env::var("CARGO_MANIFEST_DIR").expect("cargo sets it"));
     let folder = match env::var("YINQOCHA_ARCHIVES") {
         Ok(folder) => PathBuf::from(folder),
-        Err(_) => package.join("../../target/staticlib"),
+        Err(_) => package.join("../../crates/yinqocha/out"),
     };
     let archive = folder.join("libyinqocha.a");
     println!("cargo:rerun-if-changed={}", archive.display());

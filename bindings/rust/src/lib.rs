@@ -35,7 +35,7 @@
 //!
 //! The crate links `libyinqocha.a` from the folder that the environment variable `YINQOCHA_LIB`
 //! names; where it names none, from that of the installed package by `pkg-config`; where none is
-//! installed, from target/staticlib of its repository. Without its default feature `link` it links
+//! installed, from crates/yinqocha/out of its repository. Without its default feature `link` it links
 //! nothing, and the program that uses it brings the archive.
 
 #![no_std]

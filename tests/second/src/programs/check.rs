@@ -8,12 +8,12 @@ use second::planner::algorithm::Planner;
 use second::rng::Rng;
 use second::{hex, printed};
 use std::path::{Path, PathBuf};
+use std::process::exit;
 use std::process::Command;
-use std::{env, process::exit};
 
 const ROOT: &str = concat!(env!("CARGO_MANIFEST_DIR"), "/../..");
 
-/// The programs of target/bin, and the scripts that run them.
+/// The programs of crates/*/out, and the scripts that run them.
 const PROGRAMS: [&str; 3] = ["bay", "show", "best"];
 
 pub struct Check {
@@ -21,23 +21,19 @@ pub struct Check {
     pub tally: Tally,
     planner: Planner,
     codec: Codec,
-    folder: PathBuf,
+    programs: [PathBuf; 3],
     seed: u64,
     class: &'static str,
 }
 
 impl Check {
     pub fn new(seed: u64) -> Check {
-        let folder = match env::var_os("YINQOCHA_PROGRAMS") {
-            Some(folder) => PathBuf::from(folder),
-            None => Path::new(ROOT).join("target/bin"),
-        };
         Check {
             rng: Rng::new(seed),
             tally: Tally::default(),
             planner: Planner::new(),
             codec: Codec::default(),
-            folder,
+            programs: PROGRAMS.map(process::proved),
             seed,
             class: "",
         }
@@ -52,8 +48,8 @@ impl Check {
     pub fn sheet(&mut self, sheet: &[u8], feed: Feed) -> [String; 3] {
         self.tally.count_sheet(self.class);
         let texts = self.texts(sheet);
-        for (program, text) in PROGRAMS.into_iter().zip(&texts) {
-            let mut command = Command::new(self.folder.join(program));
+        for ((program, path), text) in PROGRAMS.into_iter().zip(&self.programs).zip(&texts) {
+            let mut command = Command::new(path);
             self.prints(&mut command, sheet, feed, text);
             self.expect("no sheet meets fault 10", !text.starts_with("fault 10 "), sheet);
             self.tally.count_text(program, text);

@@ -1,6 +1,6 @@
 //! Runs the programs behind `./bay`, `./show` and `./best` on sheets, and compares what they print
-//! with what the second implementation says, byte by byte. They are those of target/bin, which `rt
-//! check` makes; YINQOCHA_PROGRAMS names another folder.
+//! with what the second implementation says, byte by byte. They are those of crates/*/out, which `rt
+//! ci` and `rt run` make; YINQOCHA_PROGRAMS names one folder with all of them.
 //!
 //! Arguments: the seed (default 1) and the least number of sheets (default 600).
 

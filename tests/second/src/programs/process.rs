@@ -1,8 +1,11 @@
 //! A program that is given its standard input through a pipe.
 
 use std::io::{self, ErrorKind, Write};
+use std::path::{Path, PathBuf};
 use std::process::{ChildStdin, Command, Output, Stdio};
-use std::{thread, time::Duration};
+use std::{env, thread, time::Duration};
+
+const CRATES: &str = concat!(env!("CARGO_MANIFEST_DIR"), "/../../crates");
 
 /// Between two pieces, so that the program has read the first and waits.
 const PAUSE: Duration = Duration::from_millis(1);
@@ -13,6 +16,12 @@ pub enum Feed {
     AtOnce,
     /// In pieces of this many bytes.
     Pieces(usize),
+}
+
+/// Where a proved program stands: in the folder that YINQOCHA_PROGRAMS names, or where `rt` leaves it.
+pub fn proved(name: &str) -> PathBuf {
+    let folder = env::var_os("YINQOCHA_PROGRAMS").map(PathBuf::from);
+    folder.unwrap_or_else(|| Path::new(CRATES).join(name).join("out")).join(name)
 }
 
 /// Runs a program until it ends.

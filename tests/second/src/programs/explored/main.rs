@@ -1,6 +1,6 @@
 //! Runs the program `explored` on sheets, and compares what it prints with what the second planner's
-//! last exploration sees, byte by byte. It is that of target/bin; YINQOCHA_PROGRAMS names another
-//! folder.
+//! last exploration sees, byte by byte. It is that of crates/explored/out; YINQOCHA_PROGRAMS names
+//! another folder.
 //!
 //! Arguments: the seed (default 1) and the least number of sheets (default 1000).
 
@@ -16,9 +16,9 @@ use second::gen::day::Day;
 use second::rng::Rng;
 use second::{arguments, hex};
 use std::collections::BTreeMap;
+use std::fs;
 use std::path::PathBuf;
 use std::process::{exit, Command, ExitCode};
-use std::{env, fs};
 
 const ROOT: &str = concat!(env!("CARGO_MANIFEST_DIR"), "/../..");
 const SHEETS: u64 = 1000;
@@ -51,9 +51,7 @@ fn main() -> ExitCode {
         Ok(arguments) => arguments,
         Err(code) => return code,
     };
-    let folder = env::var_os("YINQOCHA_PROGRAMS").map(PathBuf::from);
-    let folder = folder.unwrap_or_else(|| PathBuf::from(ROOT).join("target/bin"));
-    let program = folder.join("explored");
+    let program = process::proved("explored");
     let (rng, codec, met) = (Rng::new(seed), Codec::default(), BTreeMap::new());
     let mut check = Check { rng, seed, codec, program, sheets: 0, met };
     let sample = fs::read(PathBuf::from(ROOT).join("samples/levels.sheet"));
