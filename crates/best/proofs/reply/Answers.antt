@@ -1,5 +1,5 @@
 -- The text lies within its buffer.
-use Rattle.std.proofs.Common.{length, sym}
+use Rattle.std.proofs.Common.{sym}
 use Rattle.std.proofs.lemmas.List.{length-take-le}
 use Rattle.printing.proofs.InputText.{text_within}
 use Rattle.best.specs.Printed.{best_printed}

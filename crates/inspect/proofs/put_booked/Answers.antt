@@ -1,5 +1,4 @@
 -- The part of the table behind the head's numbers has room for 64 more, and becomes these.
-use borrow.Author.Rules.{rules}
 use Rattle.inspect.proofs.InspectSteps.{booked_put}
 use Rattle.inspect.proofs.put_booked.Goals as goal
 

@@ -1,17 +1,13 @@
 -- Who left has the round, and the array shows a state from which the rest of the loop gives what it gives from the start (ActiveSets, ActivateRun).
 use Prim.Native.Nat.{ℕ, ◌≤◌}
 use mathlib.Core.List.{List}
-use native.Mathlib.Omega.{arith}
-use mathlib.Core.Path.{refl, ap, ◌∙◌}
-use lib.ListN.{length, length-set}
 use Rattle.algorithm.specs.Board.{Board, Directions}
 use Rattle.rocks.specs.BoardArrays.{rocks_of, Rocks, Directed, Owned, Rounds}
-use Rattle.activation.specs.ActivationArrays.{activates_at, Waits}
+use Rattle.activation.specs.ActivationArrays.{Waits}
 use Rattle.rock_graph.specs.Neighbours.{Incident}
-use Rattle.activation.proofs.ActivateRun.{Activating, activating_starts, activating_spent}
-use Rattle.activation.proofs.ActiveSets.{Leaving, leaving_starts, leaving_goes_on, active_goes_on, active_ends}
+use Rattle.activation.proofs.ActivateRun.{Activating}
+use Rattle.activation.proofs.ActiveSets.{Leaving}
 use Rattle.rock_graph.specs.Graph.{incidents, lows, highs, weights}
-use borrow.Author.Rules.{rules}
 use Rattle.activation.proofs.rules.activate.Given as goal
 
 abbrev pub invariant-loop-turns : goal.invariant-loop-turns

@@ -1,13 +1,12 @@
 -- By cases on the tests.
 use mathlib.Core.Path.{ap}
 use mathlib.Core.Bool.{not, ◌&&◌, ◌||◌}
-use Rattle.bools.proofs.BoolLaws.{not-true, not-false, not_intro_true, not_intro_false}
+use Rattle.bools.proofs.BoolLaws.{not_intro_true, not_intro_false}
 use Rattle.arrays.proofs.ArrayLaws.{and_not, and_rest}
 use Rattle.rocks.specs.RockArrays.{within_at}
 use Rattle.activation.specs.ActivationArrays.{rule_one_at, rule_two_at}
 use Rattle.arrays.proofs.ArrayLaws.{and_not_second, or_yes, or_rest}
 use Rattle.rock_graph.specs.Graph.{lows, highs, weights}
-use borrow.Author.Rules.{rules}
 use Rattle.activation.proofs.rules.activates.Goals as goal
 
 pub returns-then-not-within : goal.returns-then-not-within

@@ -7,7 +7,6 @@ use Rattle.activation.specs.ActivationArrays.{activates_at}
 use Rattle.sets.proofs.SetRun.{lowest-below, Searched, searched_starts, searched_goes_on}
 use Rattle.activation.proofs.RockSearch.{some_yes, some_no}
 use Rattle.rock_graph.specs.Graph.{incidents, lows, highs, weights}
-use borrow.Author.Rules.{rules}
 use Rattle.activation.proofs.rules.active_by.Goals as goal
 
 pub loop-left-init : goal.loop-left-init

@@ -1,13 +1,8 @@
 -- No rock passed activates the bench (SetRun, OpenRun).
-use Prim.Native.Nat.{ℕ, ◌<◌, ◌^◌}
-use mathlib.Core.Path.{sym, subst, ◌∙◌}
-use native.Mathlib.Omega.{arith}
 use lib.ListN.{get_or}
 use Rattle.activation.specs.ActivationArrays.{activates_at}
-use Rattle.sets.proofs.SetRun.{lowest-below, Searched, searched_starts, searched_goes_on}
-use Rattle.activation.proofs.RockSearch.{some_yes, some_no}
+use Rattle.sets.proofs.SetRun.{Searched}
 use Rattle.rock_graph.specs.Graph.{incidents, lows, highs, weights}
-use borrow.Author.Rules.{rules}
 use Rattle.activation.proofs.rules.active_by.Given as goal
 
 abbrev pub invariant-loop-left : goal.invariant-loop-left

@@ -3,10 +3,9 @@ use mathlib.Core.Path.{sym, ◌∙◌}
 use native.Mathlib.Omega.{arith}
 use Rattle.activation.specs.ActivationArrays.{activates_at}
 use Rattle.forced.specs.CandidateArrays.{some_rock}
-use Rattle.sets.proofs.SetRun.{lowest-below, Searched, searched_starts, searched_goes_on}
+use Rattle.sets.proofs.SetRun.{lowest-below, searched_starts, searched_goes_on}
 use Rattle.forced.proofs.CandidateLaws.{bench_found, bench_none}
 use Rattle.rock_graph.specs.Graph.{incidents, lows, highs, weights}
-use borrow.Author.Rules.{rules}
 use Rattle.activation.proofs.rules.first_active.Goals as goal
 
 pub loop-left-init : goal.loop-left-init

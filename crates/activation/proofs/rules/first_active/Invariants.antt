@@ -1,12 +1,8 @@
 -- No bench passed is to be activated (SetRun, CandidateLaws).
-use mathlib.Core.Path.{sym, ◌∙◌}
-use native.Mathlib.Omega.{arith}
 use Rattle.activation.specs.ActivationArrays.{activates_at}
 use Rattle.forced.specs.CandidateArrays.{some_rock}
-use Rattle.sets.proofs.SetRun.{lowest-below, Searched, searched_starts, searched_goes_on}
-use Rattle.forced.proofs.CandidateLaws.{bench_found, bench_none}
+use Rattle.sets.proofs.SetRun.{Searched}
 use Rattle.rock_graph.specs.Graph.{incidents, lows, highs, weights}
-use borrow.Author.Rules.{rules}
 use Rattle.activation.proofs.rules.first_active.Given as goal
 
 abbrev pub invariant-loop-left : goal.invariant-loop-left

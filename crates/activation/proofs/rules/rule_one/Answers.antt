@@ -1,12 +1,10 @@
 -- By cases on the first test.
 use mathlib.Core.Path.{ap₂, ◌∙◌}
 use Prim.Native.Nat.{ℕ, ◌+◌}
-use Rattle.bools.proofs.BoolLaws.{not-true, not-false}
 use Rattle.arrays.proofs.ArrayLaws.{and_not, and_rest}
 use lib.Dec.{ltb}
 use lib.ListN.{get_or}
 use Rattle.rock_graph.specs.Graph.{weights}
-use borrow.Author.Rules.{rules}
 use Rattle.activation.proofs.rules.rule_one.Goals as goal
 
 pub returns-then-not-father : goal.returns-then-not-father

@@ -2,7 +2,6 @@
 use mathlib.Core.Path.{ap, ◌∙◌}
 use Prim.Native.Nat.{ℕ}
 use mathlib.Core.Bool.{◌&&◌, ◌||◌}
-use Rattle.bools.proofs.BoolLaws.{not-true, not-false}
 use Rattle.arrays.proofs.ArrayLaws.{and_not, and_rest}
 use native.Mathlib.Omega.{arith}
 use lib.Dec.{ltb}
@@ -11,7 +10,6 @@ use borrow.Author.Tests.{lt-ltb, le-ltb}
 use Rattle.rocks.specs.RockArrays.{within_at, other_at, father_at, child_at}
 use Rattle.arrays.proofs.ArrayLaws.{and_not_second, or_yes, or_rest}
 use Rattle.rock_graph.specs.Graph.{lows, highs, weights}
-use borrow.Author.Rules.{rules}
 use Rattle.activation.proofs.rules.rule_two.Goals as goal
 
 pub returns-then-n-weight : goal.returns-then-n-weight

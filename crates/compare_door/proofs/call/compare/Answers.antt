@@ -1,6 +1,5 @@
 -- The two lists that were loaded are the first 513 entries of each, and the comparison gives the same for them as
 -- for all.
-use borrow.Author.Rules.{rules}
 use Rattle.tables.proofs.TableSteps.{empty, room, loaded_front, loaded-length}
 use Rattle.compare_door.proofs.CompareSteps.{same_word, different_word, fault_word_lem}
 use Rattle.compare_door.proofs.call.compare.Goals as goal

@@ -1,6 +1,5 @@
 -- By cases on the verdict.
 use Rattle.comparison.proofs.CompareRun.{refused_is, accepted_is}
-use borrow.Author.Rules.{rules}
 use Rattle.comparison.proofs.comparison.compare.Goals as goal
 
 pub returns-in-Refused : goal.returns-in-Refused

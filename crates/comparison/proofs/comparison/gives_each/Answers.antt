@@ -4,7 +4,6 @@ use lib.ListN.{length}
 use Rattle.sums.specs.Search.{all}
 use Rattle.lists.specs.Lists.{fits_at}
 use Rattle.comparison.proofs.CompareRun.{other_length, right_length}
-use borrow.Author.Rules.{rules}
 use Rattle.comparison.proofs.comparison.gives_each.Goals as goal
 
 pub returns-then-list-jobs : goal.returns-then-list-jobs

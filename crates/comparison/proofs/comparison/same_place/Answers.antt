@@ -1,7 +1,6 @@
 -- One entry of each list.
 use mathlib.Core.Path.{ap₂}
 use lib.Dec.{eqb}
-use borrow.Author.Rules.{rules}
 use Rattle.comparison.proofs.comparison.same_place.Goals as goal
 
 pub returns : goal.returns

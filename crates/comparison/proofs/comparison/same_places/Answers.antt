@@ -1,12 +1,9 @@
 -- Every job passed is on the same bench.
-use Prim.Native.Nat.{ℕ, ◌≤◌, ◌<◌, ◌-◌}
-use mathlib.Core.Path.{◌≡◌}
+use Prim.Native.Nat.{◌-◌}
 use mathlib.Core.Bool.{true}
 use native.Mathlib.Omega.{arith}
-use Rattle.bools.proofs.BoolLaws.{not-true, not-false}
 use Rattle.lists.proofs.ListRun.{all-fails_here, all_more, all-holds}
 use Rattle.comparison.specs.Comparison.{same_place}
-use borrow.Author.Rules.{rules}
 use Rattle.comparison.proofs.comparison.same_places.Goals as goal
 
 pub loop-j-init : goal.loop-j-init

@@ -2,11 +2,7 @@
 use Prim.Native.Nat.{ℕ, ◌≤◌, ◌<◌, ◌-◌}
 use mathlib.Core.Path.{◌≡◌}
 use mathlib.Core.Bool.{true}
-use native.Mathlib.Omega.{arith}
-use Rattle.bools.proofs.BoolLaws.{not-true, not-false}
-use Rattle.lists.proofs.ListRun.{all-fails_here, all_more, all-holds}
 use Rattle.comparison.specs.Comparison.{same_place}
-use borrow.Author.Rules.{rules}
 use Rattle.comparison.proofs.comparison.same_places.Given as goal
 
 abbrev pub invariant-loop-j : goal.invariant-loop-j

@@ -1,16 +1,9 @@
 -- The array and the sets show a state from which the rest of the loop gives what it gives from the start (ConflictLoops).
-use Prim.Native.Nat.{ℕ, ◌≤◌}
-use mathlib.Core.Path.{◌≡◌, refl, ap, ◌∙◌}
-use mathlib.Core.List.{List}
+use mathlib.Core.Path.{refl, ap, ◌∙◌}
 use native.Mathlib.Omega.{arith}
 use lib.ListN.{length, length-set}
-use Rattle.algorithm.specs.Board.{Board, Directions}
-use Rattle.rocks.specs.BoardArrays.{Directed, Rounds}
-use Rattle.conflict.specs.ConflictArrays.{joins_at}
-use Rattle.forced.specs.SetArrays.{Covers}
-use Rattle.conflict.proofs.ConflictLoops.{Closes, closes_starts, closes_goes_on, closes_ends, closes_spent}
-use Rattle.rock_graph.specs.Graph.{ends, incidents, lows, highs, weights, RockGraph}
-use borrow.Author.Rules.{rules}
+use Rattle.conflict.proofs.ConflictLoops.{closes_starts, closes_goes_on, closes_ends, closes_spent}
+use Rattle.rock_graph.specs.Graph.{ends, incidents, lows, highs, weights}
 use Rattle.conflict.proofs.conflict.close.Goals as goal
 
 pub loop-turns-init : goal.loop-turns-init
@@ -27,7 +20,8 @@ pub shape_of-joined-then-v-gt63 : goal.shape_of-joined-then-v-gt63
 shape_of-joined-then-v-gt63 c = c.loop-turns.invariant.0
 
 pub returns-then-v-gt63 : goal.returns-then-v-gt63
-returns-then-v-gt63 c = λ b dirs xs G hi C D X. let at-args = c.args in let at_first = c.first_joining-v in closes_ends b at-args.n (lows at-args.graph.now) (highs at-args.graph.now) (weights at-args.graph.now) G.rocks G.few_rocks (incidents at-args.graph.now) G.maps.incidence at-args.i dirs xs at-args.dir.now at-args.joined.now hi D X (c.loop-turns.invariant.1 b dirs xs G hi C D X) at_first.result at_first.ensures (omega arith)
+returns-then-v-gt63 c = λ b dirs xs G hi C D X. let at-args = c.args in
+let at_first = c.first_joining-v in closes_ends b at-args.n (lows at-args.graph.now) (highs at-args.graph.now) (weights at-args.graph.now) G.rocks G.few_rocks (incidents at-args.graph.now) G.maps.incidence at-args.i dirs xs at-args.dir.now at-args.joined.now hi D X (c.loop-turns.invariant.1 b dirs xs G hi C D X) at_first.result at_first.ensures (omega arith)
 
 pub loop-turns-preserved : goal.loop-turns-preserved
 loop-turns-preserved c =

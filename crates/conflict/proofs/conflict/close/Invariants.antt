@@ -1,16 +1,14 @@
 -- The array and the sets show a state from which the rest of the loop gives what it gives from the start (ConflictLoops).
 use Prim.Native.Nat.{ℕ, ◌≤◌}
-use mathlib.Core.Path.{◌≡◌, refl, ap, ◌∙◌}
+use mathlib.Core.Path.{◌≡◌}
 use mathlib.Core.List.{List}
-use native.Mathlib.Omega.{arith}
-use lib.ListN.{length, length-set}
+use lib.ListN.{length}
 use Rattle.algorithm.specs.Board.{Board, Directions}
 use Rattle.rocks.specs.BoardArrays.{Directed, Rounds}
 use Rattle.conflict.specs.ConflictArrays.{joins_at}
 use Rattle.forced.specs.SetArrays.{Covers}
-use Rattle.conflict.proofs.ConflictLoops.{Closes, closes_starts, closes_goes_on, closes_ends, closes_spent}
-use Rattle.rock_graph.specs.Graph.{ends, incidents, lows, highs, weights, RockGraph}
-use borrow.Author.Rules.{rules}
+use Rattle.conflict.proofs.ConflictLoops.{Closes}
+use Rattle.rock_graph.specs.Graph.{incidents, lows, highs, weights, RockGraph}
 use Rattle.conflict.proofs.conflict.close.Given as goal
 
 abbrev pub invariant-loop-turns : goal.invariant-loop-turns

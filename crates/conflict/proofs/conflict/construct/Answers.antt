@@ -1,14 +1,9 @@
 -- The arrays and the sets show a state from which the rest of the loop gives what it gives from the start (ConflictLoops).
-use Prim.Native.Nat.{ℕ}
-use mathlib.Core.Path.{◌≡◌, refl, ap, ◌∙◌}
-use mathlib.Core.List.{List}
+use mathlib.Core.Path.{refl, ap, ◌∙◌}
 use native.Mathlib.Omega.{arith}
 use lib.ListN.{length, length-set}
-use Rattle.algorithm.specs.Board.{Board, Directions}
-use Rattle.conflict.specs.ConflictArrays.{Opened}
-use Rattle.conflict.proofs.ConflictLoops.{Builds, builds_starts, builds_goes_on, builds_ends, builds_spent}
-use Rattle.rock_graph.specs.Graph.{incidents, lows, highs, weights, RockGraph}
-use borrow.Author.Rules.{rules}
+use Rattle.conflict.proofs.ConflictLoops.{builds_starts, builds_goes_on, builds_ends, builds_spent}
+use Rattle.rock_graph.specs.Graph.{incidents, lows, highs, weights}
 use Rattle.conflict.proofs.conflict.construct.Goals as goal
 
 pub loop-turns-init : goal.loop-turns-init
@@ -37,7 +32,12 @@ shape_of-joined-then-v-gt63 c =
     at-close.auto.joined ∙ at-loop.invariant.2
 
 pub returns-then-v-gt63 : goal.returns-then-v-gt63
-returns-then-v-gt63 c = λ b dirs xs G P. let at-args = c.args in let at-loop = c.loop-turns in let at-close = c.close-more in let at-fake = c.first_fake-v in let now-is = at-loop.invariant.3 b dirs xs G P in let E = builds_ends b at-args.n (lows at-args.graph.now) (highs at-args.graph.now) (weights at-args.graph.now) G.rocks G.few_rocks (incidents at-args.graph.now) G.maps.incidence now-is _ at-close.result (at-close.ensures b now-is.building.now_dirs now-is.building.now_xs G P.round now-is.joining now-is.building.seen.directed now-is.building.rounds) at-fake.result (at-fake.ensures at-args.n at-loop.dir G.maps.incidence now-is.free) (omega arith) in (E.0, E.1, record { joined_all = E.2; faked_all = E.3; unforced = E.4; free = E.5 })
+returns-then-v-gt63 c = λ b dirs xs G P. let at-args = c.args in
+let at-loop = c.loop-turns in
+let at-close = c.close-more in
+let at-fake = c.first_fake-v in
+let now-is = at-loop.invariant.3 b dirs xs G P in
+let E = builds_ends b at-args.n (lows at-args.graph.now) (highs at-args.graph.now) (weights at-args.graph.now) G.rocks G.few_rocks (incidents at-args.graph.now) G.maps.incidence now-is _ at-close.result (at-close.ensures b now-is.building.now_dirs now-is.building.now_xs G P.round now-is.joining now-is.building.seen.directed now-is.building.rounds) at-fake.result (at-fake.ensures at-args.n at-loop.dir G.maps.incidence now-is.free) (omega arith) in (E.0, E.1, record { joined_all = E.2; faked_all = E.3; unforced = E.4; free = E.5 })
 
 pub overflow_sub-turns : goal.overflow_sub-turns
 overflow_sub-turns c =
@@ -93,4 +93,8 @@ shape_of-joined c =
     c.close-more-2.auto.joined ∙ at-loop.invariant.2
 
 pub returns : goal.returns
-returns c = λ b dirs xs G P. let at-args = c.args in let at-loop = c.loop-turns in let at-close = c.close-more-2 in let now-is = at-loop.invariant.3 b dirs xs G P in let E = builds_spent b at-args.n (lows at-args.graph.now) (highs at-args.graph.now) (weights at-args.graph.now) G.rocks G.few_rocks (incidents at-args.graph.now) G.maps.incidence now-is _ at-close.result (at-close.ensures b now-is.building.now_dirs now-is.building.now_xs G P.round now-is.joining now-is.building.seen.directed now-is.building.rounds) (omega (arith, c.loop-turns-test.false)) in (E.0, E.1, record { joined_all = E.2; faked_all = E.3; unforced = E.4; free = E.5 })
+returns c = λ b dirs xs G P. let at-args = c.args in
+let at-loop = c.loop-turns in
+let at-close = c.close-more-2 in
+let now-is = at-loop.invariant.3 b dirs xs G P in
+let E = builds_spent b at-args.n (lows at-args.graph.now) (highs at-args.graph.now) (weights at-args.graph.now) G.rocks G.few_rocks (incidents at-args.graph.now) G.maps.incidence now-is _ at-close.result (at-close.ensures b now-is.building.now_dirs now-is.building.now_xs G P.round now-is.joining now-is.building.seen.directed now-is.building.rounds) (omega (arith, c.loop-turns-test.false)) in (E.0, E.1, record { joined_all = E.2; faked_all = E.3; unforced = E.4; free = E.5 })

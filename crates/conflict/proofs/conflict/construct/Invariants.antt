@@ -1,14 +1,12 @@
 -- The arrays and the sets show a state from which the rest of the loop gives what it gives from the start (ConflictLoops).
 use Prim.Native.Nat.{ℕ}
-use mathlib.Core.Path.{◌≡◌, refl, ap, ◌∙◌}
+use mathlib.Core.Path.{◌≡◌}
 use mathlib.Core.List.{List}
-use native.Mathlib.Omega.{arith}
-use lib.ListN.{length, length-set}
+use lib.ListN.{length}
 use Rattle.algorithm.specs.Board.{Board, Directions}
 use Rattle.conflict.specs.ConflictArrays.{Opened}
-use Rattle.conflict.proofs.ConflictLoops.{Builds, builds_starts, builds_goes_on, builds_ends, builds_spent}
+use Rattle.conflict.proofs.ConflictLoops.{Builds}
 use Rattle.rock_graph.specs.Graph.{incidents, lows, highs, weights, RockGraph}
-use borrow.Author.Rules.{rules}
 use Rattle.conflict.proofs.conflict.construct.Given as goal
 
 abbrev pub invariant-loop-turns : goal.invariant-loop-turns

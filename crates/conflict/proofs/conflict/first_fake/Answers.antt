@@ -1,16 +1,11 @@
 -- No candidate passed has a neutral rock.
-use Prim.Native.Nat.{ℕ, ◌≤◌}
-use mathlib.Core.List.{List}
 use native.Mathlib.Omega.{arith}
-use Rattle.rocks.specs.declared.rocks.Limits.{Limits}
 use Rattle.conflict.specs.ConflictArrays.{fake_at}
-use Rattle.rock_graph.specs.Neighbours.{Incident}
-use Rattle.forced.specs.CandidateArrays.{Neutral, some_rock}
-use Rattle.sets.proofs.SetRun.{Searched, searched_starts, searched_goes_on}
+use Rattle.forced.specs.CandidateArrays.{some_rock}
+use Rattle.sets.proofs.SetRun.{searched_starts, searched_goes_on}
 use Rattle.forced.proofs.CandidateLaws.{rock_found, rock_none, bench_found, bench_none}
 use Rattle.sets.proofs.SetRun.{first_below}
-use Rattle.rock_graph.specs.Graph.{incidents, lows, highs}
-use borrow.Author.Rules.{rules}
+use Rattle.rock_graph.specs.Graph.{incidents}
 use Rattle.conflict.proofs.conflict.first_fake.Goals as goal
 
 pub loop-left-init : goal.loop-left-init
@@ -22,7 +17,12 @@ loop-left-init c =
     )
 
 pub returns-then-fake_rock-lt64 : goal.returns-then-fake_rock-lt64
-returns-then-fake_rock-lt64 c = λ n dir H N. let at-args = c.args in let at-loop = c.loop-left in let at-lowest = c.lowest-v in let at-rock = c.fake_rock in let P = fake_at at-args.benches dir at-args.joined.now in let below = first_below at-args.fakes at-loop.left at-lowest.result at-lowest.ensures c.loop-left-test.true at-loop.invariant.0 c.ranges.fakes.fits in bench_found (incidents at-args.graph.now) P at-args.fakes at-loop.left (at-loop.invariant.1 n dir H N) at-lowest.result at-lowest.ensures below (rock_found (incidents at-args.graph.now) P at-lowest.result at-rock.result (at-rock.ensures n dir H N below) c.if-fake_rock-lt64.true)
+returns-then-fake_rock-lt64 c = λ n dir H N. let at-args = c.args in
+let at-loop = c.loop-left in
+let at-lowest = c.lowest-v in
+let at-rock = c.fake_rock in
+let P = fake_at at-args.benches dir at-args.joined.now in
+let below = first_below at-args.fakes at-loop.left at-lowest.result at-lowest.ensures c.loop-left-test.true at-loop.invariant.0 c.ranges.fakes.fits in bench_found (incidents at-args.graph.now) P at-args.fakes at-loop.left (at-loop.invariant.1 n dir H N) at-lowest.result at-lowest.ensures below (rock_found (incidents at-args.graph.now) P at-lowest.result at-rock.result (at-rock.ensures n dir H N below) c.if-fake_rock-lt64.true)
 
 pub loop-left-smaller : goal.loop-left-smaller
 loop-left-smaller c =
@@ -55,4 +55,5 @@ loop-left-preserved c =
     )
 
 pub returns : goal.returns
-returns c = λ n dir H N. let at-args = c.args in let at-loop = c.loop-left in bench_none (incidents at-args.graph.now) (fake_at at-args.benches dir at-args.joined.now) at-args.fakes at-loop.left (at-loop.invariant.1 n dir H N) (omega arith)
+returns c = λ n dir H N. let at-args = c.args in
+let at-loop = c.loop-left in bench_none (incidents at-args.graph.now) (fake_at at-args.benches dir at-args.joined.now) at-args.fakes at-loop.left (at-loop.invariant.1 n dir H N) (omega arith)

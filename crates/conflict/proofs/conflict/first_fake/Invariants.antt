@@ -1,16 +1,12 @@
 -- No candidate passed has a neutral rock.
 use Prim.Native.Nat.{ℕ, ◌≤◌}
 use mathlib.Core.List.{List}
-use native.Mathlib.Omega.{arith}
 use Rattle.rocks.specs.declared.rocks.Limits.{Limits}
 use Rattle.conflict.specs.ConflictArrays.{fake_at}
 use Rattle.rock_graph.specs.Neighbours.{Incident}
 use Rattle.forced.specs.CandidateArrays.{Neutral, some_rock}
-use Rattle.sets.proofs.SetRun.{Searched, searched_starts, searched_goes_on}
-use Rattle.forced.proofs.CandidateLaws.{rock_found, rock_none, bench_found, bench_none}
-use Rattle.sets.proofs.SetRun.{first_below}
+use Rattle.sets.proofs.SetRun.{Searched}
 use Rattle.rock_graph.specs.Graph.{incidents, lows, highs}
-use borrow.Author.Rules.{rules}
 use Rattle.conflict.proofs.conflict.first_fake.Given as goal
 
 abbrev pub invariant-loop-left : goal.invariant-loop-left

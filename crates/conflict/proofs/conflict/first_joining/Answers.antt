@@ -2,11 +2,10 @@
 use native.Mathlib.Omega.{arith}
 use Rattle.conflict.specs.ConflictArrays.{joins_at}
 use Rattle.forced.specs.CandidateArrays.{some_rock}
-use Rattle.sets.proofs.SetRun.{Searched, searched_starts, searched_goes_on}
+use Rattle.sets.proofs.SetRun.{searched_starts, searched_goes_on}
 use Rattle.forced.proofs.CandidateLaws.{rock_found, rock_none, bench_found, bench_none}
 use Rattle.sets.proofs.SetRun.{first_below}
 use Rattle.rock_graph.specs.Graph.{incidents, lows, highs}
-use borrow.Author.Rules.{rules}
 use Rattle.conflict.proofs.conflict.first_joining.Goals as goal
 
 pub loop-left-init : goal.loop-left-init

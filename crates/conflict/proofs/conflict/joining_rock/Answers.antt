@@ -8,12 +8,11 @@ use Rattle.bools.proofs.BoolLaws.{and-false_left, not_intro_true, not_intro_fals
 use Rattle.rocks.specs.RockArrays.{father_at}
 use Rattle.conflict.specs.ConflictArrays.{joins_at}
 use Rattle.arrays.proofs.ArrayLaws.{and_rest}
-use Rattle.sets.proofs.SetRun.{Searched, searched_goes_on}
+use Rattle.sets.proofs.SetRun.{searched_goes_on}
 use Rattle.forced.proofs.CandidateLaws.{listed_found, listed-none}
 use Rattle.conflict.proofs.ConflictLoops.{rock_out, rock_starts}
 use Rattle.sets.proofs.SetRun.{first_below}
 use Rattle.rock_graph.specs.Graph.{incidents, lows, highs}
-use borrow.Author.Rules.{rules}
 use Rattle.conflict.proofs.conflict.joining_rock.Goals as goal
 
 pub returns-then-within : goal.returns-then-within

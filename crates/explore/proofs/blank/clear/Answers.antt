@@ -1,6 +1,5 @@
 -- Table by table (BlankRun).
 use Rattle.explore.proofs.BlankRun.{cleared}
-use borrow.Author.Rules.{rules}
 use Rattle.explore.proofs.blank.clear.Goals as goal
 
 pub returns : goal.returns

@@ -4,7 +4,6 @@ use Prim.Native.Nat.{ℕ}
 use lib.ListN.{get_or, set}
 use lib.Bits.{bit_or}
 use Rattle.explore.proofs.ExploreLaws.{cond_yes, cond_no}
-use borrow.Author.Rules.{rules}
 use Rattle.explore.proofs.rounds.add_pebble.Goals as goal
 
 pub returns-then-holds : goal.returns-then-holds

@@ -1,9 +1,7 @@
 -- By cases on the test.
-use Rattle.bools.proofs.BoolLaws.{not-true, not-false}
 use mathlib.Core.Path.{refl}
 use lib.ListN.{set}
 use Rattle.explore.proofs.ExploreLaws.{cond_yes, cond_no}
-use borrow.Author.Rules.{rules}
 use Rattle.explore.proofs.rounds.enter.Goals as goal
 
 pub returns-then-not-within : goal.returns-then-not-within

@@ -1,8 +1,7 @@
 -- The benches passed have joined (OpenRun), and have the level (SetRun).
 use native.Mathlib.Omega.{arith}
-use Rattle.sets.proofs.SetRun.{lowest-below, Put, put_starts, put_goes_on, put_ends}
-use Rattle.explore.proofs.OpenRun.{Entering, entering_starts, entering_goes_on, entering_ends}
-use borrow.Author.Rules.{rules}
+use Rattle.sets.proofs.SetRun.{lowest-below, put_starts, put_goes_on, put_ends}
+use Rattle.explore.proofs.OpenRun.{entering_starts, entering_goes_on, entering_ends}
 use Rattle.explore.proofs.rounds.enter_all.Goals as goal
 
 pub loop-left-init : goal.loop-left-init

@@ -1,21 +1,14 @@
 -- The arrays show a state from which the rounds that are left give what the exploration gives (ExploreSets).
 use Prim.Native.Nat.{◌+◌, ◌<◌, ◌^◌, ◌-◌}
 use native.Mathlib.Omega.{arith}
-use mathlib.Core.Path.{◌≡◌, refl, ◌∙◌}
-use lib.ListN.{length, replicate}
-use Rattle.algorithm.specs.Board.{Board}
-use Rattle.algorithm.specs.Forced.{forced_orientations}
-use Rattle.arrays.specs.Arrays.{plus_of}
-use Rattle.rocks.specs.BoardArrays.{Seen, Owned}
-use Rattle.explore.specs.ExploreArrays.{Reaches}
-use Rattle.forced.specs.SetArrays.{Nowhere, forces_at}
-use Rattle.forced.specs.CandidateArrays.{Neutral}
+use mathlib.Core.Path.{refl, ◌∙◌}
+use lib.ListN.{replicate}
+use Rattle.forced.specs.SetArrays.{forces_at}
 use Rattle.forced.proofs.NeutralLaws.{neutral_starts}
 use Rattle.explore.proofs.RoundRun.{seen_none}
-use Rattle.explore.proofs.ExploreSets.{covers_touched, Exploration, exploration_starts, exploration_goes_on, exploration_ends, exploration_spent}
-use Rattle.rock_graph.specs.Graph.{ends, lows, highs, weights, RockGraph}
+use Rattle.explore.proofs.ExploreSets.{covers_touched, exploration_starts, exploration_goes_on, exploration_ends, exploration_spent}
+use Rattle.rock_graph.specs.Graph.{ends, lows, highs, weights}
 use Rattle.rock_graph.proofs.GraphLaws.{touched_there, every_bench_there, every_rock_there}
-use borrow.Author.Rules.{rules}
 use Rattle.explore.proofs.rounds.explore.Goals as goal
 
 pub loop-i-init : goal.loop-i-init
@@ -143,7 +136,37 @@ pub shape_of-level : goal.shape_of-level
 shape_of-level c = c.loop-i.invariant.3
 
 pub returns-then-opened-eq0 : goal.returns-then-opened-eq0
-returns-then-opened-eq0 c = let at-touched = c.touched-touched in λ b G O T Z. let R = G.rocks in let few = G.few_rocks in let room = Z.own_room in let d = Z.undirected in let l = Z.unloaded in let j = Z.never_joined in let k = Z.never_active in let at-args = c.args in let at-loop = c.loop-i in let at-force = c.force-f in let at-loop-test = c.loop-i-test in let at-plus = c.plus-turns in let at_less = c.less-rest in let at-reach-of = c.reach_of-reached in let at-open-round = c.open_round-opened in let at-if1 = c.if-opened-eq0 in let forced = at-force.ensures b (replicate b.jobs 0) G (neutral_starts at-args.n at-args.dir.now c.every_rock.result (every_rock_there b at-args.n at-args.graph.now G c.every_rock.ensures) d) (covers_touched b at-args.n (lows at-args.graph.now) (highs at-args.graph.now) (weights at-args.graph.now) R (forces_at at-args.n.bound (weights at-args.graph.now) at-args.dir.now at-args.load.now) at-touched.result few (touched_there b at-args.n at-args.graph.now G at-touched.ensures)) (seen_none b at-args.n (lows at-args.graph.now) (highs at-args.graph.now) (weights at-args.graph.now) R 64 at-args.own.now few (omega (arith, room, R.few_benches)) O d l) in exploration_ends b at-args.n (lows at-args.graph.now) (highs at-args.graph.now) (weights at-args.graph.now) R at_less.result T (at-loop.invariant.4 b G O T forced.0 forced.2 forced.3 j k) at-loop-test.true at-plus.ensures at_less.ensures at-reach-of.ensures (record { opens = at-open-round.ensures.0; entered = at-open-round.ensures.1; raised = at-open-round.ensures.2; long_joined = at-open-round.auto.joined; long_level = at-open-round.auto.level }) at-if1.true
+returns-then-opened-eq0 c =
+    let at-touched = c.touched-touched in λ b G O T Z. let R = G.rocks in
+    let few = G.few_rocks in
+    let room = Z.own_room in
+    let d = Z.undirected in
+    let l = Z.unloaded in
+    let j = Z.never_joined in
+    let k = Z.never_active in
+    let at-args = c.args in
+    let at-loop = c.loop-i in
+    let at-force = c.force-f in
+    let at-loop-test = c.loop-i-test in
+    let at-plus = c.plus-turns in
+    let at_less = c.less-rest in
+    let at-reach-of = c.reach_of-reached in
+    let at-open-round = c.open_round-opened in
+    let at-if1 = c.if-opened-eq0 in
+    let forced = at-force.ensures b (replicate b.jobs 0) G (neutral_starts at-args.n at-args.dir.now c.every_rock.result (every_rock_there b at-args.n at-args.graph.now G c.every_rock.ensures) d) (covers_touched b at-args.n (lows at-args.graph.now) (highs at-args.graph.now) (weights at-args.graph.now) R (forces_at at-args.n.bound (weights at-args.graph.now) at-args.dir.now at-args.load.now) at-touched.result few (touched_there b at-args.n at-args.graph.now G at-touched.ensures)) (seen_none b at-args.n (lows at-args.graph.now) (highs at-args.graph.now) (weights at-args.graph.now) R 64 at-args.own.now few (omega (arith, room, R.few_benches)) O d l) in
+    exploration_ends b at-args.n (lows at-args.graph.now) (highs at-args.graph.now) (weights at-args.graph.now) R at_less.result T (at-loop.invariant.4 b G O T forced.0 forced.2 forced.3 j k) at-loop-test.true at-plus.ensures at_less.ensures at-reach-of.ensures (record { opens = at-open-round.ensures.0; entered = at-open-round.ensures.1; raised = at-open-round.ensures.2; long_joined = at-open-round.auto.joined; long_level = at-open-round.auto.level }) at-if1.true
 
 pub returns : goal.returns
-returns c = let at-touched = c.touched-touched in λ b G O T Z. let R = G.rocks in let few = G.few_rocks in let room = Z.own_room in let d = Z.undirected in let l = Z.unloaded in let j = Z.never_joined in let k = Z.never_active in let at-args = c.args in let at-loop = c.loop-i in let at-force = c.force-f in let forced = at-force.ensures b (replicate b.jobs 0) G (neutral_starts at-args.n at-args.dir.now c.every_rock.result (every_rock_there b at-args.n at-args.graph.now G c.every_rock.ensures) d) (covers_touched b at-args.n (lows at-args.graph.now) (highs at-args.graph.now) (weights at-args.graph.now) R (forces_at at-args.n.bound (weights at-args.graph.now) at-args.dir.now at-args.load.now) at-touched.result few (touched_there b at-args.n at-args.graph.now G at-touched.ensures)) (seen_none b at-args.n (lows at-args.graph.now) (highs at-args.graph.now) (weights at-args.graph.now) R 64 at-args.own.now few (omega (arith, room, R.few_benches)) O d l) in exploration_spent b at-args.n (lows at-args.graph.now) (highs at-args.graph.now) (weights at-args.graph.now) R (at-loop.invariant.4 b G O T forced.0 forced.2 forced.3 j k) c.plus-turns.ensures c.loop-i-test.false
+returns c =
+    let at-touched = c.touched-touched in λ b G O T Z. let R = G.rocks in
+    let few = G.few_rocks in
+    let room = Z.own_room in
+    let d = Z.undirected in
+    let l = Z.unloaded in
+    let j = Z.never_joined in
+    let k = Z.never_active in
+    let at-args = c.args in
+    let at-loop = c.loop-i in
+    let at-force = c.force-f in
+    let forced = at-force.ensures b (replicate b.jobs 0) G (neutral_starts at-args.n at-args.dir.now c.every_rock.result (every_rock_there b at-args.n at-args.graph.now G c.every_rock.ensures) d) (covers_touched b at-args.n (lows at-args.graph.now) (highs at-args.graph.now) (weights at-args.graph.now) R (forces_at at-args.n.bound (weights at-args.graph.now) at-args.dir.now at-args.load.now) at-touched.result few (touched_there b at-args.n at-args.graph.now G at-touched.ensures)) (seen_none b at-args.n (lows at-args.graph.now) (highs at-args.graph.now) (weights at-args.graph.now) R 64 at-args.own.now few (omega (arith, room, R.few_benches)) O d l) in
+    exploration_spent b at-args.n (lows at-args.graph.now) (highs at-args.graph.now) (weights at-args.graph.now) R (at-loop.invariant.4 b G O T forced.0 forced.2 forced.3 j k) c.plus-turns.ensures c.loop-i-test.false

@@ -1,7 +1,6 @@
 -- The arrays show a state from which the rounds that are left give what the exploration gives (ExploreSets).
-use Prim.Native.Nat.{◌+◌, ◌<◌, ◌^◌, ◌-◌}
-use native.Mathlib.Omega.{arith}
-use mathlib.Core.Path.{◌≡◌, refl, ◌∙◌}
+use Prim.Native.Nat.{◌-◌}
+use mathlib.Core.Path.{◌≡◌}
 use lib.ListN.{length, replicate}
 use Rattle.algorithm.specs.Board.{Board}
 use Rattle.algorithm.specs.Forced.{forced_orientations}
@@ -10,12 +9,8 @@ use Rattle.rocks.specs.BoardArrays.{Seen, Owned}
 use Rattle.explore.specs.ExploreArrays.{Reaches}
 use Rattle.forced.specs.SetArrays.{Nowhere, forces_at}
 use Rattle.forced.specs.CandidateArrays.{Neutral}
-use Rattle.forced.proofs.NeutralLaws.{neutral_starts}
-use Rattle.explore.proofs.RoundRun.{seen_none}
-use Rattle.explore.proofs.ExploreSets.{covers_touched, Exploration, exploration_starts, exploration_goes_on, exploration_ends, exploration_spent}
-use Rattle.rock_graph.specs.Graph.{ends, lows, highs, weights, RockGraph}
-use Rattle.rock_graph.proofs.GraphLaws.{touched_there, every_bench_there, every_rock_there}
-use borrow.Author.Rules.{rules}
+use Rattle.explore.proofs.ExploreSets.{Exploration}
+use Rattle.rock_graph.specs.Graph.{lows, highs, weights, RockGraph}
 use Rattle.explore.proofs.rounds.explore.Given as goal
 
 abbrev pub invariant-loop-i : goal.invariant-loop-i

@@ -1,12 +1,8 @@
 -- The sets hold what the pebbles among the jobs passed allow (ReachRun).
-use Prim.Native.Nat.{◌≤◌, ◌-◌}
+use Prim.Native.Nat.{◌-◌}
 use native.Mathlib.Omega.{arith}
-use mathlib.Core.Path.{◌≡◌, refl, ◌∙◌}
-use lib.ListN.{length, replicate}
-use Rattle.algorithm.specs.Board.{Board}
-use Rattle.rocks.specs.BoardArrays.{Pebbles}
-use Rattle.explore.proofs.ReachRun.{Filled, filled_none, filled_next, filled_all}
-use borrow.Author.Rules.{rules}
+use mathlib.Core.Path.{refl, ◌∙◌}
+use Rattle.explore.proofs.ReachRun.{filled_none, filled_next, filled_all}
 use Rattle.explore.proofs.rounds.fill_reach.Goals as goal
 
 pub loop-j-init : goal.loop-j-init

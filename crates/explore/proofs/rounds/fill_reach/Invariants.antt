@@ -1,12 +1,10 @@
 -- The sets hold what the pebbles among the jobs passed allow (ReachRun).
 use Prim.Native.Nat.{◌≤◌, ◌-◌}
-use native.Mathlib.Omega.{arith}
-use mathlib.Core.Path.{◌≡◌, refl, ◌∙◌}
+use mathlib.Core.Path.{◌≡◌}
 use lib.ListN.{length, replicate}
 use Rattle.algorithm.specs.Board.{Board}
 use Rattle.rocks.specs.BoardArrays.{Pebbles}
-use Rattle.explore.proofs.ReachRun.{Filled, filled_none, filled_next, filled_all}
-use borrow.Author.Rules.{rules}
+use Rattle.explore.proofs.ReachRun.{Filled}
 use Rattle.explore.proofs.rounds.fill_reach.Given as goal
 
 abbrev pub invariant-loop-j : goal.invariant-loop-j

@@ -1,4 +1,3 @@
-use borrow.Author.Rules.{rules}
 use Rattle.explore.proofs.rounds.open_round.Goals as goal
 
 -- The parts of the round that opens.

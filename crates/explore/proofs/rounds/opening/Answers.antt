@@ -6,7 +6,6 @@ use lib.Dec.{ltb}
 use borrow.Author.Tests.{eq-eqb, ne_eqb}
 use Rattle.bits.specs.Bits.{is_set}
 use Rattle.explore.proofs.ExploreLaws.{cond_yes, cond_no}
-use borrow.Author.Rules.{rules}
 use Rattle.explore.proofs.rounds.opening.Goals as goal
 
 pub returns-then-i-eq0 : goal.returns-then-i-eq0

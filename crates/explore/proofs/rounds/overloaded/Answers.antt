@@ -1,11 +1,10 @@
 -- The overloaded benches passed are in the set (OpenRun).
-use Prim.Native.Nat.{ℕ, ◌≤◌, ◌-◌}
+use Prim.Native.Nat.{ℕ, ◌-◌}
 use mathlib.Core.Path.{ap}
 use native.Mathlib.Omega.{arith}
 use lib.ListN.{get_or}
 use lib.Dec.{ltb}
-use Rattle.sets.proofs.GatherLaws.{Gathered, gathered_none, gathered_more, gathered-all}
-use borrow.Author.Rules.{rules}
+use Rattle.sets.proofs.GatherLaws.{gathered_none, gathered_more, gathered-all}
 use Rattle.explore.proofs.rounds.overloaded.Goals as goal
 
 pub loop-v-init : goal.loop-v-init

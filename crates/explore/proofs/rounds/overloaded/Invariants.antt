@@ -1,11 +1,8 @@
 -- The overloaded benches passed are in the set (OpenRun).
-use Prim.Native.Nat.{ℕ, ◌≤◌, ◌-◌}
-use mathlib.Core.Path.{ap}
-use native.Mathlib.Omega.{arith}
+use Prim.Native.Nat.{◌≤◌, ◌-◌}
 use lib.ListN.{get_or}
 use lib.Dec.{ltb}
-use Rattle.sets.proofs.GatherLaws.{Gathered, gathered_none, gathered_more, gathered-all}
-use borrow.Author.Rules.{rules}
+use Rattle.sets.proofs.GatherLaws.{Gathered}
 use Rattle.explore.proofs.rounds.overloaded.Given as goal
 
 abbrev pub invariant-loop-v : goal.invariant-loop-v

@@ -1,15 +1,12 @@
 -- No rock is forced from a bench passed (SetRun, CandidateLaws).
 use Prim.Native.Nat.{ℕ, ◌≤◌}
 use mathlib.Core.List.{List}
-use native.Mathlib.Omega.{arith}
 use Rattle.rocks.specs.declared.rocks.Limits.{Limits}
 use Rattle.forced.specs.SetArrays.{forces_at}
 use Rattle.rock_graph.specs.Neighbours.{Incident}
 use Rattle.forced.specs.CandidateArrays.{Neutral, some_rock}
-use Rattle.sets.proofs.SetRun.{lowest-below, Searched, searched_starts, searched_goes_on}
-use Rattle.forced.proofs.CandidateLaws.{rock_found, rock_none, bench_found, bench_none, bench_left}
+use Rattle.sets.proofs.SetRun.{Searched}
 use Rattle.rock_graph.specs.Graph.{incidents, lows, highs, weights}
-use borrow.Author.Rules.{rules}
 use Rattle.forced.proofs.forced.first_forcing.Given as goal
 
 abbrev pub invariant-loop-left : goal.invariant-loop-left

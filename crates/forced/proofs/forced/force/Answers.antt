@@ -1,14 +1,9 @@
 -- The arrays, the candidates and the neutral rocks follow the outer loop (ForcedLoops).
-use mathlib.Core.Path.{◌≡◌, refl, ap, ◌∙◌}
+use mathlib.Core.Path.{refl, ap, ◌∙◌}
 use native.Mathlib.Omega.{arith}
 use lib.ListN.{length, length-set}
-use Rattle.algorithm.specs.Board.{Board, Directions}
-use Rattle.rocks.specs.BoardArrays.{Seen}
-use Rattle.forced.specs.SetArrays.{forces_at, Covers}
-use Rattle.forced.specs.CandidateArrays.{Neutral}
-use Rattle.forced.proofs.ForcedLoops.{OuterSets, outer_sets_start, outer_sets_next, outer_sets_ends, outer_sets_spent}
-use Rattle.rock_graph.specs.Graph.{incidents, lows, highs, weights, RockGraph}
-use borrow.Author.Rules.{rules}
+use Rattle.forced.proofs.ForcedLoops.{outer_sets_start, outer_sets_next, outer_sets_ends, outer_sets_spent}
+use Rattle.rock_graph.specs.Graph.{incidents, lows, highs, weights}
 use Rattle.forced.proofs.forced.force.Goals as goal
 
 pub loop-turns-init : goal.loop-turns-init
@@ -29,7 +24,13 @@ pub shape_of-load-then-f-eq64 : goal.shape_of-load-then-f-eq64
 shape_of-load-then-f-eq64 c = c.loop-turns.invariant.1
 
 pub returns-then-f-eq64 : goal.returns-then-f-eq64
-returns-then-f-eq64 c = λ b dirs G N C S. let R = G.rocks in let few = G.few_rocks in let H = G.maps.incidence in let at-args = c.args in let at-loop = c.loop-turns in let at-first-forcing = c.first_forcing-f in let O = at-loop.invariant.2 b dirs G N C S in outer_sets_ends b at-args.n (lows at-args.graph.now) (highs at-args.graph.now) (weights at-args.graph.now) R (incidents at-args.graph.now) few H dirs at-args.dir.now O at-first-forcing.result.bench (at-first-forcing.ensures at-args.n at-loop.dir H O.free).0 c.if-f-eq64.true
+returns-then-f-eq64 c = λ b dirs G N C S. let R = G.rocks in
+let few = G.few_rocks in
+let H = G.maps.incidence in
+let at-args = c.args in
+let at-loop = c.loop-turns in
+let at-first-forcing = c.first_forcing-f in
+let O = at-loop.invariant.2 b dirs G N C S in outer_sets_ends b at-args.n (lows at-args.graph.now) (highs at-args.graph.now) (weights at-args.graph.now) R (incidents at-args.graph.now) few H dirs at-args.dir.now O at-first-forcing.result.bench (at-first-forcing.ensures at-args.n at-loop.dir H O.free).0 c.if-f-eq64.true
 
 pub loop-turns-preserved : goal.loop-turns-preserved
 loop-turns-preserved c =
@@ -46,7 +47,10 @@ loop-turns-preserved c =
       at-force-marked.auto.dir ∙ ap length at-direct.ensures.1 ∙ simp length-set at-loop.invariant.0,
       at-force-marked.auto.load ∙ ap length at-direct.ensures.2 ∙ simp length-set at-loop.invariant.1,
       λ b
-          dirs G N C S. let R = G.rocks in let few = G.few_rocks in let H = G.maps.incidence in let O = at-loop.invariant.2
+          dirs G N C S. let R = G.rocks in
+          let few = G.few_rocks in
+          let H = G.maps.incidence in
+          let O = at-loop.invariant.2
           b dirs G N C S in let found = at-first-forcing.ensures at-args.n at-loop.dir H O.free in outer_sets_next
           b at-args.n (lows at-args.graph.now) (highs at-args.graph.now) (weights at-args.graph.now) R
           (incidents at-args.graph.now) few H dirs at-args.dir.now O at-first-forcing.result.bench found.0
@@ -65,4 +69,7 @@ pub shape_of-load : goal.shape_of-load
 shape_of-load c = c.loop-turns.invariant.1
 
 pub returns : goal.returns
-returns c = λ b dirs G N C S. let R = G.rocks in let few = G.few_rocks in let H = G.maps.incidence in let at-args = c.args in outer_sets_spent b at-args.n (lows at-args.graph.now) (highs at-args.graph.now) (weights at-args.graph.now) R (incidents at-args.graph.now) few H dirs at-args.dir.now (c.loop-turns.invariant.2 b dirs G N C S) (omega arith)
+returns c = λ b dirs G N C S. let R = G.rocks in
+let few = G.few_rocks in
+let H = G.maps.incidence in
+let at-args = c.args in outer_sets_spent b at-args.n (lows at-args.graph.now) (highs at-args.graph.now) (weights at-args.graph.now) R (incidents at-args.graph.now) few H dirs at-args.dir.now (c.loop-turns.invariant.2 b dirs G N C S) (omega arith)

@@ -1,14 +1,12 @@
 -- The arrays, the candidates and the neutral rocks follow the outer loop (ForcedLoops).
-use mathlib.Core.Path.{◌≡◌, refl, ap, ◌∙◌}
-use native.Mathlib.Omega.{arith}
-use lib.ListN.{length, length-set}
+use mathlib.Core.Path.{◌≡◌}
+use lib.ListN.{length}
 use Rattle.algorithm.specs.Board.{Board, Directions}
 use Rattle.rocks.specs.BoardArrays.{Seen}
 use Rattle.forced.specs.SetArrays.{forces_at, Covers}
 use Rattle.forced.specs.CandidateArrays.{Neutral}
-use Rattle.forced.proofs.ForcedLoops.{OuterSets, outer_sets_start, outer_sets_next, outer_sets_ends, outer_sets_spent}
+use Rattle.forced.proofs.ForcedLoops.{OuterSets}
 use Rattle.rock_graph.specs.Graph.{incidents, lows, highs, weights, RockGraph}
-use borrow.Author.Rules.{rules}
 use Rattle.forced.proofs.forced.force.Given as goal
 
 abbrev pub invariant-loop-turns : goal.invariant-loop-turns

@@ -1,15 +1,13 @@
 -- The arrays, the candidates and the neutral rocks follow the inner loop (ForcedLoops).
 use Prim.Native.Nat.{◌<◌}
-use mathlib.Core.Path.{◌≡◌, refl, ap, ◌∙◌}
-use native.Mathlib.Omega.{arith}
-use lib.ListN.{length, length-set}
+use mathlib.Core.Path.{◌≡◌}
+use lib.ListN.{length}
 use Rattle.algorithm.specs.Board.{Board, Directions}
 use Rattle.rocks.specs.BoardArrays.{Seen}
 use Rattle.forced.specs.SetArrays.{forces_at}
 use Rattle.forced.specs.CandidateArrays.{Neutral, CoversBut}
-use Rattle.forced.proofs.ForcedLoops.{InnerSets, inner-sets_start, inner-sets_next, inner-sets_ends, inner-sets_spent}
+use Rattle.forced.proofs.ForcedLoops.{InnerSets}
 use Rattle.rock_graph.specs.Graph.{incidents, lows, highs, weights, RockGraph}
-use borrow.Author.Rules.{rules}
 use Rattle.forced.proofs.forced.force_marked.Given as goal
 
 abbrev pub invariant-loop-turns : goal.invariant-loop-turns

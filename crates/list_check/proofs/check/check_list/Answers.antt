@@ -1,6 +1,5 @@
 -- By cases on the verdict.
 use Rattle.list_check.proofs.CheckRun.{refused_is, accepted_is}
-use borrow.Author.Rules.{rules}
 use Rattle.list_check.proofs.check.check_list.Goals as goal
 
 pub returns-in-Refused : goal.returns-in-Refused

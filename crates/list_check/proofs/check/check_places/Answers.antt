@@ -1,7 +1,6 @@
 -- By cases on the three tests.
 use native.Mathlib.Omega.{arith}
 use Rattle.list_check.proofs.CheckRun.{found_other, found-not-allowed, found_above, found_passed}
-use borrow.Author.Rules.{rules}
 use Rattle.list_check.proofs.check.check_places.Goals as goal
 
 pub returns-then-list-jobs : goal.returns-then-list-jobs

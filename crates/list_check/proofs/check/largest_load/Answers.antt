@@ -1,7 +1,6 @@
 -- The loads begin with what is booked.
 use native.Mathlib.Omega.{arith}
 use Rattle.list_check.proofs.CheckRun.{largest-found}
-use borrow.Author.Rules.{rules}
 use Rattle.list_check.proofs.check.largest_load.Goals as goal
 
 pub returns : goal.returns

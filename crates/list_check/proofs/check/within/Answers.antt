@@ -1,6 +1,5 @@
 -- Each product is that of the definition.
 use Rattle.list_check.proofs.CheckRun.{within_exact}
-use borrow.Author.Rules.{rules}
 use Rattle.list_check.proofs.check.within.Goals as goal
 
 pub returns : goal.returns

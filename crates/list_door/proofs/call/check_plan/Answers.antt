@@ -1,7 +1,6 @@
 -- By cases on the room and on the answer (ListSteps). The list that is checked is the first 513 entries.
 use native.Mathlib.Omega.{arith}
 use mathlib.Core.Path.{refl}
-use borrow.Author.Rules.{rules}
 use Rattle.tables.proofs.TableSteps.{empty, room, loaded_front, loaded-length}
 use Rattle.list_door.proofs.ListSteps.{short_called, passed_called, not_passed_called, fault_called}
 use Rattle.list_door.proofs.call.check_plan.Goals as goal

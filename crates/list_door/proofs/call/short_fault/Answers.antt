@@ -1,6 +1,5 @@
 -- By cases on the verdict.
 use Rattle.list_promise.proofs.ListReplies.{short_refused, short_accepted}
-use borrow.Author.Rules.{rules}
 use Rattle.list_door.proofs.call.short_fault.Goals as goal
 
 pub returns-in-Refused : goal.returns-in-Refused

@@ -1,7 +1,6 @@
 -- By cases on the tests.
 use mathlib.Core.Path.{refl}
 use Rattle.placing.proofs.ClassLaws.{low_rest}
-use borrow.Author.Rules.{rules}
 use Rattle.placing.proofs.classes.goes_low.Goals as goal
 
 pub returns : goal.returns

@@ -1,8 +1,7 @@
 -- The benches passed are joined.
-use Prim.Native.Nat.{◌≤◌, ◌-◌}
+use Prim.Native.Nat.{◌-◌}
 use native.Mathlib.Omega.{arith}
-use Rattle.placing.proofs.ClassLaws.{Join, join_starts, join_more, join_ends}
-use borrow.Author.Rules.{rules}
+use Rattle.placing.proofs.ClassLaws.{join_starts, join_more, join_ends}
 use Rattle.placing.proofs.classes.join_all.Goals as goal
 
 pub loop-v-init : goal.loop-v-init

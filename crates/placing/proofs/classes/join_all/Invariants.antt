@@ -1,8 +1,6 @@
 -- The benches passed are joined.
 use Prim.Native.Nat.{◌≤◌, ◌-◌}
-use native.Mathlib.Omega.{arith}
-use Rattle.placing.proofs.ClassLaws.{Join, join_starts, join_more, join_ends}
-use borrow.Author.Rules.{rules}
+use Rattle.placing.proofs.ClassLaws.{Join}
 use Rattle.placing.proofs.classes.join_all.Given as goal
 
 abbrev pub invariant-loop-v : goal.invariant-loop-v

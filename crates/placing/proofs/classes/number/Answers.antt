@@ -1,11 +1,9 @@
 -- The entries passed are numbered.
-use Prim.Native.Nat.{ℕ, ◌≤◌, ◌-◌}
-use mathlib.Core.Path.{◌≡◌, refl, ap, ◌∙◌}
+use Prim.Native.Nat.{ℕ, ◌-◌}
+use mathlib.Core.Path.{refl, ap, ◌∙◌}
 use native.Mathlib.Omega.{arith}
 use lib.ListN.{length, length-set}
-use Rattle.arrays.specs.Arrays.{filled}
 use Rattle.arrays.proofs.FilledLaws.{filled_none, filled_more, filled-end}
-use borrow.Author.Rules.{rules}
 use Rattle.placing.proofs.classes.number.Goals as goal
 
 pub loop-v-init : goal.loop-v-init

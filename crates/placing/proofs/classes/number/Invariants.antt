@@ -1,11 +1,8 @@
 -- The entries passed are numbered.
-use Prim.Native.Nat.{ℕ, ◌≤◌, ◌-◌}
-use mathlib.Core.Path.{◌≡◌, refl, ap, ◌∙◌}
-use native.Mathlib.Omega.{arith}
-use lib.ListN.{length, length-set}
+use Prim.Native.Nat.{◌≤◌, ◌-◌}
+use mathlib.Core.Path.{◌≡◌}
+use lib.ListN.{length}
 use Rattle.arrays.specs.Arrays.{filled}
-use Rattle.arrays.proofs.FilledLaws.{filled_none, filled_more, filled-end}
-use borrow.Author.Rules.{rules}
 use Rattle.placing.proofs.classes.number.Given as goal
 
 abbrev pub invariant-loop-v : goal.invariant-loop-v

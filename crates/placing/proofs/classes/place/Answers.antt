@@ -1,6 +1,5 @@
 -- The classes by PlaceRun.
 use Rattle.placing.proofs.PlaceRun.{closed-shown, joined-shown}
-use borrow.Author.Rules.{rules}
 use Rattle.placing.proofs.classes.place.Goals as goal
 
 pub returns-then-closes : goal.returns-then-closes

@@ -3,7 +3,6 @@ use Prim.Native.Nat.{ℕ}
 use mathlib.Core.Path.{sym, ap, ◌∙◌}
 use Rattle.bools.proofs.BoolLaws.{cond-true, cond-false}
 use Rattle.arrays.specs.Arrays.{plus_of}
-use borrow.Author.Rules.{rules}
 use Rattle.placing.proofs.classes.price.Goals as goal
 
 pub returns-then-has : goal.returns-then-has

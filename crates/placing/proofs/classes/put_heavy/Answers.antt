@@ -1,6 +1,5 @@
 -- By whether both ends are shut.
 use Rattle.placing.proofs.PlaceRun.{stuck_tried, placed-tried}
-use borrow.Author.Rules.{rules}
 use Rattle.placing.proofs.classes.put_heavy.Goals as goal
 
 pub returns-then-both : goal.returns-then-both

@@ -3,7 +3,6 @@ use mathlib.Core.Path.{◌≡◌, sym, ◌∙◌}
 use mathlib.Core.Bool.{true}
 use Rattle.placing.specs.ClassArrays.{Job}
 use Rattle.placing.proofs.PlaceRun.{light_tried}
-use borrow.Author.Rules.{rules}
 use Rattle.placing.proofs.classes.put_job.Goals as goal
 
 pub returns-then-heavy : goal.returns-then-heavy

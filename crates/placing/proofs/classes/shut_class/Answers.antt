@@ -1,10 +1,9 @@
 -- The benches passed are shut where they have the label.
-use Prim.Native.Nat.{ℕ, ◌≤◌, ◌-◌}
+use Prim.Native.Nat.{ℕ, ◌-◌}
 use mathlib.Core.Path.{ap}
 use native.Mathlib.Omega.{arith}
 use lib.Dec.{eqb}
-use Rattle.placing.proofs.ClassLaws.{Shut, shut_starts, shut_more, shut_ends}
-use borrow.Author.Rules.{rules}
+use Rattle.placing.proofs.ClassLaws.{shut_starts, shut_more, shut_ends}
 use Rattle.placing.proofs.classes.shut_class.Goals as goal
 
 pub loop-v-init : goal.loop-v-init

@@ -1,10 +1,6 @@
 -- The benches passed are shut where they have the label.
-use Prim.Native.Nat.{ℕ, ◌≤◌, ◌-◌}
-use mathlib.Core.Path.{ap}
-use native.Mathlib.Omega.{arith}
-use lib.Dec.{eqb}
-use Rattle.placing.proofs.ClassLaws.{Shut, shut_starts, shut_more, shut_ends}
-use borrow.Author.Rules.{rules}
+use Prim.Native.Nat.{◌≤◌, ◌-◌}
+use Rattle.placing.proofs.ClassLaws.{Shut}
 use Rattle.placing.proofs.classes.shut_class.Given as goal
 
 abbrev pub invariant-loop-v : goal.invariant-loop-v

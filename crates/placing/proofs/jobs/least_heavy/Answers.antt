@@ -1,13 +1,10 @@
 -- The classes after the jobs passed (LeastRun).
-use Prim.Native.Nat.{ℕ, ◌≤◌, ◌<◌, ◌-◌}
-use mathlib.Core.Path.{◌≡◌, refl, sym, ap, ap₂, ◌∙◌}
+use Prim.Native.Nat.{◌<◌, ◌-◌}
+use mathlib.Core.Path.{refl, sym, ◌∙◌}
 use native.Mathlib.Omega.{arith}
-use lib.ListN.{length, get_or}
-use Rattle.day.specs.Day.{Day}
-use Rattle.placing.specs.ClassArrays.{Listed, Holds}
-use Rattle.placing.proofs.LeastRun.{g, Running, running_starts, running_more, ends_stuck, ends-least}
+use Rattle.placing.specs.ClassArrays.{Listed}
+use Rattle.placing.proofs.LeastRun.{g, running_starts, running_more, ends_stuck, ends-least}
 use Rattle.placing.proofs.LeastRun.{its_listed, its_modest}
-use borrow.Author.Rules.{rules}
 use Rattle.placing.proofs.jobs.least_heavy.Goals as goal
 
 pub slice_bounds-number-end : goal.slice_bounds-number-end

@@ -1,13 +1,10 @@
 -- The classes after the jobs passed (LeastRun).
-use Prim.Native.Nat.{ℕ, ◌≤◌, ◌<◌, ◌-◌}
-use mathlib.Core.Path.{◌≡◌, refl, sym, ap, ap₂, ◌∙◌}
-use native.Mathlib.Omega.{arith}
-use lib.ListN.{length, get_or}
+use Prim.Native.Nat.{◌≤◌, ◌-◌}
+use mathlib.Core.Path.{◌≡◌}
+use lib.ListN.{length}
 use Rattle.day.specs.Day.{Day}
-use Rattle.placing.specs.ClassArrays.{Listed, Holds}
-use Rattle.placing.proofs.LeastRun.{g, Running, running_starts, running_more, ends_stuck, ends-least}
-use Rattle.placing.proofs.LeastRun.{its_listed, its_modest}
-use borrow.Author.Rules.{rules}
+use Rattle.placing.specs.ClassArrays.{Holds}
+use Rattle.placing.proofs.LeastRun.{Running}
 use Rattle.placing.proofs.jobs.least_heavy.Given as goal
 
 abbrev pub invariant-loop-j : goal.invariant-loop-j

@@ -1,12 +1,7 @@
 -- Job by job, as long as the set may grow.
-use Prim.Native.Nat.{ℕ, ◌-◌, ◌≤◌, ◌<◌}
-use mathlib.Core.Path.{◌≡◌}
+use Prim.Native.Nat.{◌-◌}
 use native.Mathlib.Omega.{arith}
-use Rattle.sums.specs.Search.{any}
-use Rattle.bits.specs.Bits.{is_set}
-use Rattle.push.specs.KeptArrays.{lies_at}
 use Rattle.push.proofs.KeptRun.{lies_none, lies_more, lies_all, lies_full}
-use borrow.Author.Rules.{rules}
 use Rattle.push.proofs.kept.reach_from.Goals as goal
 
 pub loop-j-init : goal.loop-j-init

@@ -1,12 +1,9 @@
 -- Job by job, as long as the set may grow.
 use Prim.Native.Nat.{ℕ, ◌-◌, ◌≤◌, ◌<◌}
 use mathlib.Core.Path.{◌≡◌}
-use native.Mathlib.Omega.{arith}
 use Rattle.sums.specs.Search.{any}
 use Rattle.bits.specs.Bits.{is_set}
 use Rattle.push.specs.KeptArrays.{lies_at}
-use Rattle.push.proofs.KeptRun.{lies_none, lies_more, lies_all, lies_full}
-use borrow.Author.Rules.{rules}
 use Rattle.push.proofs.kept.reach_from.Given as goal
 
 abbrev pub invariant-loop-j : goal.invariant-loop-j

@@ -1,7 +1,6 @@
 -- By whether the job is on the bench.
 use lib.ListN.{get_or}
 use Rattle.push.proofs.KeptRun.{more-on, more_off}
-use borrow.Author.Rules.{rules}
 use Rattle.push.proofs.kept.reach_more.Goals as goal
 
 pub returns-then-byte-u : goal.returns-then-byte-u

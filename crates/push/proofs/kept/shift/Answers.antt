@@ -1,7 +1,6 @@
 -- The two shifts.
 use mathlib.Core.Path.{ap, ◌∙◌}
 use Rattle.push.specs.KeptArrays.{shifted_of}
-use borrow.Author.Rules.{rules}
 use Rattle.push.proofs.kept.shift.Goals as goal
 
 pub returns : goal.returns

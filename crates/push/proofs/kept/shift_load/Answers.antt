@@ -4,7 +4,6 @@ use Prim.Native.Nat.{ℕ, ◌-◌}
 use lib.ListN.{get_or, set}
 use mathlib.Core.List.{List}
 use Rattle.arrays.specs.Arrays.{plus_of}
-use borrow.Author.Rules.{rules}
 use Rattle.push.proofs.kept.shift_load.Goals as goal
 
 pub returns : goal.returns

@@ -2,7 +2,6 @@
 use mathlib.Core.Path.{ap₂}
 use lib.Bits.{bit_or}
 use Rattle.push.proofs.KeptRun.{reach_shifted}
-use borrow.Author.Rules.{rules}
 use Rattle.push.proofs.kept.shift_reach.Goals as goal
 
 pub returns : goal.returns

@@ -1,7 +1,6 @@
 -- By cases on whether the bench may receive (ReceiverLaws).
 use Rattle.push.specs.PushArrays.{receives_at}
 use Rattle.push.proofs.ReceiverLaws.{receiver_added, receiver_none}
-use borrow.Author.Rules.{rules}
 use Rattle.push.proofs.push.add_receiver.Goals as goal
 
 pub returns-then-receives : goal.returns-then-receives

@@ -1,13 +1,11 @@
 -- The sets hold the benches passed.
-use Prim.Native.Nat.{◌-◌, ◌≤◌}
-use mathlib.Core.Path.{◌≡◌, refl, ◌∙◌}
-use lib.ListN.{length}
+use Prim.Native.Nat.{◌-◌}
+use mathlib.Core.Path.{refl, ◌∙◌}
 use native.Mathlib.Omega.{arith}
 use Rattle.push.specs.PushArrays.{receives_at}
-use Rattle.push.proofs.ReceiverLaws.{Levels, levels_none, levels_more}
+use Rattle.push.proofs.ReceiverLaws.{levels_none, levels_more}
 use Rattle.push.proofs.PushRun.{levels_end}
 use Rattle.rock_graph.specs.Graph.{lows, highs, weights}
-use borrow.Author.Rules.{rules}
 use Rattle.push.proofs.push.fill_receivers.Goals as goal
 
 pub loop-v-init : goal.loop-v-init
@@ -21,7 +19,12 @@ loop-v-init c =
     )
 
 pub loop-v-preserved : goal.loop-v-preserved
-loop-v-preserved c = let at-args = c.args in let at-marks = c.mark_all-m.result in let at-loop = c.loop-v in let at_Added = c.add_receiver in (omega arith, at_Added.auto.receivers ∙ at-loop.invariant.1, levels_more at-args.level.now (receives_at at-args.n.benches at-args.n.limit at-args.load.now at-args.level.now at-marks.children at-marks.heavy) at-args.receivers.now at-loop.v at-loop.receivers at_Added.new.receivers at-loop.invariant.1 at-loop.invariant.2 at_Added.ensures)
+loop-v-preserved c =
+    let at-args = c.args in
+    let at-marks = c.mark_all-m.result in
+    let at-loop = c.loop-v in
+    let at_Added = c.add_receiver in
+    (omega arith, at_Added.auto.receivers ∙ at-loop.invariant.1, levels_more at-args.level.now (receives_at at-args.n.benches at-args.n.limit at-args.load.now at-args.level.now at-marks.children at-marks.heavy) at-args.receivers.now at-loop.v at-loop.receivers at_Added.new.receivers at-loop.invariant.1 at-loop.invariant.2 at_Added.ensures)
 
 pub shape_of-receivers : goal.shape_of-receivers
 shape_of-receivers c = c.loop-v.invariant.1

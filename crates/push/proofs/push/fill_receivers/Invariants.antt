@@ -1,13 +1,9 @@
 -- The sets hold the benches passed.
 use Prim.Native.Nat.{◌-◌, ◌≤◌}
-use mathlib.Core.Path.{◌≡◌, refl, ◌∙◌}
+use mathlib.Core.Path.{◌≡◌}
 use lib.ListN.{length}
-use native.Mathlib.Omega.{arith}
 use Rattle.push.specs.PushArrays.{receives_at}
-use Rattle.push.proofs.ReceiverLaws.{Levels, levels_none, levels_more}
-use Rattle.push.proofs.PushRun.{levels_end}
-use Rattle.rock_graph.specs.Graph.{lows, highs, weights}
-use borrow.Author.Rules.{rules}
+use Rattle.push.proofs.ReceiverLaws.{Levels}
 use Rattle.push.proofs.push.fill_receivers.Given as goal
 
 abbrev pub invariant-loop-v : goal.invariant-loop-v

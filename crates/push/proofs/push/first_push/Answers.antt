@@ -1,8 +1,7 @@
 -- No job before j goes anywhere, and j does not go to a bench before v.
-use Prim.Native.Nat.{ℕ, ◌-◌, ◌≤◌, ◌<◌}
-use mathlib.Core.Path.{◌≡◌, refl, ap, ◌∙◌}
+use Prim.Native.Nat.{ℕ, ◌-◌}
+use mathlib.Core.Path.{refl, ap, ◌∙◌}
 use mathlib.Core.Bool.{false}
-use mathlib.Core.Logic.{⊎_elim}
 use native.Mathlib.Omega.{arith}
 use lib.Bits.{bit_and}
 use Rattle.sums.specs.Search.{any}
@@ -10,7 +9,6 @@ use Rattle.bits.specs.Bits.{is_set}
 use Rattle.arrays.proofs.ArrayLaws.{first_more}
 use Rattle.rock_graph.specs.Graph.{lows, highs, weights}
 use Rattle.push.proofs.PushRun.{opens, opens_at, opens_not, opens-nowhere, opens-more, push_none, push_found}
-use borrow.Author.Rules.{rules}
 use Rattle.push.proofs.push.first_push.Goals.{then-open-ne0+else-loop-v-test, else-open-ne0}
 use Rattle.push.proofs.push.first_push.Goals as goal
 

@@ -1,11 +1,10 @@
 -- The sets hold the ends of the rocks passed.
-use Prim.Native.Nat.{◌-◌, ◌≤◌}
+use Prim.Native.Nat.{◌-◌}
 use native.Mathlib.Omega.{arith}
 use Rattle.rocks.specs.RockArrays.{child_at}
 use Rattle.push.specs.PushArrays.{heavy_at}
-use Rattle.push.proofs.ReceiverLaws.{Ends, marks_none, marks_more, marks_all}
+use Rattle.push.proofs.ReceiverLaws.{marks_none, marks_more, marks_all}
 use Rattle.rock_graph.specs.Graph.{lows, highs, weights}
-use borrow.Author.Rules.{rules}
 use Rattle.push.proofs.push.mark_all.Goals as goal
 
 pub loop-r-init : goal.loop-r-init

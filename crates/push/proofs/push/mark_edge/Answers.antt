@@ -3,7 +3,6 @@ use mathlib.Core.Path.{sym, subst}
 use Prim.Native.Nat.{ℕ}
 use Rattle.rocks.specs.RockArrays.{within_at}
 use Rattle.push.proofs.ReceiverLaws.{Joins, set-with, set-without, edge_heavy, edge_light, edge_far}
-use borrow.Author.Rules.{rules}
 use Rattle.push.proofs.push.mark_edge.Goals.{then-within, else-within}
 use Rattle.push.proofs.push.mark_edge.Goals as goal
 

@@ -1,7 +1,6 @@
 -- By where the rock leads.
 use Rattle.push.proofs.ReceiverLaws.{to_low, to_high, to_none}
 use Rattle.rock_graph.specs.Graph.{lows, highs, weights}
-use borrow.Author.Rules.{rules}
 use Rattle.push.proofs.push.mark_rock.Goals as goal
 
 pub returns-then-d-plus : goal.returns-then-d-plus

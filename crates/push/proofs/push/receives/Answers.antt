@@ -1,15 +1,13 @@
 -- One test after another.
 use Prim.Native.Nat.{ℕ}
-use mathlib.Core.Path.{sym, ap, ◌∙◌}
+use mathlib.Core.Path.{ap}
 use mathlib.Core.Bool.{not, ◌&&◌, ◌||◌}
 use lib.ListN.{get_or}
 use lib.Dec.{leb}
 use borrow.Author.Tests.{le-leb, lt-leb}
-use Rattle.bools.proofs.BoolLaws.{not-true, not-false}
 use Rattle.bits.specs.Bits.{is_set}
 use Rattle.arrays.proofs.ArrayLaws.{and_not, and_rest}
-use Rattle.push.proofs.PushRun.{or_first, or_second}
-use borrow.Author.Rules.{rules}
+use Rattle.push.proofs.PushRun.{or_second}
 use Rattle.push.proofs.push.receives.Goals as goal
 
 pub returns-then-not-within : goal.returns-then-not-within

@@ -1,5 +1,4 @@
 -- The part of the table behind the head's numbers has room for 64 more, and becomes these.
-use borrow.Author.Rules.{rules}
 use Rattle.read_door.proofs.ReadSteps.{booked_put}
 use Rattle.read_door.proofs.call.put_booked.Goals as goal
 

@@ -1,5 +1,4 @@
 -- Four numbers put one behind the other are the head's.
-use borrow.Author.Rules.{rules}
 use native.Mathlib.Omega.{arith}
 use mathlib.Core.Path.{◌∙◌}
 use Rattle.tables.proofs.TableSteps.{put_some}

@@ -1,15 +1,11 @@
 -- The loop's invariant: the numbers of the first i jobs stand from byte 544 on, and all else is as it was.
 use Prim.Native.Nat.{◌+◌, ◌*◌, ◌-◌, ◌≤◌}
-use native.Mathlib.Omega.{arith}
-use mathlib.Core.Path.{◌≡◌, refl, ◌∙◌}
+use mathlib.Core.Path.{◌≡◌}
 use lib.ListN.{length}
-use borrow.Author.Rules.{rules}
-use Rattle.tables.proofs.TableSteps.{put_some}
 use Rattle.bits.specs.Little.{little_all}
 use Rattle.fields.specs.Tests.{job_table}
 use Rattle.frame.proofs.WriterSteps.{written}
 use Rattle.read_door.specs.ReadDoor.{job_numbers}
-use Rattle.read_door.proofs.ReadSteps.{jobs_none, jobs_more}
 use Rattle.read_door.proofs.call.put_jobs.Given as goal
 
 abbrev pub invariant-loop-i : goal.invariant-loop-i

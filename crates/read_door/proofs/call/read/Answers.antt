@@ -1,8 +1,7 @@
 -- A reading that accepts holds 64 booked numbers, and at most 512 jobs in tables of 512 entries. The numbers of its head,
 -- the booked ones and those of its jobs are what is shown.
 use native.Mathlib.Omega.{arith}
-use borrow.Author.Rules.{rules}
-use Rattle.read_door.proofs.ReadSteps.{Stored, stored-accepted, fault_shown, no_room, all_shown}
+use Rattle.read_door.proofs.ReadSteps.{stored-accepted, fault_shown, no_room, all_shown}
 use Rattle.read_door.proofs.call.read.Goals as goal
 
 pub overflow_mul-n : goal.overflow_mul-n

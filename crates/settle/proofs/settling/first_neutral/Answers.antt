@@ -1,12 +1,10 @@
 -- v is the lowest end of the rocks passed.
-use Prim.Native.Nat.{◌≤◌, ◌-◌}
+use Prim.Native.Nat.{◌-◌}
 use mathlib.Core.Path.{◌≡◌}
 use native.Mathlib.Omega.{arith}
 use Rattle.bits.specs.Bits.{is_set}
-use Rattle.rocks.specs.RockArrays.{lowest_end}
 use Rattle.settle.specs.SettleArrays.{follows_at}
 use Rattle.rocks.proofs.RockLaws.{lowest_none, lowest_more}
-use borrow.Author.Rules.{rules}
 use Rattle.settle.proofs.settling.first_neutral.Goals as goal
 
 pub loop-r-init : goal.loop-r-init

@@ -1,15 +1,8 @@
 -- Array and set show a state from which the rest of the loop gives what it gives from the start (SettleRun).
-use Prim.Native.Nat.{ℕ}
-use mathlib.Core.Path.{◌≡◌, refl, ap, ◌∙◌}
-use mathlib.Core.Bool.{Bool}
-use mathlib.Core.List.{List}
+use mathlib.Core.Path.{refl, ap, ◌∙◌}
 use native.Mathlib.Omega.{arith}
 use lib.ListN.{length, length-set}
-use Rattle.algorithm.specs.Board.{Board, Directions}
-use Rattle.rocks.specs.BoardArrays.{Rocks, Directed}
-use Rattle.settle.specs.SettleArrays.{ShowsMarks}
-use Rattle.settle.proofs.SettleRun.{Following, follow-starts, follow-next, follow-ends, follow-spent}
-use borrow.Author.Rules.{rules}
+use Rattle.settle.proofs.SettleRun.{follow-starts, follow-next, follow-ends, follow-spent}
 use Rattle.settle.proofs.settling.follow.Goals as goal
 
 pub loop-turns-init : goal.loop-turns-init

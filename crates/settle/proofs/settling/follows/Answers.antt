@@ -5,7 +5,6 @@ use lib.Dec.{eqb}
 use borrow.Author.Tests.{eq-eqb, ne_eqb}
 use Rattle.bits.specs.Bits.{is_set}
 use Rattle.arrays.proofs.ArrayLaws.{and_not, and_rest}
-use borrow.Author.Rules.{rules}
 use Rattle.settle.proofs.settling.follows.Goals as goal
 
 pub returns-then-at-ne0 : goal.returns-then-at-ne0

@@ -1,12 +1,10 @@
 -- No rock passed is neutral at v.
-use Prim.Native.Nat.{ℕ, ◌≤◌, ◌<◌, ◌-◌}
-use mathlib.Core.Path.{◌≡◌}
+use Prim.Native.Nat.{◌-◌}
 use mathlib.Core.Bool.{false, ◌&&◌}
 use native.Mathlib.Omega.{arith}
 use Rattle.rocks.specs.RockArrays.{touches_at}
 use Rattle.rocks.specs.SpreadArrays.{neutral_rock}
 use Rattle.arrays.proofs.ArrayLaws.{first_found, first_none, first_more}
-use borrow.Author.Rules.{rules}
 use Rattle.settle.proofs.settling.neutral_rock.Goals as goal
 
 pub loop-r-init : goal.loop-r-init

@@ -2,11 +2,8 @@
 use Prim.Native.Nat.{ℕ, ◌≤◌, ◌<◌, ◌-◌}
 use mathlib.Core.Path.{◌≡◌}
 use mathlib.Core.Bool.{false, ◌&&◌}
-use native.Mathlib.Omega.{arith}
 use Rattle.rocks.specs.RockArrays.{touches_at}
 use Rattle.rocks.specs.SpreadArrays.{neutral_rock}
-use Rattle.arrays.proofs.ArrayLaws.{first_found, first_none, first_more}
-use borrow.Author.Rules.{rules}
 use Rattle.settle.proofs.settling.neutral_rock.Given as goal
 
 abbrev pub invariant-loop-r : goal.invariant-loop-r

@@ -1,13 +1,7 @@
 -- The array shows a state from which the rest of the loop gives what it gives from the start (SettleRun).
-use Prim.Native.Nat.{ℕ}
-use mathlib.Core.Path.{◌≡◌, refl, ◌∙◌}
-use mathlib.Core.List.{List}
+use mathlib.Core.Path.{refl, ◌∙◌}
 use native.Mathlib.Omega.{arith}
-use lib.ListN.{length}
-use Rattle.algorithm.specs.Board.{Board, Directions}
-use Rattle.rocks.specs.BoardArrays.{Rocks, Directed}
-use Rattle.settle.proofs.SettleRun.{Settles, settle-starts, settle-next, settle-ends, settle-spent}
-use borrow.Author.Rules.{rules}
+use Rattle.settle.proofs.SettleRun.{settle-starts, settle-next, settle-ends, settle-spent}
 use Rattle.settle.proofs.settling.settle.Goals as goal
 
 pub loop-turns-init : goal.loop-turns-init

@@ -1,13 +1,11 @@
 -- The array shows a state from which the rest of the loop gives what it gives from the start (SettleRun).
 use Prim.Native.Nat.{ℕ}
-use mathlib.Core.Path.{◌≡◌, refl, ◌∙◌}
+use mathlib.Core.Path.{◌≡◌}
 use mathlib.Core.List.{List}
-use native.Mathlib.Omega.{arith}
 use lib.ListN.{length}
 use Rattle.algorithm.specs.Board.{Board, Directions}
 use Rattle.rocks.specs.BoardArrays.{Rocks, Directed}
-use Rattle.settle.proofs.SettleRun.{Settles, settle-starts, settle-next, settle-ends, settle-spent}
-use borrow.Author.Rules.{rules}
+use Rattle.settle.proofs.SettleRun.{Settles}
 use Rattle.settle.proofs.settling.settle.Given as goal
 
 abbrev pub invariant-loop-turns : goal.invariant-loop-turns

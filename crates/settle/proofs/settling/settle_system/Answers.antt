@@ -1,6 +1,5 @@
 -- By cases on the balance (SettleRun).
 use Rattle.settle.proofs.SettleRun.{system-shown, settle-tree, settle-cycle}
-use borrow.Author.Rules.{rules}
 use Rattle.settle.proofs.settling.settle_system.Goals as goal
 
 pub returns-then-kind-eq-TREE : goal.returns-then-kind-eq-TREE

@@ -1,6 +1,5 @@
 -- By the least weight (WeightLaws).
 use Rattle.weighing.proofs.WeightLaws.{blocks-none, blocks-weighed}
-use borrow.Author.Rules.{rules}
 use Rattle.weighing.proofs.weighing.blocks.Goals as goal
 
 pub returns-in-NoPlacement : goal.returns-in-NoPlacement

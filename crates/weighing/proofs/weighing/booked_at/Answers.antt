@@ -1,7 +1,5 @@
 -- By whether the bench is in the set.
-use mathlib.Core.Path.{sym, ◌∙◌}
 use Rattle.weighing.proofs.WeightLaws.{on_in, on_out}
-use borrow.Author.Rules.{rules}
 use Rattle.weighing.proofs.weighing.booked_at.Goals as goal
 
 pub returns-then-has : goal.returns-then-has

@@ -1,12 +1,10 @@
 -- What is booked on the benches passed (WeightLaws).
 use Prim.Native.Nat.{◌≤◌, ◌-◌}
-use mathlib.Core.Path.{◌≡◌, refl}
-use native.Mathlib.Omega.{arith}
+use mathlib.Core.Path.{◌≡◌}
 use Rattle.sums.specs.Sum.{sum}
 use Rattle.day.specs.Day.{Day}
 use Rattle.weighing.specs.Weights.{Bookings}
-use Rattle.weighing.proofs.WeightLaws.{booked_in, booked_more, booked_ends}
-use borrow.Author.Rules.{rules}
+use Rattle.weighing.proofs.WeightLaws.{booked_in}
 use Rattle.weighing.proofs.weighing.booked_weight.Given as goal
 
 abbrev pub invariant-loop-v : goal.invariant-loop-v

@@ -1,7 +1,6 @@
 -- By whether the job is heavy, and lies inside.
 use Rattle.weighing.specs.Weights.{within}
 use Rattle.weighing.proofs.WeightLaws.{heavy-job, inside_job, outside_job}
-use borrow.Author.Rules.{rules}
 use Rattle.weighing.proofs.weighing.confined.Goals as goal
 
 pub returns-then-heavy : goal.returns-then-heavy

@@ -1,6 +1,5 @@
 -- By what is left of the one set without the other.
 use Rattle.weighing.proofs.WeightLaws.{inside_is}
-use borrow.Author.Rules.{rules}
 use Rattle.weighing.proofs.weighing.inside.Goals as goal
 
 pub returns : goal.returns

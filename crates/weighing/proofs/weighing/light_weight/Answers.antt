@@ -1,12 +1,8 @@
 -- What the light jobs passed weigh that can go nowhere but into the set (WeightLaws).
-use Prim.Native.Nat.{◌≤◌, ◌-◌}
-use mathlib.Core.Path.{◌≡◌, refl}
+use Prim.Native.Nat.{◌-◌}
+use mathlib.Core.Path.{refl}
 use native.Mathlib.Omega.{arith}
-use Rattle.sums.specs.Sum.{sum}
-use Rattle.day.specs.Day.{Day}
-use Rattle.placing.specs.ClassArrays.{Holds}
-use Rattle.weighing.proofs.WeightLaws.{light_at, light-more, light-ends}
-use borrow.Author.Rules.{rules}
+use Rattle.weighing.proofs.WeightLaws.{light-more, light-ends}
 use Rattle.weighing.proofs.weighing.light_weight.Goals as goal
 
 pub loop-j-init : goal.loop-j-init

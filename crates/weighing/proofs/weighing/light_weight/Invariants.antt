@@ -1,12 +1,10 @@
 -- What the light jobs passed weigh that can go nowhere but into the set (WeightLaws).
 use Prim.Native.Nat.{◌≤◌, ◌-◌}
-use mathlib.Core.Path.{◌≡◌, refl}
-use native.Mathlib.Omega.{arith}
+use mathlib.Core.Path.{◌≡◌}
 use Rattle.sums.specs.Sum.{sum}
 use Rattle.day.specs.Day.{Day}
 use Rattle.placing.specs.ClassArrays.{Holds}
-use Rattle.weighing.proofs.WeightLaws.{light_at, light-more, light-ends}
-use borrow.Author.Rules.{rules}
+use Rattle.weighing.proofs.WeightLaws.{light_at}
 use Rattle.weighing.proofs.weighing.light_weight.Given as goal
 
 abbrev pub invariant-loop-j : goal.invariant-loop-j

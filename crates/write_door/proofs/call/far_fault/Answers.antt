@@ -1,5 +1,4 @@
 -- The verdict on the opening, and where it accepts, the fault of the bench.
-use borrow.Author.Rules.{rules}
 use Rattle.write_door.proofs.call.far_fault.Goals as goal
 
 pub returns-in-Refused : goal.returns-in-Refused

@@ -1,7 +1,6 @@
 -- What was loaded are the first 64 entries of the table of bookings. Where those behind them are 0, the writer gives
 -- the same for them as for all; else the first that is not 0 is refused.
 use mathlib.Core.Path.{refl}
-use borrow.Author.Rules.{rules}
 use Rattle.fields.specs.Contents.{no_bookings}
 use Rattle.door.specs.Door.{head_of}
 use Rattle.tables.proofs.TableSteps.{loaded_front, loaded-length}

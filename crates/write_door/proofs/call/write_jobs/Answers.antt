@@ -1,5 +1,4 @@
 -- What was loaded are the first 513 entries of each table, and the writer gives the same for them as for all.
-use borrow.Author.Rules.{rules}
 use Rattle.fields.specs.Tests.{no_minutes}
 use Rattle.tables.proofs.TableSteps.{empty, room, loaded_front, loaded-length, given_front, given-length}
 use Rattle.write_door.proofs.WriteSteps.{sheet-length, sheet_fault}
