@@ -44,6 +44,8 @@ ENGLISH = set('check-only non-empty one-to-one hyper-edge read-only'.split())
 # Prefixes of paths that end where Rattle's own names begin.
 GENERATED_BASES = {'tie', 'goal'}
 GENERATED = re.compile(r'-requires|-init|-preserved|overflow_|returns-')
+# What stands behind a call of a function in a proof.
+CALLED = re.compile(r'\.(ensures|requires|result|returns)\b')
 
 DELIM = r'\s(){}\[\],;.:`"λ'
 TOKEN = re.compile(r'[^%s]+' % DELIM)
@@ -300,7 +302,7 @@ class Renaming:
         self.fields = {}
         for ds in self.decls.values():
             for d in ds:
-                if d.sort in ('field', 'constructor') and d.new != d.name:
+                if d.sort == 'field' and d.new != d.name:
                     if self.fields.setdefault(d.name, d.new) != d.new:
                         self.warnings.append('%s: the field %s has two new names' % (d.module, d.name))
         self.names = {d.new for ds in self.decls.values() for d in ds}
@@ -427,7 +429,7 @@ class Renaming:
                 new = tok
             elif dotted:
                 base = re.search(r'([^%s]+)\.$' % DELIM, text[:start])
-                if base and base.group(1) in GENERATED_BASES:
+                if base and base.group(1) in GENERATED_BASES or CALLED.match(text, at):
                     new = tok
                 else:
                     new = scope.member.get(tok, tok)
