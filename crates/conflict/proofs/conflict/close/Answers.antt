@@ -20,8 +20,10 @@ pub shape_of-joined-then-v-gt63 : goal.shape_of-joined-then-v-gt63
 shape_of-joined-then-v-gt63 c = c.loop-turns.invariant.0
 
 pub returns-then-v-gt63 : goal.returns-then-v-gt63
-returns-then-v-gt63 c = λ b dirs xs G hi C D X. let at-args = c.args in
-let at_first = c.first_joining-v in closes_ends b at-args.n (lows at-args.graph.now) (highs at-args.graph.now) (weights at-args.graph.now) G.rocks G.few_rocks (incidents at-args.graph.now) G.maps.incidence at-args.i dirs xs at-args.dir.now at-args.joined.now hi D X (c.loop-turns.invariant.1 b dirs xs G hi C D X) at_first.result at_first.ensures (omega arith)
+returns-then-v-gt63 c = λ b dirs xs G hi C D X.
+    let at-args = c.args in
+    let at_first = c.first_joining-v in
+    closes_ends b at-args.n (lows at-args.graph.now) (highs at-args.graph.now) (weights at-args.graph.now) G.rocks G.few_rocks (incidents at-args.graph.now) G.maps.incidence at-args.i dirs xs at-args.dir.now at-args.joined.now hi D X (c.loop-turns.invariant.1 b dirs xs G hi C D X) at_first.result at_first.ensures (omega arith)
 
 pub loop-turns-preserved : goal.loop-turns-preserved
 loop-turns-preserved c =
@@ -46,4 +48,6 @@ pub shape_of-joined : goal.shape_of-joined
 shape_of-joined c = c.loop-turns.invariant.0
 
 pub returns : goal.returns
-returns c = λ b dirs xs G hi C D X. let at-args = c.args in closes_spent b at-args.n (lows at-args.graph.now) (highs at-args.graph.now) (weights at-args.graph.now) G.rocks G.few_rocks (incidents at-args.graph.now) G.maps.incidence at-args.i dirs xs at-args.dir.now at-args.joined.now hi D X (c.loop-turns.invariant.1 b dirs xs G hi C D X) (omega arith)
+returns c = λ b dirs xs G hi C D X.
+    let at-args = c.args in
+    closes_spent b at-args.n (lows at-args.graph.now) (highs at-args.graph.now) (weights at-args.graph.now) G.rocks G.few_rocks (incidents at-args.graph.now) G.maps.incidence at-args.i dirs xs at-args.dir.now at-args.joined.now hi D X (c.loop-turns.invariant.1 b dirs xs G hi C D X) (omega arith)

@@ -32,12 +32,14 @@ shape_of-joined-then-v-gt63 c =
     at-close.auto.joined ∙ at-loop.invariant.2
 
 pub returns-then-v-gt63 : goal.returns-then-v-gt63
-returns-then-v-gt63 c = λ b dirs xs G P. let at-args = c.args in
-let at-loop = c.loop-turns in
-let at-close = c.close-more in
-let at-fake = c.first_fake-v in
-let now-is = at-loop.invariant.3 b dirs xs G P in
-let E = builds_ends b at-args.n (lows at-args.graph.now) (highs at-args.graph.now) (weights at-args.graph.now) G.rocks G.few_rocks (incidents at-args.graph.now) G.maps.incidence now-is _ at-close.result (at-close.ensures b now-is.building.now_dirs now-is.building.now_xs G P.round now-is.joining now-is.building.seen.directed now-is.building.rounds) at-fake.result (at-fake.ensures at-args.n at-loop.dir G.maps.incidence now-is.free) (omega arith) in (E.0, E.1, record { joined_all = E.2; faked_all = E.3; unforced = E.4; free = E.5 })
+returns-then-v-gt63 c = λ b dirs xs G P.
+    let at-args = c.args in
+    let at-loop = c.loop-turns in
+    let at-close = c.close-more in
+    let at-fake = c.first_fake-v in
+    let now-is = at-loop.invariant.3 b dirs xs G P in
+    let E = builds_ends b at-args.n (lows at-args.graph.now) (highs at-args.graph.now) (weights at-args.graph.now) G.rocks G.few_rocks (incidents at-args.graph.now) G.maps.incidence now-is _ at-close.result (at-close.ensures b now-is.building.now_dirs now-is.building.now_xs G P.round now-is.joining now-is.building.seen.directed now-is.building.rounds) at-fake.result (at-fake.ensures at-args.n at-loop.dir G.maps.incidence now-is.free) (omega arith) in
+    (E.0, E.1, record { joined_all = E.2; faked_all = E.3; unforced = E.4; free = E.5 })
 
 pub overflow_sub-turns : goal.overflow_sub-turns
 overflow_sub-turns c =
@@ -93,8 +95,10 @@ shape_of-joined c =
     c.close-more-2.auto.joined ∙ at-loop.invariant.2
 
 pub returns : goal.returns
-returns c = λ b dirs xs G P. let at-args = c.args in
-let at-loop = c.loop-turns in
-let at-close = c.close-more-2 in
-let now-is = at-loop.invariant.3 b dirs xs G P in
-let E = builds_spent b at-args.n (lows at-args.graph.now) (highs at-args.graph.now) (weights at-args.graph.now) G.rocks G.few_rocks (incidents at-args.graph.now) G.maps.incidence now-is _ at-close.result (at-close.ensures b now-is.building.now_dirs now-is.building.now_xs G P.round now-is.joining now-is.building.seen.directed now-is.building.rounds) (omega (arith, c.loop-turns-test.false)) in (E.0, E.1, record { joined_all = E.2; faked_all = E.3; unforced = E.4; free = E.5 })
+returns c = λ b dirs xs G P.
+    let at-args = c.args in
+    let at-loop = c.loop-turns in
+    let at-close = c.close-more-2 in
+    let now-is = at-loop.invariant.3 b dirs xs G P in
+    let E = builds_spent b at-args.n (lows at-args.graph.now) (highs at-args.graph.now) (weights at-args.graph.now) G.rocks G.few_rocks (incidents at-args.graph.now) G.maps.incidence now-is _ at-close.result (at-close.ensures b now-is.building.now_dirs now-is.building.now_xs G P.round now-is.joining now-is.building.seen.directed now-is.building.rounds) (omega (arith, c.loop-turns-test.false)) in
+    (E.0, E.1, record { joined_all = E.2; faked_all = E.3; unforced = E.4; free = E.5 })

@@ -17,12 +17,14 @@ loop-left-init c =
     )
 
 pub returns-then-fake_rock-lt64 : goal.returns-then-fake_rock-lt64
-returns-then-fake_rock-lt64 c = λ n dir H N. let at-args = c.args in
-let at-loop = c.loop-left in
-let at-lowest = c.lowest-v in
-let at-rock = c.fake_rock in
-let P = fake_at at-args.benches dir at-args.joined.now in
-let below = first_below at-args.fakes at-loop.left at-lowest.result at-lowest.ensures c.loop-left-test.true at-loop.invariant.0 c.ranges.fakes.fits in bench_found (incidents at-args.graph.now) P at-args.fakes at-loop.left (at-loop.invariant.1 n dir H N) at-lowest.result at-lowest.ensures below (rock_found (incidents at-args.graph.now) P at-lowest.result at-rock.result (at-rock.ensures n dir H N below) c.if-fake_rock-lt64.true)
+returns-then-fake_rock-lt64 c = λ n dir H N.
+    let at-args = c.args in
+    let at-loop = c.loop-left in
+    let at-lowest = c.lowest-v in
+    let at-rock = c.fake_rock in
+    let P = fake_at at-args.benches dir at-args.joined.now in
+    let below = first_below at-args.fakes at-loop.left at-lowest.result at-lowest.ensures c.loop-left-test.true at-loop.invariant.0 c.ranges.fakes.fits in
+    bench_found (incidents at-args.graph.now) P at-args.fakes at-loop.left (at-loop.invariant.1 n dir H N) at-lowest.result at-lowest.ensures below (rock_found (incidents at-args.graph.now) P at-lowest.result at-rock.result (at-rock.ensures n dir H N below) c.if-fake_rock-lt64.true)
 
 pub loop-left-smaller : goal.loop-left-smaller
 loop-left-smaller c =
@@ -55,5 +57,7 @@ loop-left-preserved c =
     )
 
 pub returns : goal.returns
-returns c = λ n dir H N. let at-args = c.args in
-let at-loop = c.loop-left in bench_none (incidents at-args.graph.now) (fake_at at-args.benches dir at-args.joined.now) at-args.fakes at-loop.left (at-loop.invariant.1 n dir H N) (omega arith)
+returns c = λ n dir H N.
+    let at-args = c.args in
+    let at-loop = c.loop-left in
+    bench_none (incidents at-args.graph.now) (fake_at at-args.benches dir at-args.joined.now) at-args.fakes at-loop.left (at-loop.invariant.1 n dir H N) (omega arith)

@@ -16,14 +16,16 @@ loop-left-init c =
     )
 
 pub returns-then-r-lt64 : goal.returns-then-r-lt64
-returns-then-r-lt64 c = λ n dir H N. let at-args = c.args in
-let at-loop = c.loop-left in
-let at-lowest = c.lowest-v in
-let at-forced-rock = c.forced_rock-r in
-let P = forces_at at-args.bound (weights at-args.graph.now) dir at-args.load.now in
-let S = at-loop.invariant.1 n dir H N in
-let below = lowest-below at-loop.left at-lowest.result at-lowest.ensures (omega arith) (omega (arith, at-loop.invariant.0, c.ranges.cand.fits)) in
-let rock = at-forced-rock.ensures n dir H N below in (bench_found (incidents at-args.graph.now) P at-args.cand at-loop.left S at-lowest.result at-lowest.ensures below (rock_found (incidents at-args.graph.now) P at-lowest.result at-forced-rock.result rock (omega arith)), (λ h. (omega arith, rock)), bench_left (incidents at-args.graph.now) P at-args.cand at-loop.left S)
+returns-then-r-lt64 c = λ n dir H N.
+    let at-args = c.args in
+    let at-loop = c.loop-left in
+    let at-lowest = c.lowest-v in
+    let at-forced-rock = c.forced_rock-r in
+    let P = forces_at at-args.bound (weights at-args.graph.now) dir at-args.load.now in
+    let S = at-loop.invariant.1 n dir H N in
+    let below = lowest-below at-loop.left at-lowest.result at-lowest.ensures (omega arith) (omega (arith, at-loop.invariant.0, c.ranges.cand.fits)) in
+    let rock = at-forced-rock.ensures n dir H N below in
+    (bench_found (incidents at-args.graph.now) P at-args.cand at-loop.left S at-lowest.result at-lowest.ensures below (rock_found (incidents at-args.graph.now) P at-lowest.result at-forced-rock.result rock (omega arith)), (λ h. (omega arith, rock)), bench_left (incidents at-args.graph.now) P at-args.cand at-loop.left S)
 
 pub loop-left-smaller : goal.loop-left-smaller
 loop-left-smaller c =
@@ -54,7 +56,9 @@ loop-left-preserved c =
     )
 
 pub returns : goal.returns
-returns c = λ n dir H N. let at-args = c.args in
-let at-loop = c.loop-left in
-let P = forces_at at-args.bound (weights at-args.graph.now) dir at-args.load.now in
-let S = at-loop.invariant.1 n dir H N in (bench_none (incidents at-args.graph.now) P at-args.cand at-loop.left S (omega arith), (λ h. absurd (omega arith)), bench_left (incidents at-args.graph.now) P at-args.cand at-loop.left S)
+returns c = λ n dir H N.
+    let at-args = c.args in
+    let at-loop = c.loop-left in
+    let P = forces_at at-args.bound (weights at-args.graph.now) dir at-args.load.now in
+    let S = at-loop.invariant.1 n dir H N in
+    (bench_none (incidents at-args.graph.now) P at-args.cand at-loop.left S (omega arith), (λ h. absurd (omega arith)), bench_left (incidents at-args.graph.now) P at-args.cand at-loop.left S)

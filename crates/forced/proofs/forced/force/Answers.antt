@@ -24,13 +24,15 @@ pub shape_of-load-then-f-eq64 : goal.shape_of-load-then-f-eq64
 shape_of-load-then-f-eq64 c = c.loop-turns.invariant.1
 
 pub returns-then-f-eq64 : goal.returns-then-f-eq64
-returns-then-f-eq64 c = λ b dirs G N C S. let R = G.rocks in
-let few = G.few_rocks in
-let H = G.maps.incidence in
-let at-args = c.args in
-let at-loop = c.loop-turns in
-let at-first-forcing = c.first_forcing-f in
-let O = at-loop.invariant.2 b dirs G N C S in outer_sets_ends b at-args.n (lows at-args.graph.now) (highs at-args.graph.now) (weights at-args.graph.now) R (incidents at-args.graph.now) few H dirs at-args.dir.now O at-first-forcing.result.bench (at-first-forcing.ensures at-args.n at-loop.dir H O.free).0 c.if-f-eq64.true
+returns-then-f-eq64 c = λ b dirs G N C S.
+    let R = G.rocks in
+    let few = G.few_rocks in
+    let H = G.maps.incidence in
+    let at-args = c.args in
+    let at-loop = c.loop-turns in
+    let at-first-forcing = c.first_forcing-f in
+    let O = at-loop.invariant.2 b dirs G N C S in
+    outer_sets_ends b at-args.n (lows at-args.graph.now) (highs at-args.graph.now) (weights at-args.graph.now) R (incidents at-args.graph.now) few H dirs at-args.dir.now O at-first-forcing.result.bench (at-first-forcing.ensures at-args.n at-loop.dir H O.free).0 c.if-f-eq64.true
 
 pub loop-turns-preserved : goal.loop-turns-preserved
 loop-turns-preserved c =
@@ -69,7 +71,9 @@ pub shape_of-load : goal.shape_of-load
 shape_of-load c = c.loop-turns.invariant.1
 
 pub returns : goal.returns
-returns c = λ b dirs G N C S. let R = G.rocks in
-let few = G.few_rocks in
-let H = G.maps.incidence in
-let at-args = c.args in outer_sets_spent b at-args.n (lows at-args.graph.now) (highs at-args.graph.now) (weights at-args.graph.now) R (incidents at-args.graph.now) few H dirs at-args.dir.now (c.loop-turns.invariant.2 b dirs G N C S) (omega arith)
+returns c = λ b dirs G N C S.
+    let R = G.rocks in
+    let few = G.few_rocks in
+    let H = G.maps.incidence in
+    let at-args = c.args in
+    outer_sets_spent b at-args.n (lows at-args.graph.now) (highs at-args.graph.now) (weights at-args.graph.now) R (incidents at-args.graph.now) few H dirs at-args.dir.now (c.loop-turns.invariant.2 b dirs G N C S) (omega arith)

@@ -26,13 +26,15 @@ pub shape_of-load-then-f-eq64 : goal.shape_of-load-then-f-eq64
 shape_of-load-then-f-eq64 c = c.loop-turns.invariant.1
 
 pub returns-then-f-eq64 : goal.returns-then-f-eq64
-returns-then-f-eq64 c = λ b dirs G N C h S. let R = G.rocks in
-let few = G.few_rocks in
-let H = G.maps.incidence in
-let at-args = c.args in
-let at-loop = c.loop-turns in
-let at-first-forcing = c.first_forcing-f in
-let I = at-loop.invariant.2 b dirs G N C h S in inner-sets_ends b at-args.n (lows at-args.graph.now) (highs at-args.graph.now) (weights at-args.graph.now) R (incidents at-args.graph.now) few H dirs at-args.first at-args.sources.watch at-args.dir.now at-args.sources.tails I at-first-forcing.result.bench (at-first-forcing.ensures at-args.n at-loop.dir H I.free).0 c.if-f-eq64.true
+returns-then-f-eq64 c = λ b dirs G N C h S.
+    let R = G.rocks in
+    let few = G.few_rocks in
+    let H = G.maps.incidence in
+    let at-args = c.args in
+    let at-loop = c.loop-turns in
+    let at-first-forcing = c.first_forcing-f in
+    let I = at-loop.invariant.2 b dirs G N C h S in
+    inner-sets_ends b at-args.n (lows at-args.graph.now) (highs at-args.graph.now) (weights at-args.graph.now) R (incidents at-args.graph.now) few H dirs at-args.first at-args.sources.watch at-args.dir.now at-args.sources.tails I at-first-forcing.result.bench (at-first-forcing.ensures at-args.n at-loop.dir H I.free).0 c.if-f-eq64.true
 
 pub loop-turns-preserved : goal.loop-turns-preserved
 loop-turns-preserved c =
@@ -67,7 +69,9 @@ pub shape_of-load : goal.shape_of-load
 shape_of-load c = c.loop-turns.invariant.1
 
 pub returns : goal.returns
-returns c = λ b dirs G N C h S. let R = G.rocks in
-let few = G.few_rocks in
-let H = G.maps.incidence in
-let at-args = c.args in inner-sets_spent b at-args.n (lows at-args.graph.now) (highs at-args.graph.now) (weights at-args.graph.now) R (incidents at-args.graph.now) few H dirs at-args.first at-args.sources.watch at-args.dir.now at-args.sources.tails (c.loop-turns.invariant.2 b dirs G N C h S) (omega arith)
+returns c = λ b dirs G N C h S.
+    let R = G.rocks in
+    let few = G.few_rocks in
+    let H = G.maps.incidence in
+    let at-args = c.args in
+    inner-sets_spent b at-args.n (lows at-args.graph.now) (highs at-args.graph.now) (weights at-args.graph.now) R (incidents at-args.graph.now) few H dirs at-args.first at-args.sources.watch at-args.dir.now at-args.sources.tails (c.loop-turns.invariant.2 b dirs G N C h S) (omega arith)

@@ -14,10 +14,12 @@ loop-left-init c =
     at-args.load.now at-args.v)
 
 pub returns-then-exceeds : goal.returns-then-exceeds
-returns-then-exceeds c = λ n dir H N hv. let at-args = c.args in
-let at-loop = c.loop-left in
-let at-common = c.common-left in
-let at-lowest = c.lowest-r in free_found n (lows at-args.graph.now) (highs at-args.graph.now) dir (incidents at-args.graph.now) at-args.neutral H N at-args.v hv at-common.result (subst (λ (x : ℕ). BothOf at-common.result x at-args.neutral) c.incident.ensures at-common.ensures) at-args.bound (weights at-args.graph.now) at-args.load.now at-loop.left at-loop.invariant at-lowest.result at-lowest.ensures (lowest-below at-loop.left at-lowest.result at-lowest.ensures (omega arith) (omega (arith, at-loop.invariant.small, at-common.type_inv))) (rw (← c.at.ensures, ← c.weight.ensures) (sym c.exceeds.ensures ∙ c.if-exceeds.true))
+returns-then-exceeds c = λ n dir H N hv.
+    let at-args = c.args in
+    let at-loop = c.loop-left in
+    let at-common = c.common-left in
+    let at-lowest = c.lowest-r in
+    free_found n (lows at-args.graph.now) (highs at-args.graph.now) dir (incidents at-args.graph.now) at-args.neutral H N at-args.v hv at-common.result (subst (λ (x : ℕ). BothOf at-common.result x at-args.neutral) c.incident.ensures at-common.ensures) at-args.bound (weights at-args.graph.now) at-args.load.now at-loop.left at-loop.invariant at-lowest.result at-lowest.ensures (lowest-below at-loop.left at-lowest.result at-lowest.ensures (omega arith) (omega (arith, at-loop.invariant.small, at-common.type_inv))) (rw (← c.at.ensures, ← c.weight.ensures) (sym c.exceeds.ensures ∙ c.if-exceeds.true))
 
 pub loop-left-smaller : goal.loop-left-smaller
 loop-left-smaller c =
@@ -44,6 +46,8 @@ loop-left-preserved c =
     (rw (← at_at.ensures, ← at-weight.ensures) (sym c.exceeds.ensures ∙ c.if-exceeds.false))
 
 pub returns : goal.returns
-returns c = λ n dir H N hv. let at-args = c.args in
-let at-loop = c.loop-left in
-let at-common = c.common-left in free_none n (lows at-args.graph.now) (highs at-args.graph.now) dir (incidents at-args.graph.now) at-args.neutral H N at-args.v hv at-common.result (subst (λ (x : ℕ). BothOf at-common.result x at-args.neutral) c.incident.ensures at-common.ensures) at-args.bound (weights at-args.graph.now) at-args.load.now at-loop.left at-loop.invariant (omega arith)
+returns c = λ n dir H N hv.
+    let at-args = c.args in
+    let at-loop = c.loop-left in
+    let at-common = c.common-left in
+    free_none n (lows at-args.graph.now) (highs at-args.graph.now) dir (incidents at-args.graph.now) at-args.neutral H N at-args.v hv at-common.result (subst (λ (x : ℕ). BothOf at-common.result x at-args.neutral) c.incident.ensures at-common.ensures) at-args.bound (weights at-args.graph.now) at-args.load.now at-loop.left at-loop.invariant (omega arith)

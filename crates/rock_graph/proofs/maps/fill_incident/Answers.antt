@@ -29,5 +29,7 @@ pub shape_of-incident : goal.shape_of-incident
 shape_of-incident c = c.loop-r.invariant.0
 
 pub returns : goal.returns
-returns c = λ e. let at-args = c.args in
-let at-loop = c.loop-r in filling_ends at-args.low.now at-args.high.now at-args.n at-loop.r (at-loop.invariant.2 e) (omega arith)
+returns c = λ e.
+    let at-args = c.args in
+    let at-loop = c.loop-r in
+    filling_ends at-args.low.now at-args.high.now at-args.n at-loop.r (at-loop.invariant.2 e) (omega arith)

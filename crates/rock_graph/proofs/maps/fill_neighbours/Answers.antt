@@ -30,5 +30,7 @@ pub shape_of-neighbours : goal.shape_of-neighbours
 shape_of-neighbours c = c.loop-v.invariant.0
 
 pub returns : goal.returns
-returns c = λ n H l. let at-args = c.args in
-let at-loop = c.loop-v in nearing_ends at-args.low.now at-args.high.now at-args.incident.now n at-loop.v H (at-loop.invariant.2 l) (omega arith)
+returns c = λ n H l.
+    let at-args = c.args in
+    let at-loop = c.loop-v in
+    nearing_ends at-args.low.now at-args.high.now at-args.incident.now n at-loop.v H (at-loop.invariant.2 l) (omega arith)

@@ -7,9 +7,11 @@ pub loop-left-init : goal.loop-left-init
 loop-left-init c = joined_starts c.args.benches c.args.table.now
 
 pub returns-then-less-eq0 : goal.returns-then-less-eq0
-returns-then-less-eq0 c = λ v l h. let at-args = c.args in
-let at-loop = c.loop-left in
-let at_less = c.less in joined_full at-args.benches at-args.table.now at-loop.left at-loop.reach at-args.full at_less.result at-loop.invariant at_less.ensures c.if-less-eq0.true v h
+returns-then-less-eq0 c = λ v l h.
+    let at-args = c.args in
+    let at-loop = c.loop-left in
+    let at_less = c.less in
+    joined_full at-args.benches at-args.table.now at-loop.left at-loop.reach at-args.full at_less.result at-loop.invariant at_less.ensures c.if-less-eq0.true v h
 
 pub loop-left-smaller : goal.loop-left-smaller
 loop-left-smaller c =
