@@ -70,13 +70,16 @@ impl Check {
         let input = Guarded::holding(&mut self.rng, sheet);
         let lent = input.clone();
         let before = Guarded::random(&mut self.rng, room);
-        let [mut expected, mut found] = [before.clone(), before.clone()];
+        let [mut expected, mut found, mut shown] = [before.clone(), before.clone(), before.clone()];
         let empty = self.rng.pick(&[Empty::Null, Empty::Pointer]);
         let second = self.codec.read_contents(sheet, expected.inside_mut());
         let library = library::read(lent.inside(), found.inside_mut(), empty);
+        let inspected = library::inspect(lent.inside(), shown.inside_mut(), empty);
         let call = || format!("reading, a table of {room} bytes\nsheet {}", hex::print(sheet));
         self.same_word(library, second, call);
         self.same_bytes("the table", &found, &expected, call);
+        self.same_word(inspected, second, || format!("by inspect, {}", call()));
+        self.same_bytes("the table of inspect", &shown, &expected, call);
         self.same_bytes("the sheet lent to the library", &lent, &input, call);
         let fault = fault_number(library);
         self.expect("no sheet meets fault 10", fault != MINUTES, || hex::print(sheet));

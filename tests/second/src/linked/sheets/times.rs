@@ -17,6 +17,9 @@ use std::time::Instant;
 const SAMPLES: usize = 2000;
 const CALLS: usize = 20;
 
+/// A function that reads a sheet into a table.
+type Read = fn(&[u8], &mut [u8], Empty) -> u64;
+
 /// Nanoseconds of one call.
 struct Times {
     best: f64,
@@ -67,18 +70,25 @@ fn print(what: &str, [library, second]: [Times; 2]) {
     row("median", library.median, second.median);
 }
 
+/// Reading a sheet by a function of a library, and by the second codec.
+fn reading(read: Read, sheet: &[u8]) -> [Times; 2] {
+    let mut codec = Codec::default();
+    let mut tables = [vec![1; table_bytes(MAX_JOBS)], vec![2; table_bytes(MAX_JOBS)]];
+    let [found, expected] = &mut tables;
+    let mut library = || read(black_box(sheet), black_box(found), Empty::Pointer);
+    let mut second = || codec.read_contents(black_box(sheet), black_box(expected));
+    let times = measure(&mut library, &mut second);
+    assert_eq!(tables[0], tables[1], "the tables differ");
+    times
+}
+
 fn print_day(day: &Day) {
     let sheet = day.draft().bytes();
     let Tables { head, booked, minutes, allowed } = &day.tables();
     let mut codec = Codec::default();
 
-    let mut tables = [vec![1; table_bytes(MAX_JOBS)], vec![2; table_bytes(MAX_JOBS)]];
-    let [found, expected] = &mut tables;
-    let reading = measure(
-        &mut || library::read(black_box(&sheet), black_box(found), Empty::Pointer),
-        &mut || codec.read_contents(black_box(&sheet), black_box(expected)),
-    );
-    assert_eq!(tables[0], tables[1], "the tables differ");
+    let read = reading(library::read, &sheet);
+    let inspected = reading(library::inspect, &sheet);
 
     let mut outputs = [1, 2].map(|byte| vec![byte; sheet.len()]);
     let [found, expected] = &mut outputs;
@@ -92,7 +102,8 @@ fn print_day(day: &Day) {
 
     let bookings = day.tables().bookings();
     println!("64 benches, {bookings} bookings, {MAX_JOBS} jobs, {} bytes", sheet.len());
-    print("reading", reading);
+    print("reading", read);
+    print("inspect", inspected);
     print("writing", writing);
 }
 
