@@ -142,6 +142,7 @@ module _ (s page : List ℕ) where
     no_fault_of Passed x it_passed = x.0
     no_fault_of (Long l) x (it_is_long m) = x.0
     no_fault_of (NotPassed i) x (it_did_not_pass k) = x.0
+    no_fault_of (Faulty f) x neither = elim neither [ ]
 
     pub judged_by_answer : OneOfThree (check_page s page) → JudgedPage s page c
     judged_by_answer three =

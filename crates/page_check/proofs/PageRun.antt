@@ -99,16 +99,16 @@ module _ (d : Day) (page : List ℕ) where
   none_yet k l = absurd (omega arith)
 
   module _ (i : ℕ) (P : Passing i) where
-    pub one_more : {t : Bool} → t ≡ blocking_at i → not t ≡ false → Passing (i + 1)
+    pub one_more : {t : Bool} → t ≡ blocking_at i → t ≡ true → Passing (i + 1)
     one_more {t} e p = simp unary_clauses (λ (k : ℕ) l. elim (last_or_below l) [
-      | inl same ↦ ap blocking_at same ∙ sym e ∙ not-false t p
+      | inl same ↦ ap blocking_at same ∙ sym e ∙ p
       | inr before ↦ P k before
     ])
 
-    pub open_found : i < length page → {t : Bool} → t ≡ blocking_at i → not t ≡ true → i ≡ first_open d page
+    pub open_found : i < length page → {t : Bool} → t ≡ blocking_at i → t ≡ false → i ≡ first_open d page
     unfolding first_open
     open_found l e p =
-        sym (least-found (length page) (λ k. not (blocking_at k)) i l (sym (ap not e) ∙ p)
+        sym (least-found (length page) (λ k. not (blocking_at k)) i l (ap not (sym e ∙ p))
         (λ k before. not_intro_false (P k before)))
 
     pub all_blocking : length page ≤ i → length page ≡ first_open d page
@@ -148,20 +148,12 @@ module _ (d : Day) (page : List ℕ) {benches : ℕ} (same : benches ≡ d.bench
 abbrev pub tag : PageAnswer → ℕ
 tag r = tag_of the_type r
 
--- Another answer than passed, as the arm of a `let .. else` knows it.
-abbrev pub Other : PageAnswer → Type 0
-Other r = (tag r ≡ 1) ⊎ ((tag r ≡ 2) ⊎ (tag r ≡ 3))
-
-other_than : (r : PageAnswer) → r ≡ Passed → Other r → ⊥
-other_than r e (inl t) = omega (arith, ap tag e)
-other_than r e (inr (inl t)) = omega (arith, ap tag e)
-other_than r e (inr (inr t)) = omega (arith, ap tag e)
-
 early_by : (v : Verdict) (l : Bool) (j : LongAnswer) (rest r : PageAnswer)
-    → r ≡ after_faults v (cond l (Long j) Passed) → Other r → r ≡ after_faults v (cond l (Long j) rest)
+    → r ≡ after_faults v (cond l (Long j) Passed) → (r ≡ Passed → ⊥)
+    → r ≡ after_faults v (cond l (Long j) rest)
 early_by (Refused f) l j rest r e n = e
 early_by Accepted true j rest r e n = e
-early_by Accepted false j rest r e n = absurd (other_than r e n)
+early_by Accepted false j rest r e n = absurd (n e)
 
 judged_by : (v : Verdict) (l : Bool) (j : LongAnswer) → after_faults v (cond l (Long j) Passed) ≡ Passed
     → (v ≡ Accepted) × (l ≡ false)
@@ -173,7 +165,7 @@ module _ (d : Day) (page : List ℕ) where
   abbrev judgement : PageAnswer
   judgement = cond (ltb (first_open d page) (length page)) (NotPassed (first_open d page)) Passed
 
-  pub early : (r : PageAnswer) → r ≡ first_answer d page → Other r → r ≡ page_answer d page
+  pub early : (r : PageAnswer) → r ≡ first_answer d page → (r ≡ Passed → ⊥) → r ≡ page_answer d page
   early r e n =
       early_by (page_verdict d.benches page) (ltb (long_job d) d.jobs) (record { job = long_job d }) judgement r e n
 

@@ -13,7 +13,6 @@ use mathlib.Core.Bool.{Bool, true, false, not, cond, ◌&&◌}
 use mathlib.Core.Logic.{◌⊎◌, inl, inr}
 use mathlib.Core.List.{List}
 use native.Mathlib.Omega.{arith}
-use denote.Enum.Declared.{tag_of}
 use lib.Dec.{eqb, ltb}
 use lib.ListN.{get_or}
 use borrow.Author.Tests.{eq-eqb, ne_eqb, lt-ltb, le-ltb, eqb-false, ltb-false}
@@ -128,25 +127,14 @@ weighs_lent d l h jobs minutes allowed booked L set =
 chosen : Bool → Bool → Bool → Fault → Fault → LongAnswer → SetAnswer → SetAnswer
 chosen a b l f g j rest = cond a (Faulty f) (cond b (Faulty g) (cond l (Long j) rest))
 
-abbrev pub tag : SetAnswer → ℕ
-tag r = tag_of the_type r
-
--- Another answer than not passed, as the arm of a `let .. else` knows it.
-abbrev pub Other : SetAnswer → Type 0
-Other r = (tag r ≡ 0) ⊎ ((tag r ≡ 1) ⊎ (tag r ≡ 3))
-
-other_than : (r : SetAnswer) → r ≡ NotPassed → Other r → ⊥
-other_than r e (inl t) = omega (arith, ap tag e)
-other_than r e (inr (inl t)) = omega (arith, ap tag e)
-other_than r e (inr (inr t)) = omega (arith, ap tag e)
-
 early_by : (a b l : Bool) (f g : Fault) (j : LongAnswer) (rest : SetAnswer) (r : SetAnswer)
-    → r ≡ chosen a b l f g j NotPassed → Other r → r ≡ chosen a b l f g j rest
+    → r ≡ chosen a b l f g j NotPassed → (r ≡ NotPassed → ⊥)
+    → r ≡ chosen a b l f g j rest
 unfolding chosen
 early_by true b l f g j rest r e n = e
 early_by false true l f g j rest r e n = e
 early_by false false true f g j rest r e n = e
-early_by false false false f g j rest r e n = absurd (other_than r e n)
+early_by false false false f g j rest r e n = absurd (n e)
 
 judged_by : (a b l : Bool) (f g : Fault) (j : LongAnswer) → chosen a b l f g j NotPassed ≡ NotPassed
     → (a ≡ false) × (b ≡ false) × (l ≡ false)
@@ -157,7 +145,7 @@ judged_by false false true f g j e = let z : ◌≡◌ {A = ℕ} 0 1 = cc in abs
 judged_by false false false f g j e = (refl, refl, refl)
 
 module _ (d : Day) (set : ℕ) where
-  pub early : (r : SetAnswer) → r ≡ first_answer d set → Other r → r ≡ set_answer d set
+  pub early : (r : SetAnswer) → r ≡ first_answer d set → (r ≡ NotPassed → ⊥) → r ≡ set_answer d set
   unfolding chosen
   early r e n =
       early_by (eqb set 0) (ltb (foreign_in d.benches set) 64) (ltb (long_job d) d.jobs) (SetBench 0)

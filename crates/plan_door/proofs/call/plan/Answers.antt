@@ -1,0 +1,192 @@
+-- By cases on the answer (PlanSteps); the demand follows from the equation (DoorDemand).
+-- The planner gets the front of each array, as long as the room for it; what it has written goes to the tables.
+use Prim.Native.Nat.{ℕ, ◌≤◌, min}
+use native.Mathlib.Omega.{arith}
+use mathlib.Core.Path.{◌≡◌, refl, sym, ◌∙◌}
+use mathlib.Core.Logic.{inl, inr}
+use mathlib.Core.Bool.{Bool, true, false, cond}
+use mathlib.Core.List.{List, ◌++◌}
+use lib.Dec.{ltb}
+use lib.ListN.{length, take, drop, replicate}
+use Rattle.answers.specs.declared.answer.Answer.TheVariants.{Plan, Long, None}
+use Rattle.tables.specs.Tables.{room_of}
+use Rattle.tables.proofs.LentSteps.{front_length, still_inside}
+use Rattle.door.proofs.DoorDemand.{with_claim}
+use Rattle.door.proofs.RoomLaws.{loads_room}
+use Rattle.plan_door.proofs.PlanSteps.{jobs_fit, benches_fit, answer_called, fault_called}
+use Rattle.plan_door.proofs.call.plan.Goals.{then-answer-lt24, else-answer-lt24}
+use Rattle.plan_door.proofs.call.plan.Goals as goal
+
+few-handed : (b : Bool) (n : ℕ) → n ≤ 64 → cond b 0 n ≤ 64
+few-handed true n h = omega arith
+few-handed false n h = h
+
+module _ (n : ℕ) (places : List ℕ) (e : n ≡ min (room_of places) 512) where
+  -- The room that is handed on: at most 512 places,
+  places-fit : n ≤ 512
+  places-fit = omega arith
+
+  places-handed : length (take n (replicate {A = ℕ} 512 0)) ≡ min (room_of places) 512
+  places-handed = sym (front_length n (replicate 512 0) places-fit) ∙ e
+
+module _ (n : ℕ) (loads answer : List ℕ) (e : n ≡ cond (ltb (room_of answer) 3) 0 (min (room_of loads) 64)) where
+  -- and at most 64 loads.
+  loads-fit : n ≤ 64
+  loads-fit = rw e (few-handed (ltb (room_of answer) 3) (min (room_of loads) 64) (omega arith))
+
+  loads-handed : length (take n (replicate {A = ℕ} 64 0)) ≡ cond (ltb (room_of answer) 3) 0 (min (room_of loads) 64)
+  loads-handed = sym (front_length n (replicate 64 0) loads-fit) ∙ e
+
+pub slice_bounds-plan-end : goal.slice_bounds-plan-end
+slice_bounds-plan-end c =
+    let a = c.args in
+    front_length _ (replicate 512 0) (places-fit _ a.places.now c.room-np.ensures)
+
+pub slice_bounds-l-end : goal.slice_bounds-l-end
+slice_bounds-l-end c =
+    let a = c.args in
+    let handed : c.if-answer-lt24.nl ≡ cond (ltb (room_of a.answer.now) 3) 0 (min (room_of a.loads.now) 64) =
+    loads_room 3 a.loads.now a.answer.now (elim c.if-answer-lt24.branch [
+      | then-answer-lt24 w ↦ inl (omega (arith, w.if-answer-lt24.true), w.nl-is)
+      | else-answer-lt24 w ↦ inr (omega (arith, w.if-answer-lt24.false), w.nl-is ∙ w.room-nl.ensures)
+    ]) in
+    loads-fit _ a.loads.now a.answer.now handed
+
+pub slice_bounds-plan-end-2 : goal.slice_bounds-plan-end-2
+slice_bounds-plan-end-2 c =
+    let a = c.args in
+    let handed : c.if-answer-lt24.nl ≡ cond (ltb (room_of a.answer.now) 3) 0 (min (room_of a.loads.now) 64) =
+    loads_room 3 a.loads.now a.answer.now (elim c.if-answer-lt24.branch [
+      | then-answer-lt24 w ↦ inl (omega (arith, w.if-answer-lt24.true), w.nl-is)
+      | else-answer-lt24 w ↦ inr (omega (arith, w.if-answer-lt24.false), w.nl-is ∙ w.room-nl.ensures)
+    ]) in
+    front_length _ (replicate 64 0) (loads-fit _ a.loads.now a.answer.now handed)
+
+pub slice_bounds-p-end-2 : goal.slice_bounds-p-end-2
+slice_bounds-p-end-2 c =
+    let a = c.args in
+    let handed : c.if-answer-lt24.nl ≡ cond (ltb (room_of a.answer.now) 3) 0 (min (room_of a.loads.now) 64) =
+    loads_room 3 a.loads.now a.answer.now (elim c.if-answer-lt24.branch [
+      | then-answer-lt24 w ↦ inl (omega (arith, w.if-answer-lt24.true), w.nl-is)
+      | else-answer-lt24 w ↦ inr (omega (arith, w.if-answer-lt24.false), w.nl-is ∙ w.room-nl.ensures)
+    ]) in
+    still_inside _ (replicate 512 0) c.plan-filled.new.places
+    (places-fit _ a.places.now c.room-np.ensures) c.plan-filled.auto.places
+    (jobs_fit a.sheet.now a.places.now a.loads.now a.answer.now
+    (places-handed _ a.places.now c.room-np.ensures) (loads-handed _ a.loads.now a.answer.now handed)
+    c.plan-filled.ensures.equation)
+
+pub slice_bounds-put_front-end : goal.slice_bounds-put_front-end
+slice_bounds-put_front-end c =
+    let a = c.args in
+    let handed : c.if-answer-lt24.nl ≡ cond (ltb (room_of a.answer.now) 3) 0 (min (room_of a.loads.now) 64) =
+    loads_room 3 a.loads.now a.answer.now (elim c.if-answer-lt24.branch [
+      | then-answer-lt24 w ↦ inl (omega (arith, w.if-answer-lt24.true), w.nl-is)
+      | else-answer-lt24 w ↦ inr (omega (arith, w.if-answer-lt24.false), w.nl-is ∙ w.room-nl.ensures)
+    ]) in
+    let whole : List ℕ = c.plan-filled.new.places ++ drop c.room-np.result (replicate 512 0) in
+    front_length _ whole (still_inside _ (replicate 512 0) c.plan-filled.new.places
+    (places-fit _ a.places.now c.room-np.ensures) c.plan-filled.auto.places
+    (jobs_fit a.sheet.now a.places.now a.loads.now a.answer.now
+    (places-handed _ a.places.now c.room-np.ensures) (loads-handed _ a.loads.now a.answer.now handed)
+    c.plan-filled.ensures.equation))
+
+pub slice_bounds-l-end-2 : goal.slice_bounds-l-end-2
+slice_bounds-l-end-2 c =
+    let a = c.args in
+    let handed : c.if-answer-lt24.nl ≡ cond (ltb (room_of a.answer.now) 3) 0 (min (room_of a.loads.now) 64) =
+    loads_room 3 a.loads.now a.answer.now (elim c.if-answer-lt24.branch [
+      | then-answer-lt24 w ↦ inl (omega (arith, w.if-answer-lt24.true), w.nl-is)
+      | else-answer-lt24 w ↦ inr (omega (arith, w.if-answer-lt24.false), w.nl-is ∙ w.room-nl.ensures)
+    ]) in
+    still_inside _ (replicate 64 0) c.plan-filled.new.loads
+    (loads-fit _ a.loads.now a.answer.now handed) c.plan-filled.auto.loads
+    (benches_fit a.sheet.now a.places.now a.loads.now a.answer.now
+    (places-handed _ a.places.now c.room-np.ensures) (loads-handed _ a.loads.now a.answer.now handed)
+    c.plan-filled.ensures.equation)
+
+pub slice_bounds-put_front-end-2 : goal.slice_bounds-put_front-end-2
+slice_bounds-put_front-end-2 c =
+    let a = c.args in
+    let handed : c.if-answer-lt24.nl ≡ cond (ltb (room_of a.answer.now) 3) 0 (min (room_of a.loads.now) 64) =
+    loads_room 3 a.loads.now a.answer.now (elim c.if-answer-lt24.branch [
+      | then-answer-lt24 w ↦ inl (omega (arith, w.if-answer-lt24.true), w.nl-is)
+      | else-answer-lt24 w ↦ inr (omega (arith, w.if-answer-lt24.false), w.nl-is ∙ w.room-nl.ensures)
+    ]) in
+    let whole : List ℕ = c.plan-filled.new.loads ++ drop c.if-answer-lt24.nl (replicate 64 0) in
+    front_length _ whole (still_inside _ (replicate 64 0) c.plan-filled.new.loads
+    (loads-fit _ a.loads.now a.answer.now handed) c.plan-filled.auto.loads
+    (benches_fit a.sheet.now a.places.now a.loads.now a.answer.now
+    (places-handed _ a.places.now c.room-np.ensures) (loads-handed _ a.loads.now a.answer.now handed)
+    c.plan-filled.ensures.equation))
+
+pub returns-in-Plan : goal.returns-in-Plan
+returns-in-Plan c =
+    let a = c.args in
+    let handed : c.if-answer-lt24.nl ≡ cond (ltb (room_of a.answer.now) 3) 0 (min (room_of a.loads.now) 64) =
+    loads_room 3 a.loads.now a.answer.now (elim c.if-answer-lt24.branch [
+      | then-answer-lt24 w ↦ inl (omega (arith, w.if-answer-lt24.true), w.nl-is)
+      | else-answer-lt24 w ↦ inr (omega (arith, w.if-answer-lt24.false), w.nl-is ∙ w.room-nl.ensures)
+    ]) in
+    let whole = with_claim a.sheet.now a.places.now a.loads.now a.answer.now
+    (answer_called a.sheet.now a.places.now a.loads.now a.answer.now
+    (places-handed _ a.places.now c.room-np.ensures) (loads-handed _ a.loads.now a.answer.now handed)
+    c.plan-filled.ensures.equation
+    (drop c.room-np.result (replicate 512 0)) (drop c.if-answer-lt24.nl (replicate 64 0))
+    c.put_front.ensures c.put_front-2.ensures
+    (Plan _) c.in-Plan.is refl refl
+    c.put_three.ensures) in
+    record { called = whole.0; demand = whole.1 }
+
+pub returns-in-Long : goal.returns-in-Long
+returns-in-Long c =
+    let a = c.args in
+    let handed : c.if-answer-lt24.nl ≡ cond (ltb (room_of a.answer.now) 3) 0 (min (room_of a.loads.now) 64) =
+    loads_room 3 a.loads.now a.answer.now (elim c.if-answer-lt24.branch [
+      | then-answer-lt24 w ↦ inl (omega (arith, w.if-answer-lt24.true), w.nl-is)
+      | else-answer-lt24 w ↦ inr (omega (arith, w.if-answer-lt24.false), w.nl-is ∙ w.room-nl.ensures)
+    ]) in
+    let whole = with_claim a.sheet.now a.places.now a.loads.now a.answer.now
+    (answer_called a.sheet.now a.places.now a.loads.now a.answer.now
+    (places-handed _ a.places.now c.room-np.ensures) (loads-handed _ a.loads.now a.answer.now handed)
+    c.plan-filled.ensures.equation
+    (drop c.room-np.result (replicate 512 0)) (drop c.if-answer-lt24.nl (replicate 64 0))
+    c.put_front.ensures c.put_front-2.ensures
+    (Long _) c.in-Long.is refl refl
+    c.put_three-in-Long.ensures) in
+    record { called = whole.0; demand = whole.1 }
+
+pub returns-in-None : goal.returns-in-None
+returns-in-None c =
+    let a = c.args in
+    let handed : c.if-answer-lt24.nl ≡ cond (ltb (room_of a.answer.now) 3) 0 (min (room_of a.loads.now) 64) =
+    loads_room 3 a.loads.now a.answer.now (elim c.if-answer-lt24.branch [
+      | then-answer-lt24 w ↦ inl (omega (arith, w.if-answer-lt24.true), w.nl-is)
+      | else-answer-lt24 w ↦ inr (omega (arith, w.if-answer-lt24.false), w.nl-is ∙ w.room-nl.ensures)
+    ]) in
+    let whole = with_claim a.sheet.now a.places.now a.loads.now a.answer.now
+    (answer_called a.sheet.now a.places.now a.loads.now a.answer.now
+    (places-handed _ a.places.now c.room-np.ensures) (loads-handed _ a.loads.now a.answer.now handed)
+    c.plan-filled.ensures.equation
+    (drop c.room-np.result (replicate 512 0)) (drop c.if-answer-lt24.nl (replicate 64 0))
+    c.put_front.ensures c.put_front-2.ensures
+    (None _) c.in-None.is refl refl
+    c.put_three-in-None.ensures) in
+    record { called = whole.0; demand = whole.1 }
+
+pub returns-in-Fault : goal.returns-in-Fault
+returns-in-Fault c =
+    let a = c.args in
+    let handed : c.if-answer-lt24.nl ≡ cond (ltb (room_of a.answer.now) 3) 0 (min (room_of a.loads.now) 64) =
+    loads_room 3 a.loads.now a.answer.now (elim c.if-answer-lt24.branch [
+      | then-answer-lt24 w ↦ inl (omega (arith, w.if-answer-lt24.true), w.nl-is)
+      | else-answer-lt24 w ↦ inr (omega (arith, w.if-answer-lt24.false), w.nl-is ∙ w.room-nl.ensures)
+    ]) in
+    let whole = with_claim a.sheet.now a.places.now a.loads.now a.answer.now
+    (fault_called a.sheet.now a.places.now a.loads.now a.answer.now
+    (places-handed _ a.places.now c.room-np.ensures) (loads-handed _ a.loads.now a.answer.now handed)
+    c.plan-filled.ensures.equation
+    (drop c.room-np.result (replicate 512 0)) (drop c.if-answer-lt24.nl (replicate 64 0))
+    c.put_front.ensures c.put_front-2.ensures
+    c.in-Fault.is c.fault_word.ensures) in
+    record { called = whole.0; demand = whole.1 }
