@@ -62,10 +62,14 @@ fn show_bookings(rt: &impl Print, booked: &[u64]) -> io::Result<()> {
     for b in 0..booked.len() {
         let minutes = booked[b];
         if minutes != 0 {
-            println!(rt; "bench {b}: {minutes} minutes booked")?;
+            show_booking(rt, b, minutes)?;
         }
     }
     Ok(())
+}
+
+fn show_booking(rt: &impl Print, b: usize, minutes: u64) -> io::Result<()> {
+    println!(rt; "bench {b}: {minutes} minutes booked")
 }
 
 fn show_job(rt: &impl Print, n: usize, minutes: u64, allowed: u64) -> io::Result<()> {
