@@ -1,7 +1,7 @@
 -- The arrays follow the activation of benches.
 --     lowest-active     the bench that the search finds is that of the definition
 --     Activating        what the loop keeps; how it goes on, and how it ends
-use Prim.Native.Nat.{ℕ, zero, suc, ◌+◌, ◌-◌, ◌≤◌, ◌<◌}
+use Prim.Native.Nat.{ℕ, zero, suc, ◌+◌, ◌≤◌, ◌<◌}
 use mathlib.Core.Path.{◌≡◌, refl, sym, ap, ap₂, subst, ◌∙◌}
 use mathlib.Core.Bool.{Bool, true, false, not, ◌&&◌, ◌||◌}
 use mathlib.Core.Logic.{◌≢◌}
@@ -41,13 +41,13 @@ activate-goes : (k : ℕ) (b : Board) (i : ℕ) (dirs : Directions) (xs ys : Lis
 unfolding activate
 activate-goes k b i dirs xs ys p = rw (p, activate)
 
-activate-turns : (k : ℕ) (b : Board) (i : ℕ) (dirs : Directions) (xs ys : List ℕ) (v : ℕ) → 0 < k → v ≡ least b.benches (activates b dirs xs ys)
-    → v < b.benches → activate k b i dirs xs ys ≡ activate (k - 1) b i dirs xs (set ys v i)
-activate-turns zero b i dirs xs ys v more e h = absurd (omega arith)
-activate-turns (suc k) b i dirs xs ys v more e h =
-    let same : suc k - 1 ≡ k = omega arith in
-    subst (λ (u : ℕ). activate (suc k) b i dirs xs ys ≡ activate (suc k - 1) b i dirs xs (set ys u i)) (sym e)
-    (rw same (activate-goes k b i dirs xs ys (lt-ltb (least b.benches (activates b dirs xs ys)) b.benches (subst (λ (u : ℕ). u < b.benches) e h))))
+activate-turns : (k k' : ℕ) (b : Board) (i : ℕ) (dirs : Directions) (xs ys : List ℕ) (v : ℕ) → k ≡ suc k'
+    → v ≡ least b.benches (activates b dirs xs ys) → v < b.benches
+    → activate k b i dirs xs ys ≡ activate k' b i dirs xs (set ys v i)
+activate-turns k k' b i dirs xs ys v turn e h =
+    ap (λ (m : ℕ). activate m b i dirs xs ys) turn
+    ∙ subst (λ (u : ℕ). activate (suc k') b i dirs xs ys ≡ activate k' b i dirs xs (set ys u i)) (sym e)
+    (activate-goes k' b i dirs xs ys (lt-ltb (least b.benches (activates b dirs xs ys)) b.benches (subst (λ (u : ℕ). u < b.benches) e h)))
 
 -- ── the tests, reordered ──
 
@@ -126,9 +126,6 @@ module _ (b : Board) (n : Limits) (low high weight own : List ℕ) (R : Rocks b 
     pub rounds : Rounds b now_ys level
     pub same : activate b.benches b i dirs xs ys ≡ activate k b i dirs xs now_ys
 
-  pub activating_starts : (i : ℕ) (ys : List ℕ) (k : ℕ) {level : List ℕ} → Rounds b ys level → k ≡ n.benches → Activating i ys k level
-  activating_starts i ys k Y e = record { now_ys = ys; rounds = Y; same = ap (λ (m : ℕ). activate m b i dirs xs ys) (sym (e ∙ R.benches)) }
-
   pub activating_spent : {i : ℕ} {ys : List ℕ} {k : ℕ} {level : List ℕ} → Activating i ys k level → k ≤ 0
       → Rounds b (activate b.benches b i dirs xs ys) level
   unfolding activate
@@ -145,12 +142,12 @@ module _ (b : Board) (n : Limits) (low high weight own : List ℕ) (R : Rocks b 
     activating_ends stop =
         subst (λ (y : List ℕ). Rounds b y level) (sym (A.same ∙ activate-stops k b i dirs xs A.now_ys (sym activating_at ∙ stop ∙ R.benches))) A.rounds
 
-    pub activating_goes_on : {level' : List ℕ} → v ≢ n.benches → 0 < k → level' ≡ set level v i → Activating i ys (k - 1) level'
-    activating_goes_on {level'} ne more q =
+    pub activating_goes_on : (k' : ℕ) {level' : List ℕ} → v ≢ n.benches → k ≡ suc k' → level' ≡ set level v i → Activating i ys k' level'
+    activating_goes_on k' {level'} ne turn q =
         let below : v < b.benches =
         lt_of_ne v b.benches (subst (λ (m : ℕ). m ≤ b.benches) (sym activating_at) (least-le b.benches (activates b dirs xs A.now_ys))) (λ s. ne (s ∙ sym R.benches)) in
         record {
           now_ys = set A.now_ys v i;
           rounds = subst (λ (y : List ℕ). Rounds b (set A.now_ys v i) y) (sym q) (rounds-set b A.now_ys level v i A.rounds);
-          same = A.same ∙ activate-turns k b i dirs xs A.now_ys v more activating_at below;
+          same = A.same ∙ activate-turns k k' b i dirs xs A.now_ys v turn activating_at below;
         }

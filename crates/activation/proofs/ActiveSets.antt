@@ -1,7 +1,8 @@
 -- The search for a bench to activate goes through the benches that wait.
 --     Leaving           what the loop keeps: who left the set has the round
 --     active_goes_on, active_ends     a turn of the loop, and its end
-use Prim.Native.Nat.{ℕ, ◌-◌, ◌≤◌, ◌<◌}
+use Rattle.std.proofs.Common.{Some, None}
+use Prim.Native.Nat.{ℕ, suc, ◌≤◌, ◌<◌}
 use mathlib.Core.Path.{◌≡◌, refl, sym, ap, subst, ◌∙◌}
 use mathlib.Core.Bool.{Bool, true, false, cond, not, ◌&&◌, ◌||◌}
 use mathlib.Core.Logic.{inl, inr}
@@ -25,15 +26,18 @@ use Rattle.activation.specs.ActivationArrays.{activates_at, rule_one_at, rule_tw
 use Rattle.rock_graph.specs.Neighbours.{Incident}
 use Rattle.forced.specs.SetArrays.{Covers}
 use Rattle.forced.specs.CandidateArrays.{some_rock, bench_of}
+use Rattle.forced.proofs.AnswerLaws.{some_first}
 use Rattle.rocks.proofs.RockLaws.{end_below}
-use Rattle.forced.proofs.CandidateLaws.{candidate_lowest, candidate_none, candidate_below, rock-ends, few-rocks, few_benches}
+use Rattle.forced.proofs.CandidateLaws.{bench_near, candidate_lowest, candidate_none, candidate_below, rock-ends, few-rocks, few_benches}
 use Rattle.activation.proofs.ActivateRun.{Activating, activating_ends, activating_goes_on}
 use Rattle.activation.proofs.WaitLaws.{waits_left}
 
 -- The bench that is found is in the set.
-bench_inside : (incident : List ℕ) (P : ℕ → ℕ → Bool) (cand v : ℕ) → v ≡ bench_of incident P cand → v < 64 → is_set 64 cand v ≡ true
+bench_inside : (incident : List ℕ) (P : ℕ → ℕ → Bool) (cand v : ℕ) → Some v ≡ bench_of incident P cand
+    → is_set 64 cand v ≡ true
 unfolding bench_of
-bench_inside incident P cand v e h =
+bench_inside incident P cand v bench =
+    let (e, h) = some_first (λ u. is_set 64 cand u && some_rock incident P u) v bench in
     and_left (is_set 64 cand v) (some_rock incident P v)
     (subst (λ (k : ℕ). (is_set 64 cand k && some_rock incident P k) ≡ true) (sym e)
     (least-holds 64 (λ k. is_set 64 cand k && some_rock incident P k) (subst (λ (k : ℕ). k < 64) e h)))
@@ -50,19 +54,12 @@ module _ (wait i : ℕ) (level₀ : List ℕ) where
     pub long : length level ≡ length level₀
     pub gone : (v : ℕ) → v < length level₀ → v < 64 → get_or level v 0 ≡ cond (is_set 64 wait v && not (is_set 64 left v)) i (get_or level₀ v 0)
 
-  pub leaving_starts : Leaving wait level₀
-  leaving_starts =
-      record {
-        inside = λ v h p. p;
-        long = refl;
-        gone = λ v l h. sym (ap (λ (c : Bool). cond c i (get_or level₀ v 0)) (none_left (is_set 64 wait v)));
-      }
-
-  pub leaving_goes_on : (incident : List ℕ) (P : ℕ → ℕ → Bool) (left v one left' : ℕ) (level : List ℕ) → Leaving left level → v ≡ bench_of incident P left → v < 64
+  pub leaving_goes_on : (incident : List ℕ) (P : ℕ → ℕ → Bool) (left v one left' : ℕ) (level : List ℕ) → Leaving left level → Some v ≡ bench_of incident P left
       → ((u : ℕ) → u < 64 → is_set 64 one u ≡ (is_set 64 0 u || eqb u v)) → ((u : ℕ) → is_set 64 left' u ≡ (is_set 64 left u && not (is_set 64 one u)))
       → {level' : List ℕ} → level' ≡ set level v i → length level' ≡ length level₀ → Leaving left' level'
-  leaving_goes_on incident P left v one left' level L e h eo el {level'} et long =
-      let waited = L.inside v h (bench_inside incident P left v e h) in
+  leaving_goes_on incident P left v one left' level L bench eo el {level'} et long =
+      let h : v < 64 = bench_near incident P left v bench in
+      let waited = L.inside v h (bench_inside incident P left v bench) in
       record {
         inside = λ u hu p. L.inside u hu (and_left (is_set 64 left u) (not (is_set 64 one u)) (sym (el u) ∙ p));
         long = long;
@@ -101,22 +98,22 @@ module _ (b : Board) (n : Limits) (low high weight own : List ℕ) (R : Rocks b 
       (end_below low high n.benches r v (rock-ends b n low high weight R r h) t)
       inside (not-true (within_at n.benches level v) (and_left (not (within_at n.benches level v)) rules rest))
 
-  module _ {k : ℕ} {level : List ℕ} (A : Activating b n low high weight own R O dirs dir D xs joined X i ys k level) (left : ℕ) (L : Leaving wait i level₀ left level)
-      (v : ℕ) (e : v ≡ bench_of incident (acts level) left) where
-    pub active_ends : 63 < v → Rounds b (activate b.benches b i dirs xs ys) level
+  module _ {k : ℕ} {level : List ℕ} (A : Activating b n low high weight own R O dirs dir D xs joined X i ys k level) (left : ℕ) (L : Leaving wait i level₀ left level) where
+    pub active_ends : None ≡ bench_of incident (acts level) left → Rounds b (activate b.benches b i dirs xs ys) level
     active_ends stop =
         activating_ends b n low high weight own R O dirs dir D xs joined X A n.benches
         (candidate_none n low high incident H (few-rocks b n low high weight R few) (rock-ends b n low high weight R) (few_benches b n low high weight R) (acts level) left
-        (covers left level L) v e (omega arith))
+        (covers left level L) stop)
         refl
 
-    pub active_goes_on : {level' : List ℕ} → v ≤ 63 → 0 < k → level' ≡ set level v i
-        → Activating b n low high weight own R O dirs dir D xs joined X i ys (k - 1) level'
-    active_goes_on go more q =
+    pub active_goes_on : (v k' : ℕ) → Some v ≡ bench_of incident (acts level) left → k ≡ suc k'
+        → {level' : List ℕ} → level' ≡ set level v i
+        → Activating b n low high weight own R O dirs dir D xs joined X i ys k' level'
+    active_goes_on v k' bench turn q =
         let below : v < n.benches =
         candidate_below n low high incident H (few-rocks b n low high weight R few) (rock-ends b n low high weight R) (few_benches b n low high weight R) (acts level) left
-        (covers left level L) v e (omega arith) in
-        let found =
+        (covers left level L) v bench in
+        let lowest =
         candidate_lowest n low high incident H (few-rocks b n low high weight R few) (rock-ends b n low high weight R) (few_benches b n low high weight R) (acts level) left
-        (covers left level L) v e (omega arith) in
-        activating_goes_on b n low high weight own R O dirs dir D xs joined X A v found (λ s. omega arith) more q
+        (covers left level L) v bench in
+        activating_goes_on b n low high weight own R O dirs dir D xs joined X A v lowest k' (λ s. omega arith) turn q

@@ -1,4 +1,3 @@
 pub mod WaitLaws
-pub mod RockSearch
 pub mod ActivateRun
 pub mod ActiveSets

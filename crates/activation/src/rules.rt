@@ -8,15 +8,16 @@ ghost use Rattle.rock_graph.specs.Graph.{incidents, lows, highs, weights, RockGr
 ghost use Rattle.activation.specs.ActivationArrays.{rule_one_at, rule_two_at, activates_at, Waits};
 ghost use Rattle.forced.specs.CandidateArrays.{some_rock, bench_of};
 
+use rock_graph::Graph;
 use rocks::Limits;
 
 // critical b dir joined v, by the rock r.
-fn rule_one<'a>(
+fn rule_one(
     n: Limits,
-    graph: &'a [usize],
-    own: &'a [usize],
-    dir: &'a [usize],
-    joined: &'a [usize],
+    graph: &Graph,
+    own: &[usize],
+    dir: &[usize],
+    joined: &[usize],
     r: usize,
     v: usize,
 ) -> bool
@@ -25,19 +26,17 @@ fn rule_one<'a>(
         own.now dir.now
         joined.now r v }
 {
-    if !rock_graph::father(n.benches, graph, dir, joined, r, v) {
-        return false;
-    }
-    arrays::exceeds(n.bound, arrays::at(own, v), rock_graph::weight(graph, r))
+    graph.father(n.benches, dir, joined, r, v)
+        && arrays::exceeds(n.bound, arrays::at(own, v), graph.weight(r))
 }
 
 // rule2 b dir joined level v, by the rock r.
-fn rule_two<'a>(
+fn rule_two(
     n: Limits,
-    graph: &'a [usize],
-    dir: &'a [usize],
-    joined: &'a [usize],
-    level: &'a [usize],
+    graph: &Graph,
+    dir: &[usize],
+    joined: &[usize],
+    level: &[usize],
     r: usize,
     v: usize,
 ) -> bool
@@ -46,26 +45,19 @@ fn rule_two<'a>(
         dir.now
         joined.now level.now r v }
 {
-    if n.small <= rock_graph::weight(graph, r) {
-        return false;
-    }
-    if !rocks::within(n.benches, level, rock_graph::end_of(graph, r, v)) {
-        return false;
-    }
-    if rock_graph::father(n.benches, graph, dir, joined, r, v) {
-        return true;
-    }
-    rock_graph::child(n.benches, graph, dir, joined, r, v)
+    graph.weight(r) < n.small
+        && rocks::within(n.benches, level, graph.end_of(r, v))
+        && (graph.father(n.benches, dir, joined, r, v) || graph.child(n.benches, dir, joined, r, v))
 }
 
 // Whether v is to be activated, by the rock r.
-fn activates<'a>(
+fn activates(
     n: Limits,
-    graph: &'a [usize],
-    own: &'a [usize],
-    dir: &'a [usize],
-    joined: &'a [usize],
-    level: &'a [usize],
+    graph: &Graph,
+    own: &[usize],
+    dir: &[usize],
+    joined: &[usize],
+    level: &[usize],
     r: usize,
     v: usize,
 ) -> bool
@@ -74,26 +66,20 @@ fn activates<'a>(
         own.now
         dir.now joined.now level.now r v }
 {
-    if !rocks::within(n.benches, joined, v) {
-        return false;
-    }
-    if rocks::within(n.benches, level, v) {
-        return false;
-    }
-    if rule_one(n, graph, own, dir, joined, r, v) {
-        return true;
-    }
-    rule_two(n, graph, dir, joined, level, r, v)
+    rocks::within(n.benches, joined, v)
+        && !rocks::within(n.benches, level, v)
+        && (rule_one(n, graph, own, dir, joined, r, v)
+            || rule_two(n, graph, dir, joined, level, r, v))
 }
 
 // Whether v is to be activated, by one of its rocks.
-fn active_by<'a>(
+fn active_by(
     n: Limits,
-    graph: &'a [usize],
-    own: &'a [usize],
-    dir: &'a [usize],
-    joined: &'a [usize],
-    level: &'a [usize],
+    graph: &Graph,
+    own: &[usize],
+    dir: &[usize],
+    joined: &[usize],
+    level: &[usize],
     v: usize,
 ) -> bool
     ensures { result
@@ -102,7 +88,7 @@ fn active_by<'a>(
         own.now
         dir.now joined.now level.now) v }
 {
-    let mut left = rock_graph::incident(graph, v);
+    let mut left = graph.incident(v);
     while 0 < left {
         let r = sets::lowest(left);
         if activates(n, graph, own, dir, joined, level, r, v) {
@@ -113,16 +99,16 @@ fn active_by<'a>(
     false
 }
 
-// The lowest bench of the set that is to be activated, and 64 where there is none.
-fn first_active<'a>(
+// The lowest bench of the set that is to be activated.
+fn first_active(
     n: Limits,
-    graph: &'a [usize],
+    graph: &Graph,
     wait: usize,
-    own: &'a [usize],
-    dir: &'a [usize],
-    joined: &'a [usize],
-    level: &'a [usize],
-) -> usize
+    own: &[usize],
+    dir: &[usize],
+    joined: &[usize],
+    level: &[usize],
+) -> Option<usize>
     ensures { result
         ≡ bench_of (incidents graph.now)
         (activates_at n (lows graph.now) (highs graph.now) (weights graph.now)
@@ -133,22 +119,22 @@ fn first_active<'a>(
     while 0 < left {
         let v = sets::lowest(left);
         if active_by(n, graph, own, dir, joined, level, v) {
-            return v;
+            return Some(v);
         }
         left = sets::after(left, v);
     }
-    64
+    None
 }
 
 // activate benches b i dir joined level, where every bench that may be activated waits. Says which still do.
-pub fn activate<'a>(
+pub fn activate(
     n: Limits,
     i: usize,
-    graph: &'a [usize],
+    graph: &Graph,
     wait: usize,
-    own: &'a [usize],
-    dir: &'a [usize],
-    joined: &'a [usize],
+    own: &[usize],
+    dir: &[usize],
+    joined: &[usize],
     level: &mut [usize],
 ) -> usize
     ensures { ((v : ℕ) → v < length level.old → v < 64
@@ -161,15 +147,12 @@ pub fn activate<'a>(
         → Rounds b (activated b.benches b i dirs xs ys) level.new) }
 {
     let mut left = wait;
-    let mut turns = n.benches;
-    while 0 < turns {
-        let v = first_active(n, graph, left, own, dir, joined, level);
-        if 63 < v {
-            return left;
-        }
+    for _ in 0..n.benches {
+        let Some(v) = first_active(n, graph, left, own, dir, joined, level) else {
+            break;
+        };
         arrays::put(level, v, i);
         left = sets::less(left, sets::with(0, v));
-        turns -= 1;
     }
     left
 }

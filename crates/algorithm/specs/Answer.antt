@@ -6,12 +6,11 @@
 --     plan_contents c         the reply to the contents c, with the faults 7 to 12 and 14
 --     short_tables c np nl    fault 13: a table of np places or of nl loads is too short for the contents c
 --     answer_for s np nl      the reply to the bytes s, with tables of np and nl entries
-use Rattle.std.specs.Prelude.{ℕ, Bool, cond, ◌||◌, List, length, ltb}
+use Rattle.std.specs.Prelude.{ℕ, Bool, cond, ◌||◌, List, length, ltb, Ok, Err}
 use Rattle.sums.specs.Members.{members}
 use Rattle.sums.specs.Table.{table}
 use Rattle.fields.specs.Contents.{Contents}
 use Rattle.fields.specs.declared.fault.Fault.TheVariants.{Table}
-use Rattle.fields.specs.declared.fault.Verdict.TheVariants.{Accepted, Refused}
 use Rattle.frame.specs.Reading.{accepted, refused, read_sheet}
 use Rattle.frame.specs.Writing.{writer_verdict}
 use Rattle.day.specs.Day.{Day, day_of, loads_of, largest_of, fullest_of}
@@ -40,7 +39,7 @@ checks_reply d =
 
 -- The faults 7 to 12 and 14 first.
 abbrev pub plan_contents : Contents → Reply
-plan_contents c = elim (writer_verdict c) [ Accepted ↦ answer_to (day_of c) | Refused f ↦ fault_reply f ]
+plan_contents c = elim (writer_verdict c) [ Ok _ ↦ answer_to (day_of c) | Err f ↦ fault_reply f ]
 
 -- "The table of places is shorter than the jobs, or the table of loads shorter than the benches"
 abbrev pub short_tables : Contents → ℕ → ℕ → Bool

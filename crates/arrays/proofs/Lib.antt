@@ -1,4 +1,3 @@
 pub mod ArrayLaws
-pub mod CountRun
 pub mod FilledLaws
 pub mod NumberLaws

@@ -3,8 +3,9 @@
 #![tactic(auto)]
 
 mod arrays;
+mod entry;
+mod numbers;
 
-pub use arrays::{
-    at, byte, copy, count, entry, exceeds, fill, from_bytes, holds, least, lower, mark, minus,
-    more, narrow, plus, put, put_byte, times, to_bytes, where_marked, widen,
-};
+pub use arrays::{at, count, fill, from_numbers, put, to_numbers, where_marked};
+pub use entry::{Entry, Number};
+pub use numbers::{exceeds, lower, times};

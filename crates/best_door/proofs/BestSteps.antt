@@ -1,5 +1,4 @@
 -- The best target through the door, from what the search and the functions that put numbers ensure.
---     jobs_fit, benches_fit         the search has written at most 512 places and 64 loads
 --     best_called, fault_called     what is returned, and the tables after it: after a best target; after a fault
 use Prim.Native.Nat.{ℕ, ◌≤◌, min}
 use native.Mathlib.Omega.{arith}
@@ -47,12 +46,6 @@ module _ (s places loads numbers : List ℕ) {np nl : ℕ}
 
   loads_count : r.loads ≡ length door.loads
   loads_count = answered.loads_written ∙ ap (λ (a : BestReply). length a.loads) reply_is
-
-  pub jobs_fit : r.places ≤ 512
-  jobs_fit = omega (arith, places_count, (places_few s (room_of places) (room_of loads) (room_of numbers)).1)
-
-  pub benches_fit : r.loads ≤ 64
-  benches_fit = omega (arith, loads_count, (loads_few s (room_of places) (room_of loads) (room_of numbers)).1)
 
   -- What stands behind the parts that were lent, and both tables after what was written is put there.
   module _ (places-rest loads-rest : List ℕ) {places' loads' : List ℕ}

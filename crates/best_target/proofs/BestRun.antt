@@ -17,9 +17,8 @@ use Rattle.fields.specs.declared.sheet.Sheet.{Sheet}
 use Rattle.fields.specs.declared.sheet.Head.{Head}
 use Rattle.fields.specs.declared.fault.Fault.{Fault}
 use Rattle.fields.specs.declared.fault.Fault.TheVariants.{Table}
-use Rattle.fields.specs.declared.fault.Verdict.TheVariants.{Accepted, Refused}
 use Rattle.frame.specs.Reading.{accepted, read_sheet, stored, sheet_of}
-use Rattle.fields.specs.declared.sheet.Reading.{Reading}
+use Rattle.std.specs.Prelude.{Result, Ok, Err}
 use Rattle.frame.proofs.AcceptedLaws.{accepted_sound}
 use Rattle.frame.proofs.Stored.{verdict_refused, verdict_accepted}
 use Rattle.sums.proofs.TableLaws.{length-table}
@@ -47,7 +46,7 @@ refusal f = record { answer = Faulty f; places = 0; loads = 0 }
 -- ── faults ──
 
 module _ (s : List ℕ) (np nl : ℕ) where
-  pub best_refused : {x : Reading} {f : Fault} → x ≡ stored (read_sheet s) → x.verdict ≡ Refused f
+  pub best_refused : {x : Result Sheet Fault} {f : Fault} → x ≡ stored (read_sheet s) → x ≡ Err f
       → best_for s np nl ≡ best_fault f
   unfolding best_for
   best_refused e a = rw (verdict_refused (read_sheet s) e a, best_for)
@@ -57,10 +56,10 @@ module _ (s : List ℕ) (np nl : ℕ) where
   unfolding best_for
   best_read c e tested = rw (e, tested, best_for)
 
-pub refusal-answered : {a : BestReply} {f : Fault} → a ≡ best_fault f → (places loads : List ℕ)
-    → BestAnswered a (refusal f) places loads places loads
-refusal-answered {f = f} e places loads =
-    subst (λ (a : BestReply). BestAnswered a (refusal f) places loads places loads) (sym e)
+pub refusal-answered : {a : BestReply} {f : Fault} {r : BestFilled} → a ≡ best_fault f → r ≡ refusal f
+    → (places loads : List ℕ) → BestAnswered a r places loads places loads
+refusal-answered e told places loads =
+    rw (e, told)
     (record { answer = refl; places_written = refl; loads_written = refl; new_places = refl; new_loads = refl })
 
 -- ── the search on a sheet ──
@@ -137,11 +136,11 @@ module _ (d : Day) (found : Found) (F : Finds d found) where
 -- ── a sheet that is read ──
 
 module _ (s : List ℕ) (np nl : ℕ) (places loads : List ℕ) where
-  pub read_answered : (x : Reading) {r : BestFilled} {places' loads' : List ℕ}
-      → x ≡ stored (read_sheet s) → x.verdict ≡ Accepted
-      → ((bytes : List ℕ) → (c : Contents) → read_sheet bytes ≡ accepted c → x.sheet ≡ sheet_of c
+  pub read_answered : {x : Result Sheet Fault} {sheet : Sheet} {r : BestFilled} {places' loads' : List ℕ}
+      → x ≡ stored (read_sheet s) → x ≡ Ok sheet
+      → ((bytes : List ℕ) → (c : Contents) → read_sheet bytes ≡ accepted c → sheet ≡ sheet_of c
       → BestAnswered (best_for bytes np nl) r places loads places' loads')
       → BestAnswered (best_for s np nl) r places loads places' loads'
-  read_answered x e a told =
-      let (c, read, same) = verdict_accepted (read_sheet s) x e a in
+  read_answered e a told =
+      let (c, read, same) = verdict_accepted (read_sheet s) e a in
       told s c read same

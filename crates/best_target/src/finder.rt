@@ -8,7 +8,7 @@ ghost use Rattle.algorithm.specs.Best.{best_for};
 ghost use Rattle.best_target.specs.BestClaim.{BestClaim};
 
 use answers::{BestAnswer, BestFilled, BestPlan};
-use frame::{Fault, Sheet, Verdict};
+use frame::{Fault, Sheet};
 
 // A fault, which leaves both tables as they are.
 fn refusal(f: Fault) -> BestFilled
@@ -38,10 +38,10 @@ fn best_of_sheet(s: Sheet, places: &mut [u64], loads: &mut [u64]) -> BestFilled
     }
     let mut minutes = [0usize; 512];
     let mut allowed = [0usize; 512];
-    arrays::narrow(jobs, &s.minutes, &mut minutes);
-    arrays::narrow(jobs, &s.allowed, &mut allowed);
+    arrays::to_numbers(jobs, &s.minutes, &mut minutes);
+    arrays::to_numbers(jobs, &s.allowed, &mut allowed);
     let mut booked = [0usize; 64];
-    arrays::narrow(benches, &s.booked, &mut booked);
+    arrays::to_numbers(benches, &s.booked, &mut booked);
     let found = searching::search(h, jobs, &minutes, &allowed, booked);
     let plan = planning::write_plan(
         jobs,
@@ -64,24 +64,8 @@ fn best_of_sheet(s: Sheet, places: &mut [u64], loads: &mut [u64]) -> BestFilled
     }
 }
 
-// The equation: the search of request S-4, from the bytes of a sheet.
-fn answered(s: &[u8], places: &mut [u64], loads: &mut [u64]) -> BestFilled
-    ensures { BestAnswered
-        (best_for s.now (length places.old) (length loads.old)) result
-        places.old loads.old places.new loads.new }
-{
-    let reading = reading::read(s);
-    let verdict = reading.verdict;
-    match verdict {
-        Verdict::Refused(f) => refusal(f),
-        Verdict::Accepted => {
-            let sheet = reading.sheet;
-            best_of_sheet(sheet, places, loads)
-        }
-    }
-}
-
 // The best target of a sheet with its plan, and how many entries of both tables were written: none after a fault.
+// The equation is the search of request S-4, from the bytes of a sheet.
 pub fn best(s: &[u8], places: &mut [u64], loads: &mut [u64]) -> BestFilled
     ensures equation { BestAnswered
         (best_for s.now (length places.old) (length loads.old)) result
@@ -89,5 +73,8 @@ pub fn best(s: &[u8], places: &mut [u64], loads: &mut [u64]) -> BestFilled
     ensures claim { BestClaim s.now places.old loads.old result.answer
         places.new loads.new }
 {
-    answered(s, places, loads)
+    match reading::read(s) {
+        Err(f) => refusal(f),
+        Ok(sheet) => best_of_sheet(sheet, places, loads),
+    }
 }

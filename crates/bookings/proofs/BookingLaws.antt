@@ -2,11 +2,10 @@
 --     booked_from-cons        the bookings of a table are those of its first entry and then those of the others
 --     booked_from-append      those of two tables, one behind the other
 --     booked_from-drop        those from entry i on are that of entry i, if it has one, and then those behind it
---     bookings-start, bookings-more, bookings-all     those of no entry; of entry i, behind those before it; of as many
---         entries as there are
+--     bookings-more           those of entry i, behind those before it
 --     bookings-zeros          zeros behind a table bring no booking
 --     bookings-below          the first entries have no more bookings than all
---     one_more, none_more     entry i is one booking more if it is above 0, and else none
+--     count-bookings          there are as many as entries above 0
 -- The verdict on bookings:
 --     cond-accepted           a test and then a verdict accept: the test does not hold, and the verdict accepts
 --     booked_faults-append    the tests of two lists, one list after the other
@@ -52,10 +51,10 @@ use Rattle.bits.proofs.SetBits.{is_set-zero}
 use Rattle.fields.specs.declared.sheet.Booking.{Booking}
 use Rattle.fields.specs.declared.fault.Fault.{Fault}
 use Rattle.fields.specs.declared.fault.Fault.TheVariants.{BookedBench}
-use Rattle.fields.specs.declared.fault.Verdict.{Verdict}
-use Rattle.fields.specs.declared.fault.Verdict.TheVariants.{Accepted, Refused}
+use Rattle.std.proofs.lemmas.List.Sums.{sum_by-cons}
+use Rattle.std.specs.Prelude.{not, ◌==◌, count_by, Ok, Err}
 use Rattle.fields.specs.Format.{booked_from, bookings, booking_frame, booking_frames}
-use Rattle.fields.specs.Tests.{Test, first_fault, booking_fault, booking_faults, booked_faults}
+use Rattle.fields.specs.Tests.{Verdict, Test, first_fault, booking_fault, booking_faults, booked_faults}
 use Rattle.fields.proofs.FormatLaws.{length-booking_frame, length-booking_frames, booking_frames-append}
 use Rattle.packing.specs.Packing.{cut_booking, frame_put}
 use Rattle.packing.proofs.PutLaws.{written, written_after, frame_put-room, frame_put-none, cut_booking-fits, booking_part}
@@ -80,10 +79,6 @@ pub booked_from-drop : (i : ℕ) (bs : List ℕ) → i < length bs
 booked_from-drop i bs l =
     ap (booked_from i) (drop-cons bs i 0 l) ∙ booked_from-cons i (get_or bs i 0) (drop (suc i) bs)
 
-pub bookings-start : (bs : List ℕ) → bookings (take 0 bs) ≡ []
-unfolding booked_from
-bookings-start bs = refl
-
 pub bookings-more : (i : ℕ) (bs : List ℕ) → i < length bs
     → bookings (take (i + 1) bs) ≡ bookings (take i bs) ++ booked_from i (get_or bs i 0 ∷ [])
 bookings-more i bs l =
@@ -92,9 +87,6 @@ bookings-more i bs l =
     ∙ ap bookings (take-suc bs i 0 l)
     ∙ booked_from-append 0 (take i bs) (get_or bs i 0 ∷ [])
     ∙ ap (λ (b : ℕ). bookings (take i bs) ++ booked_from b (get_or bs i 0 ∷ [])) size
-
-pub bookings-all : (i : ℕ) (bs : List ℕ) → length bs ≤ i → bookings (take i bs) ≡ bookings bs
-bookings-all i bs l = ap bookings (take_all i bs l)
 
 booked_from-zeros : (b : ℕ) (zs : List ℕ) → ((v : ℕ) → get_or zs v 0 ≡ 0) → booked_from b zs ≡ []
 unfolding booked_from
@@ -114,28 +106,18 @@ bookings-below i bs =
     let size = ap length whole ∙ length-append (bookings (take i bs)) _ in
     omega (arith, size)
 
--- Entry i of a table, behind those before it, brings k bookings more.
-counted : (i : ℕ) (bs : List ℕ) (k : ℕ) → i < length bs → length (booked_from i (get_or bs i 0 ∷ [])) ≡ k
-    → length (bookings (take (i + 1) bs)) ≡ length (bookings (take i bs)) + k
-counted i bs k l e =
-    ap length (bookings-more i bs l)
-    ∙ length-append (bookings (take i bs)) (booked_from i (get_or bs i 0 ∷ []))
-    ∙ ap (λ (n : ℕ). length (bookings (take i bs)) + n) e
-
-pub one_more : (i : ℕ) (bs : List ℕ) → i < length bs → get_or bs i 0 ≢ 0
-    → length (bookings (take (i + 1) bs)) ≡ length (bookings (take i bs)) + 1
+pub count-bookings : (b : ℕ) (ns : List ℕ) → count_by (λ n. not (n == 0)) ns ≡ length (booked_from b ns)
 unfolding booked_from
-one_more i bs l some = counted i bs 1 l (rw (ne_eqb (get_or bs i 0) 0 some))
-
-pub none_more : (i : ℕ) (bs : List ℕ) → i < length bs → get_or bs i 0 ≡ 0
-    → length (bookings (take (i + 1) bs)) ≡ length (bookings (take i bs)) + 0
-unfolding booked_from
-none_more i bs l none = counted i bs 0 l (rw (eq-eqb (get_or bs i 0) 0 none))
+count-bookings b [] = refl
+count-bookings b (n ∷ ns) =
+    let first = sum_by-cons (λ x. cond (not (x == 0)) 1 0) n ns in
+    let ih = count-bookings (suc b) ns in
+    elim (split (eqb n 0)) [ inl p ↦ first ∙ rw p (omega arith) | inr p ↦ first ∙ rw p (omega arith) ]
 
 -- ── the verdict on bookings ──
 
-pub cond-accepted : (b : Bool) (f : Fault) (v : Verdict) → cond b (Refused f) v ≡ Accepted
-    → (b ≡ false) × (v ≡ Accepted)
+pub cond-accepted : (b : Bool) (f : Fault) (v : Verdict) → cond b (Err f) v ≡ Ok tt
+    → (b ≡ false) × (v ≡ Ok tt)
 cond-accepted true f v e = let z : ◌≡◌ {A = ℕ} 0 1 = cc in absurd (omega arith)
 cond-accepted false f v e = (refl, e)
 
@@ -145,15 +127,15 @@ unfolding booked_faults
 booked_faults-append m [] second = refl
 booked_faults-append m (b ∷ first) second = rw (booked_faults-append m first second)
 
-pub first_fault-after : (first second : List Test) → first_fault first ≡ Accepted
+pub first_fault-after : (first second : List Test) → first_fault first ≡ Ok tt
     → first_fault (first ++ second) ≡ first_fault second
 first_fault-after [] second e = refl
 first_fault-after (t ∷ first) second e =
     let a = cond-accepted t.holds t.fault (first_fault first) e in
     rw a.0 (first_fault-after first second a.1)
 
-pub first_fault-found : (first second : List Test) (f : Fault) → first_fault first ≡ Refused f
-    → first_fault (first ++ second) ≡ Refused f
+pub first_fault-found : (first second : List Test) (f : Fault) → first_fault first ≡ Err f
+    → first_fault (first ++ second) ≡ Err f
 first_fault-found [] second f e = let z : ◌≡◌ {A = ℕ} 0 1 = cc in absurd (omega arith)
 first_fault-found (t ∷ first) second f e = elim (split t.holds) [
   | inl p ↦ rw p (rw p at e)
@@ -169,44 +151,44 @@ booking_fault-none m b e =
 -- 14 of one booking, and then of those behind it; 15 never holds.
 verdict-cons : (m : ℕ) (b : Booking) (bs : List Booking)
     → first_fault (booked_faults m (b ∷ bs))
-    ≡ cond (booking_fault m b) (Refused (BookedBench b.bench)) (first_fault (booked_faults m bs))
+    ≡ cond (booking_fault m b) (Err (BookedBench b.bench)) (first_fault (booked_faults m bs))
 unfolding booked_faults
 verdict-cons m b bs = refl
 
-verdict_none : (m : ℕ) → first_fault (booked_faults m []) ≡ Accepted
+verdict_none : (m : ℕ) → first_fault (booked_faults m []) ≡ Ok tt
 unfolding booked_faults
 verdict_none m = refl
 
 -- Of a list of bookings that passes, its first booking does, and so do the others.
-passed : (m : ℕ) (b : Booking) (bs : List Booking) → first_fault (booked_faults m (b ∷ bs)) ≡ Accepted
-    → (b.bench < m) × (b.minutes < 2 ^ 20) × (first_fault (booked_faults m bs) ≡ Accepted)
+passed : (m : ℕ) (b : Booking) (bs : List Booking) → first_fault (booked_faults m (b ∷ bs)) ≡ Ok tt
+    → (b.bench < m) × (b.minutes < 2 ^ 20) × (first_fault (booked_faults m bs) ≡ Ok tt)
 passed m b bs e =
     let a = cond-accepted (booking_fault m b) _ _ (sym (verdict-cons m b bs) ∙ e) in
     let fits = booking_fault-none m b a.0 in
     (fits.0, fits.1, a.1)
 
-pub cut_bookings-fit : (m : ℕ) (bs : List Booking) → m ≤ 64 → first_fault (booked_faults m bs) ≡ Accepted
+pub cut_bookings-fit : (m : ℕ) (bs : List Booking) → m ≤ 64 → first_fault (booked_faults m bs) ≡ Ok tt
     → cut_bookings bs ≡ bs
 cut_bookings-fit m [] l e = refl
 cut_bookings-fit m (b ∷ bs) l e =
     let (bench, minutes, rest) = passed m b bs e in
     rw (cut_booking-fits b (omega arith) minutes, cut_bookings-fit m bs l rest)
 
-pub never_15 : (m : ℕ) (bs : List Booking) (f : Fault) → first_fault (booked_faults m bs) ≡ Refused f
+pub never_15 : (m : ℕ) (bs : List Booking) (f : Fault) → first_fault (booked_faults m bs) ≡ Err f
     → (b : ℕ) × (f ≡ BookedBench b)
 never_15 m [] f e =
-    let none : Accepted ≡ Refused f = sym (verdict_none m) ∙ e in
+    let none : Ok tt ≡ Err f = sym (verdict_none m) ∙ e in
     let z : ◌≡◌ {A = ℕ} 0 1 = cc in absurd (omega arith)
 never_15 m (b ∷ bs) f e =
     let first = sym (verdict-cons m b bs) ∙ e in
     elim (split (booking_fault m b)) [
-      | inl p ↦ (b.bench, let same : Refused (BookedBench b.bench) ≡ Refused f = rw p at first in cc)
+      | inl p ↦ (b.bench, let same : Err (BookedBench b.bench) ≡ Err f = rw p at first in cc)
       | inr p ↦ never_15 m bs f (rw p at first)
     ]
 
 -- The first entry of a table that passes fits, and the others pass.
-entry_passed : (m b n : ℕ) (ns : List ℕ) → first_fault (booked_faults m (booked_from b (n ∷ ns))) ≡ Accepted
-    → (n < 2 ^ 20) × (m ≤ b → n ≡ 0) × (first_fault (booked_faults m (booked_from (suc b) ns)) ≡ Accepted)
+entry_passed : (m b n : ℕ) (ns : List ℕ) → first_fault (booked_faults m (booked_from b (n ∷ ns))) ≡ Ok tt
+    → (n < 2 ^ 20) × (m ≤ b → n ≡ 0) × (first_fault (booked_faults m (booked_from (suc b) ns)) ≡ Ok tt)
 unfolding booked_from
 entry_passed m b n ns e = elim (split (eqb n 0)) [
   | inl p ↦ (omega tests, λ l. omega tests, rw p at e)
@@ -217,8 +199,8 @@ entry_passed m b n ns e = elim (split (eqb n 0)) [
 
 -- The other way round.
 passed_entry : (m b n : ℕ) (ns : List ℕ) → n < 2 ^ 20 → (m ≤ b → n ≡ 0)
-    → first_fault (booked_faults m (booked_from (suc b) ns)) ≡ Accepted
-    → first_fault (booked_faults m (booked_from b (n ∷ ns))) ≡ Accepted
+    → first_fault (booked_faults m (booked_from (suc b) ns)) ≡ Ok tt
+    → first_fault (booked_faults m (booked_from b (n ∷ ns))) ≡ Ok tt
 unfolding booked_from
 passed_entry m b n ns fits held rest = elim (split (eqb n 0)) [
   | inl p ↦ rw p rest
@@ -229,7 +211,7 @@ passed_entry m b n ns fits held rest = elim (split (eqb n 0)) [
       rw p (verdict-cons m (record { bench = b; minutes = n }) (booked_from (suc b) ns) ∙ rw fine rest)
 ]
 
-few_from : (m b : ℕ) (ns : List ℕ) → first_fault (booked_faults m (booked_from b ns)) ≡ Accepted
+few_from : (m b : ℕ) (ns : List ℕ) → first_fault (booked_faults m (booked_from b ns)) ≡ Ok tt
     → length (booked_from b ns) ≤ m - b
 unfolding booked_from
 few_from m b [] e = omega arith
@@ -243,11 +225,11 @@ few_from m b (n ∷ ns) e =
           rw p (omega arith)
     ]
 
-pub few-bookings : (m : ℕ) (bs : List ℕ) → first_fault (booked_faults m (bookings bs)) ≡ Accepted
+pub few-bookings : (m : ℕ) (bs : List ℕ) → first_fault (booked_faults m (bookings bs)) ≡ Ok tt
     → length (bookings bs) ≤ m
 few-bookings m bs e = omega (arith, few_from m 0 bs e)
 
-fit_from : (m b : ℕ) (ns : List ℕ) → first_fault (booked_faults m (booked_from b ns)) ≡ Accepted
+fit_from : (m b : ℕ) (ns : List ℕ) → first_fault (booked_faults m (booked_from b ns)) ≡ Ok tt
     → (v : ℕ) → (get_or ns v 0 < 2 ^ 20) × (m ≤ b + v → get_or ns v 0 ≡ 0)
 fit_from m b [] e v = (omega arith, λ l. refl)
 fit_from m b (n ∷ ns) e zero = let (fits, held, rest) = entry_passed m b n ns e in (fits, λ l. held (omega arith))
@@ -256,12 +238,12 @@ fit_from m b (n ∷ ns) e (suc v) =
     let (below, none) = fit_from m (suc b) ns rest v in
     (below, λ l. none (omega arith))
 
-pub bookings-fit : (m : ℕ) (bs : List ℕ) → first_fault (booked_faults m (bookings bs)) ≡ Accepted
+pub bookings-fit : (m : ℕ) (bs : List ℕ) → first_fault (booked_faults m (bookings bs)) ≡ Ok tt
     → (v : ℕ) → (get_or bs v 0 < 2 ^ 20) × (m ≤ v → get_or bs v 0 ≡ 0)
 bookings-fit m bs e v = let (below, none) = fit_from m 0 bs e v in (below, λ l. none (omega arith))
 
 from_fit : (m b : ℕ) (ns : List ℕ) → ((v : ℕ) → get_or ns v 0 < 2 ^ 20) → ((v : ℕ) → m ≤ b + v → get_or ns v 0 ≡ 0)
-    → first_fault (booked_faults m (booked_from b ns)) ≡ Accepted
+    → first_fault (booked_faults m (booked_from b ns)) ≡ Ok tt
 unfolding booked_from
 from_fit m b [] fits held = verdict_none m
 from_fit m b (n ∷ ns) fits held =
@@ -269,12 +251,12 @@ from_fit m b (n ∷ ns) fits held =
     (from_fit m (suc b) ns (λ v. fits (suc v)) (λ v l. held (suc v) (omega arith)))
 
 pub fit-bookings : (m : ℕ) (bs : List ℕ) → ((v : ℕ) → get_or bs v 0 < 2 ^ 20)
-    → ((v : ℕ) → m ≤ v → get_or bs v 0 ≡ 0) → first_fault (booked_faults m (bookings bs)) ≡ Accepted
+    → ((v : ℕ) → m ≤ v → get_or bs v 0 ≡ 0) → first_fault (booked_faults m (bookings bs)) ≡ Ok tt
 fit-bookings m bs fits held = from_fit m 0 bs fits (λ v l. held v (omega arith))
 
 -- ── the loop that checks a table ──
 
-pub zero-passes : (m b n : ℕ) → n ≡ 0 → Accepted ≡ first_fault (booked_faults m (booked_from b (n ∷ [])))
+pub zero-passes : (m b n : ℕ) → n ≡ 0 → Ok tt ≡ first_fault (booked_faults m (booked_from b (n ∷ [])))
 unfolding booked_from
 zero-passes m b n e = rw (eq-eqb n 0 e) (sym (verdict_none m))
 
@@ -297,20 +279,20 @@ module _ (m : ℕ) (bs : List ℕ) where
       ap (λ (some : List Booking). first_fault (booked_faults m some)) (booked_from-drop i bs l)
       ∙ ap first_fault (booked_faults-append m (booked_from i (get_or bs i 0 ∷ [])) (booked_from (suc i) (drop (suc i) bs)))
 
-  pub entry_sound : (i : ℕ) {v : Verdict} → i < length bs → v ≡ first_fault (entry_tests i) → v ≡ Accepted
+  pub entry_sound : (i : ℕ) {v : Verdict} → i < length bs → v ≡ first_fault (entry_tests i) → v ≡ Ok tt
       → verdict_from i ≡ verdict_from (i + 1)
   entry_sound i l e a =
       rw (add-one i)
       (split_tests i l
       ∙ first_fault-after (entry_tests i) (booked_faults m (booked_from (suc i) (drop (suc i) bs))) (sym e ∙ a))
 
-  pub entry_fault : (i : ℕ) {v : Verdict} {f : Fault} → i < length bs → v ≡ first_fault (entry_tests i) → v ≡ Refused f
-      → verdict_from i ≡ Refused f
+  pub entry_fault : (i : ℕ) {v : Verdict} {f : Fault} → i < length bs → v ≡ first_fault (entry_tests i) → v ≡ Err f
+      → verdict_from i ≡ Err f
   entry_fault i {f = f} l e a =
       split_tests i l
       ∙ first_fault-found (entry_tests i) (booked_faults m (booked_from (suc i) (drop (suc i) bs))) f (sym e ∙ a)
 
-  pub entries_over : (i : ℕ) → length bs ≤ i → verdict_from i ≡ Accepted
+  pub entries_over : (i : ℕ) → length bs ≤ i → verdict_from i ≡ Ok tt
   unfolding booked_from
   entries_over i l =
       ap (λ (rest : List ℕ). first_fault (booked_faults m (booked_from i rest))) (drop_of_length-le bs l) ∙ verdict_none m

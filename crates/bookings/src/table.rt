@@ -5,48 +5,33 @@ ghost use Rattle.fields.specs.Tests.{first_fault, booked_faults};
 ghost use Rattle.packing.specs.Packing.{frame_put};
 ghost use Rattle.bookings.specs.Bookings.{cut_bookings, entry_frames};
 
-use fields::{Booking, Verdict};
+use fields::{Booking, Fault};
 
 // Fault 14, the lowest bench first.
-pub fn check_bookings(benches: u64, booked: &[u64]) -> Verdict
+pub fn check_bookings(benches: u64, booked: &[u64]) -> Result<(), Fault>
     ensures { result ≡ first_fault (booked_faults benches (bookings booked.now)) }
 {
-    let mut b = 0;
-    while b < booked.len() {
-        match check_entry(benches, b, booked[b]) {
-            Verdict::Refused(f) => {
-                return Verdict::Refused(f);
-            }
-            Verdict::Accepted => {}
-        }
-        b += 1;
+    for (bench, &minutes) in booked.iter().enumerate() {
+        check_entry(benches, bench, minutes)?;
     }
-    Verdict::Accepted
+    Ok(())
 }
 
-// Fault 14 of bench b.
-fn check_entry(benches: u64, b: usize, minutes: u64) -> Verdict
-    ensures { result ≡ first_fault (booked_faults benches (booked_from b (minutes ∷ []))) }
+// Fault 14 of one bench.
+fn check_entry(benches: u64, bench: usize, minutes: u64) -> Result<(), Fault>
+    ensures { result ≡ first_fault (booked_faults benches (booked_from bench (minutes ∷ []))) }
 {
     if minutes == 0 {
-        return Verdict::Accepted;
+        return Ok(());
     }
-    checks::check_booking(benches, 0, Booking { bench: b, minutes }, b)
+    checks::check_booking(benches, 0, Booking { bench, minutes }, bench)
 }
 
 // How many bookings are above 0.
 pub fn count_bookings(booked: &[u64]) -> usize
     ensures { result ≡ length (bookings booked.now) }
 {
-    let mut n = 0;
-    let mut b = 0;
-    while b < booked.len() {
-        if booked[b] != 0 {
-            n += 1;
-        }
-        b += 1;
-    }
-    n
+    booked.iter().filter(|&&minutes| minutes != 0).count()
 }
 
 // The frames of the bookings above 0, by rising bench, at the front of the output. Without room for all of them nothing
@@ -59,11 +44,8 @@ pub fn put_bookings(booked: &[u64], out: &mut [u8])
         return;
     }
     let mut at = 0;
-    let mut b = 0;
-    while b < booked.len() {
-        let minutes = booked[b];
-        at = put_entry(Booking { bench: b, minutes }, at, out);
-        b += 1;
+    for (bench, &minutes) in booked.iter().enumerate() {
+        at = put_entry(Booking { bench, minutes }, at, out);
     }
 }
 

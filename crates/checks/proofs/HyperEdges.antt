@@ -26,7 +26,7 @@ use Rattle.bits.proofs.SetBits.{count-is_set}
 use Rattle.fields.specs.declared.sheet.Head.{Head}
 use Rattle.fields.specs.declared.sheet.Job.{Job}
 use Rattle.fields.specs.declared.fault.Fault.TheVariants.{HeavyHyperEdge}
-use Rattle.fields.specs.declared.fault.Verdict.TheVariants.{Accepted, Refused}
+use Rattle.std.specs.Prelude.{Ok, Err}
 use Rattle.fields.specs.Format.{allows}
 use Rattle.fields.specs.Tests.{no_minutes, job_table, job_at, no_job, longest, heavy_hyper_edge, heavy_hyper_edge_at}
 use Rattle.fields.specs.Tests.{hyper_edge_verdict}
@@ -54,7 +54,7 @@ module _ (ms bs : List ℕ) (n : ℕ) where
     at_table : (i : ℕ) → i < n → heavy_hyper_edge_at h (job_table n ms bs) i ≡ heavy_hyper_edge h w (table_job ms bs i)
     at_table i below = rw (longest-table, job_at-table i below, is-longest)
 
-    pub wide_minutes : 2 ^ 20 ≤ w → hyper_edges_checked h (job_table n ms bs) ≡ Accepted
+    pub wide_minutes : 2 ^ 20 ≤ w → hyper_edges_checked h (job_table n ms bs) ≡ Ok tt
     unfolding hyper_edges_checked
     wide_minutes e =
         let wide : leb (2 ^ 20) (longest (job_table n ms bs)) ≡ true =
@@ -71,7 +71,7 @@ module _ (ms bs : List ℕ) (n : ℕ) where
 
     pub heavy_found : (i : ℕ) → i < n → heavy_hyper_edge h w (table_job ms bs i) ≡ true
         → ((k : ℕ) → k < i → heavy_hyper_edge h w (table_job ms bs k) ≡ false)
-        → hyper_edge_verdict h (job_table n ms bs) ≡ Refused (HeavyHyperEdge i)
+        → hyper_edge_verdict h (job_table n ms bs) ≡ Err (HeavyHyperEdge i)
     heavy_found i below heavy lower =
         hyper_edge_lowest h (job_table n ms bs) i
         record {
@@ -80,7 +80,7 @@ module _ (ms bs : List ℕ) (n : ℕ) where
           none_lower = λ k lt. at_table k (omega arith) ∙ lower k lt;
         }
 
-    pub heavy_none : ((k : ℕ) → k < n → heavy_hyper_edge h w (table_job ms bs k) ≡ false) → hyper_edge_verdict h (job_table n ms bs) ≡ Accepted
+    pub heavy_none : ((k : ℕ) → k < n → heavy_hyper_edge h w (table_job ms bs k) ≡ false) → hyper_edge_verdict h (job_table n ms bs) ≡ Ok tt
     heavy_none none =
         hyper_edge_none h (job_table n ms bs)
         (λ k below. let lt : k < n = subst (λ (m : ℕ). k < m) (length-table n (table_job ms bs)) below in at_table k lt ∙ none k lt)
@@ -92,11 +92,11 @@ module _ (ms bs : List ℕ) (n : ℕ) where
       none_wide h (largest n (λ i. get_or ms i no_minutes)) refl fits.0 fits.1 (omega (arith, small))
 
 module _ (h : Head) (js : List Job) where
-  pub wide_p : 128 ≤ h.p → hyper_edges_checked h js ≡ Accepted
+  pub wide_p : 128 ≤ h.p → hyper_edges_checked h js ≡ Ok tt
   unfolding hyper_edges_checked
   wide_p e = simp (le-leb 128 h.p e)
 
-  pub wide_q : 128 ≤ h.q → hyper_edges_checked h js ≡ Accepted
+  pub wide_q : 128 ≤ h.q → hyper_edges_checked h js ≡ Ok tt
   unfolding hyper_edges_checked
   wide_q e = simp (le-leb 128 h.q e, or-true)
 

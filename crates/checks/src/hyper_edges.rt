@@ -4,7 +4,7 @@ ghost use Rattle.sums.specs.Sum.{largest};
 ghost use Rattle.fields.specs.Tests.{no_minutes, job_table};
 ghost use Rattle.checks.specs.HyperEdgeCheck.{hyper_edges_checked};
 
-use fields::{Fault, Head, Job, Verdict};
+use fields::{Fault, Head, Job};
 
 // Entry n of a table of minutes. Past its end none are given.
 pub fn minutes_at(t: &[u64], n: usize) -> u64
@@ -31,44 +31,37 @@ fn longest(count: usize, minutes: &[u64]) -> u64
     ensures { result ≡ largest count (λ n. get_or minutes.now n no_minutes) }
 {
     let mut w = 0;
-    let mut n = 0;
-    while n < count {
-        let m = minutes_at(minutes, n);
-        if w < m {
-            w = m;
-        }
-        n += 1;
+    for n in 0..count {
+        w = w.max(minutes_at(minutes, n));
     }
     w
 }
 
 // Fault 12, for the first count jobs of two tables, if no number is too wide for its field (that is fault 8 or 10).
-pub fn check_hyper_edges<'a>(
+pub fn check_hyper_edges(
     h: Head,
     count: usize,
-    minutes: &'a [u64],
-    allowed: &'a [u64],
-) -> Verdict
+    minutes: &[u64],
+    allowed: &[u64],
+) -> Result<(), Fault>
     ensures { result ≡ hyper_edges_checked h (job_table count minutes.now allowed.now) }
 {
     let w = longest(count, minutes);
     if 128 <= h.p {
-        return Verdict::Accepted;
+        return Ok(());
     }
     if 128 <= h.q {
-        return Verdict::Accepted;
+        return Ok(());
     }
     if 1048576 <= w {
-        return Verdict::Accepted;
+        return Ok(());
     }
-    let mut n = 0;
-    while n < count {
+    for n in 0..count {
         if h.p * w < h.q * minutes_at(minutes, n) {
-            if 3 <= u64::count_ones(allowed_at(allowed, n)) {
-                return Verdict::Refused(Fault::HeavyHyperEdge(n));
+            if 3 <= allowed_at(allowed, n).count_ones() {
+                return Err(Fault::HeavyHyperEdge(n));
             }
         }
-        n += 1;
     }
-    Verdict::Accepted
+    Ok(())
 }

@@ -17,8 +17,8 @@ pub fn compare(sheet: &[u8], first: &[u8], second: &[u8]) -> u64
     let n = entries::load(first, &mut one);
     let m = entries::load(second, &mut two);
     match comparison::compare(sheet, &one[..n], &two[..m]) {
-        Compared::Same => 1,
-        Compared::Different => 0,
+        Compared::Same => tables::SAME,
+        Compared::Different => tables::DIFFERENT,
         Compared::Fault(f) => tables::fault_word(f),
     }
 }

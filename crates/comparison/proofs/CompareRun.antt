@@ -1,5 +1,4 @@
 -- The comparison of plans follows its definition.
---     other_length, right_length     a list of another length than the jobs, and of theirs
 --     gives_is, same-is         of the tables and of the day: a bench of each set, the same places
 --     found_first_faulty, found_second_faulty, found-same, found_different     the four answers for a sound sheet
 --     refused_is, accepted_is   the answer for the bytes
@@ -9,12 +8,11 @@ use mathlib.Core.Bool.{Bool, true, false, ◌&&◌}
 use mathlib.Core.List.{List}
 use lib.ListN.{length}
 use lib.Dec.{eqb}
-use borrow.Author.Tests.{eq-eqb, ne_eqb}
 use Rattle.sums.specs.Search.{all}
-use Rattle.fields.specs.declared.sheet.Reading.{Reading}
+use Rattle.std.specs.Prelude.{Result, Ok, Err}
+use Rattle.fields.specs.declared.sheet.Sheet.{Sheet}
 use Rattle.fields.specs.declared.fault.Fault.{Fault}
 use Rattle.fields.specs.declared.fault.Fault.TheVariants.{Table}
-use Rattle.fields.specs.declared.fault.Verdict.TheVariants.{Accepted, Refused}
 use Rattle.fields.specs.Contents.{Contents}
 use Rattle.frame.specs.Reading.{read_sheet, stored}
 use Rattle.frame.specs.Tables.{Tables}
@@ -27,14 +25,6 @@ use Rattle.comparison.specs.declared.compared.Compared.TheVariants.{Same, Differ
 use Rattle.comparison.specs.Comparison.{gives_each, same_place, same_places, compared_of, compare_plans}
 use Rattle.comparison.specs.CompareArrays.{gives_in}
 use Rattle.comparison.proofs.ComparedCases.{first-faulty, second_faulty, all_same, not_same}
-
--- ── lists ──
-
-pub other_length : (n jobs : ℕ) (b : Bool) → (n ≡ jobs → ⊥) → false ≡ (eqb n jobs && b)
-other_length n jobs b ne = rw (ne_eqb n jobs ne)
-
-pub right_length : (n jobs : ℕ) {b t : Bool} → n ≡ jobs → t ≡ b → t ≡ (eqb n jobs && b)
-right_length n jobs e q = rw (eq-eqb n jobs e) q
 
 -- ── a sound sheet ──
 
@@ -87,17 +77,17 @@ module _ (c : Contents) (benches : ℕ) (booked : List ℕ) (jobs : ℕ) (minute
 -- ── the bytes ──
 
 module _ (s first second : List ℕ) where
-  pub refused_is : {x : Reading} {f : Fault} → x ≡ stored (read_sheet s) → x.verdict ≡ Refused f
+  pub refused_is : {x : Result Sheet Fault} {f : Fault} → x ≡ stored (read_sheet s) → x ≡ Err f
       → ComparedFault f ≡ compare_plans s first second
   unfolding compare_plans
   refused_is e a = rw (verdict_refused (read_sheet s) e a, compare_plans)
 
-  pub accepted_is : (x : Reading) {r : Compared} → x ≡ stored (read_sheet s) → x.verdict ≡ Accepted
+  pub accepted_is : {x : Result Sheet Fault} (sheet : Sheet) {r : Compared} → x ≡ stored (read_sheet s) → x ≡ Ok sheet
       → ((c : Contents) (benches : ℕ) (booked minutes : List ℕ)
-      → Tables c benches booked x.sheet.count minutes x.sheet.allowed
+      → Tables c benches booked sheet.count minutes sheet.allowed
       → r ≡ compared_of (day_of c) first second)
       → r ≡ compare_plans s first second
   unfolding compare_plans
-  accepted_is x e a told =
-      let (c, read, same) = verdict_accepted (read_sheet s) x e a in
-      rw (read, compare_plans) (told c _ _ _ (tables_of s c x.sheet read same))
+  accepted_is sheet e a told =
+      let (c, read, same) = verdict_accepted (read_sheet s) e a in
+      rw (read, compare_plans) (told c _ _ _ (tables_of s c sheet read same))

@@ -2,10 +2,8 @@
 -- does (b), and whether the places are the same (c).
 --     first-faulty, second_faulty, all_same, not_same     each answer from the three tests
 --     of_first_fault, of_second_fault, of_same, of_different      and back
-use Prim.Native.Nat.{ℕ}
 use mathlib.Core.Path.{◌≡◌, refl}
 use mathlib.Core.Bool.{Bool, true, false}
-use native.Mathlib.Omega.{arith}
 use Rattle.fields.specs.declared.fault.Fault.TheVariants.{Table}
 use Rattle.comparison.specs.declared.compared.Compared.TheVariants.{Same, Different, Fault as ComparedFault}
 use Rattle.comparison.specs.Comparison.{compared_by}
@@ -25,24 +23,24 @@ module _ (a b c : Bool) where
 
 pub of_first_fault : (a b c : Bool) → compared_by a b c ≡ ComparedFault (Table 0) → a ≡ false
 of_first_fault false b c e = refl
-of_first_fault true false c e = let z : ◌≡◌ {A = ℕ} 0 1 = cc in absurd (omega arith)
-of_first_fault true true false e = let z : ◌≡◌ {A = ℕ} 0 1 = cc in absurd (omega arith)
-of_first_fault true true true e = let z : ◌≡◌ {A = ℕ} 0 1 = cc in absurd (omega arith)
+of_first_fault true false c e = cc
+of_first_fault true true false e = cc
+of_first_fault true true true e = cc
 
 pub of_second_fault : (a b c : Bool) → compared_by a b c ≡ ComparedFault (Table 1) → (a ≡ true) × (b ≡ false)
-of_second_fault false b c e = let z : ◌≡◌ {A = ℕ} 0 1 = cc in absurd (omega arith)
+of_second_fault false b c e = cc
 of_second_fault true false c e = (refl, refl)
-of_second_fault true true false e = let z : ◌≡◌ {A = ℕ} 0 1 = cc in absurd (omega arith)
-of_second_fault true true true e = let z : ◌≡◌ {A = ℕ} 0 1 = cc in absurd (omega arith)
+of_second_fault true true false e = cc
+of_second_fault true true true e = cc
 
 pub of_same : (a b c : Bool) → compared_by a b c ≡ Same → (a ≡ true) × (b ≡ true) × (c ≡ true)
-of_same false b c e = let z : ◌≡◌ {A = ℕ} 0 1 = cc in absurd (omega arith)
-of_same true false c e = let z : ◌≡◌ {A = ℕ} 0 1 = cc in absurd (omega arith)
-of_same true true false e = let z : ◌≡◌ {A = ℕ} 0 1 = cc in absurd (omega arith)
+of_same false b c e = cc
+of_same true false c e = cc
+of_same true true false e = cc
 of_same true true true e = (refl, refl, refl)
 
 pub of_different : (a b c : Bool) → compared_by a b c ≡ Different → (a ≡ true) × (b ≡ true) × (c ≡ false)
-of_different false b c e = let z : ◌≡◌ {A = ℕ} 0 1 = cc in absurd (omega arith)
-of_different true false c e = let z : ◌≡◌ {A = ℕ} 0 1 = cc in absurd (omega arith)
+of_different false b c e = cc
+of_different true false c e = cc
 of_different true true false e = (refl, refl, refl)
-of_different true true true e = let z : ◌≡◌ {A = ℕ} 0 1 = cc in absurd (omega arith)
+of_different true true true e = cc

@@ -3,7 +3,7 @@
 --     rounds-set                    the array after a bench gets a round
 --     Closing                       what the loop keeps that closes the conflict set; how it goes on, and how it ends
 --     Building                      the same of the loop with the fake orientations
-use Prim.Native.Nat.{ℕ, zero, suc, ◌-◌, ◌≤◌, ◌<◌}
+use Prim.Native.Nat.{ℕ, zero, suc, ◌≤◌, ◌<◌}
 use mathlib.Core.Path.{◌≡◌, refl, sym, ap, ap₂, subst, ◌∙◌}
 use mathlib.Core.Bool.{Bool, true, false, not, ◌&&◌}
 use mathlib.Core.Logic.{inl, inr, ◌≢◌}
@@ -63,13 +63,13 @@ set-goes : (k : ℕ) (b : Board) (i : ℕ) (dirs : Directions) (xs : List ℕ) �
 unfolding conflict_set
 set-goes k b i dirs xs p = rw (p, conflict_set)
 
-set-turns : (k : ℕ) (b : Board) (i : ℕ) (dirs : Directions) (xs : List ℕ) (v : ℕ) → 0 < k → v ≡ least b.benches (joins b dirs xs) → v < b.benches
-    → conflict_set k b i dirs xs ≡ conflict_set (k - 1) b i dirs (set xs v i)
-set-turns zero b i dirs xs v more e h = absurd (omega arith)
-set-turns (suc k) b i dirs xs v more e h =
-    let same : suc k - 1 ≡ k = omega arith in
-    subst (λ (u : ℕ). conflict_set (suc k) b i dirs xs ≡ conflict_set (suc k - 1) b i dirs (set xs u i)) (sym e)
-    (rw same (set-goes k b i dirs xs (lt-ltb (least b.benches (joins b dirs xs)) b.benches (subst (λ (u : ℕ). u < b.benches) e h))))
+set-turns : (k k' : ℕ) (b : Board) (i : ℕ) (dirs : Directions) (xs : List ℕ) (v : ℕ) → k ≡ suc k'
+    → v ≡ least b.benches (joins b dirs xs) → v < b.benches
+    → conflict_set k b i dirs xs ≡ conflict_set k' b i dirs (set xs v i)
+set-turns k k' b i dirs xs v turn e h =
+    ap (λ (m : ℕ). conflict_set m b i dirs xs) turn
+    ∙ subst (λ (u : ℕ). conflict_set (suc k') b i dirs xs ≡ conflict_set k' b i dirs (set xs u i)) (sym e)
+    (set-goes k' b i dirs xs (lt-ltb (least b.benches (joins b dirs xs)) b.benches (subst (λ (u : ℕ). u < b.benches) e h)))
 
 abbrev closure : Board → ℕ → Directions → List ℕ → List ℕ
 closure b i dirs xs = conflict_set b.benches b i dirs xs
@@ -96,15 +96,15 @@ construct-goes : (k : ℕ) (b : Board) (i : ℕ) (dirs : Directions) (xs : List 
 unfolding construct
 construct-goes k b i dirs xs p = rw (p, construct)
 
-construct-turns : (k : ℕ) (b : Board) (i : ℕ) (dirs : Directions) (xs : List ℕ) (v : ℕ) → 0 < k → v ≡ faker b dirs (closure b i dirs xs) → v < b.benches
+construct-turns : (k k' : ℕ) (b : Board) (i : ℕ) (dirs : Directions) (xs : List ℕ) (v : ℕ) → k ≡ suc k'
+    → v ≡ faker b dirs (closure b i dirs xs) → v < b.benches
     → construct k b i dirs xs
-    ≡ construct (k - 1) b i (forced_orientations b (direct b dirs v (least b.jobs (fake b dirs (closure b i dirs xs) v)))) (closure b i dirs xs)
-construct-turns zero b i dirs xs v more e h = absurd (omega arith)
-construct-turns (suc k) b i dirs xs v more e h =
-    let same : suc k - 1 ≡ k = omega arith in
-    subst (λ (u : ℕ). construct (suc k) b i dirs xs
-    ≡ construct (suc k - 1) b i (forced_orientations b (direct b dirs u (least b.jobs (fake b dirs (closure b i dirs xs) u)))) (closure b i dirs xs)) (sym e)
-    (rw same (construct-goes k b i dirs xs (lt-ltb (faker b dirs (closure b i dirs xs)) b.benches (subst (λ (u : ℕ). u < b.benches) e h))))
+    ≡ construct k' b i (forced_orientations b (direct b dirs v (least b.jobs (fake b dirs (closure b i dirs xs) v)))) (closure b i dirs xs)
+construct-turns k k' b i dirs xs v turn e h =
+    ap (λ (m : ℕ). construct m b i dirs xs) turn
+    ∙ subst (λ (u : ℕ). construct (suc k') b i dirs xs
+    ≡ construct k' b i (forced_orientations b (direct b dirs u (least b.jobs (fake b dirs (closure b i dirs xs) u)))) (closure b i dirs xs)) (sym e)
+    (construct-goes k' b i dirs xs (lt-ltb (faker b dirs (closure b i dirs xs)) b.benches (subst (λ (u : ℕ). u < b.benches) e h)))
 
 -- ── the tests, reordered ──
 
@@ -230,14 +230,14 @@ module _ (b : Board) (n : Limits) (low high weight : List ℕ) (R : Rocks b n lo
     closing_ends stop =
         subst (λ (x : List ℕ). Rounds b x joined) (sym (C.same ∙ set-stops k b i dirs C.now_xs (sym closing_at ∙ stop ∙ R.benches))) C.rounds
 
-    pub closing_goes_on : {joined' : List ℕ} → v ≢ n.benches → 0 < k → joined' ≡ set joined v i → Closing i dirs xs (k - 1) joined'
-    closing_goes_on {joined'} ne more q =
+    pub closing_goes_on : (k' : ℕ) {joined' : List ℕ} → v ≢ n.benches → k ≡ suc k' → joined' ≡ set joined v i → Closing i dirs xs k' joined'
+    closing_goes_on k' {joined'} ne turn q =
         let below : v < b.benches =
         lt_of_ne v b.benches (subst (λ (m : ℕ). m ≤ b.benches) (sym closing_at) (least-le b.benches (joins b dirs C.now_xs))) (λ s. ne (s ∙ sym R.benches)) in
         record {
           now_xs = set C.now_xs v i;
           rounds = subst (λ (x : List ℕ). Rounds b (set C.now_xs v i) x) (sym q) (rounds-set b C.now_xs joined v i C.rounds);
-          same = C.same ∙ set-turns k b i dirs C.now_xs v more closing_at below;
+          same = C.same ∙ set-turns k k' b i dirs C.now_xs v turn closing_at below;
         }
 
   -- ── fake orientations ──
@@ -298,8 +298,8 @@ module _ (b : Board) (n : Limits) (low high weight : List ℕ) (R : Rocks b n lo
             (set loads (other_at low high r v) (plus_of (get_or loads (other_at low high r v) 0) (get_or weight r 0)))) step.rock_is
             (directs_seen b n low high weight R B.now_dirs r v step.rock_below step.touched dir loads B.seen step.free))
 
-        fewer : 0 < k → neutrals b (forced_orientations b faked) ≤ k - 1
-        fewer more =
+        fewer : (k' : ℕ) → k ≡ suc k' → neutrals b (forced_orientations b faked) ≤ k'
+        fewer k' turn =
             let j = rock_at b r in
             let is : direct b B.now_dirs v j ≡ faked = ap (direct b B.now_dirs v) step.rock_is in
             let drops : neutrals b faked < neutrals b B.now_dirs =
@@ -308,13 +308,13 @@ module _ (b : Board) (n : Limits) (low high weight : List ℕ) (R : Rocks b n lo
             let call = forced_call b R.sound faked fake-seen.directed.pointed in
             omega (arith, B.few, drops, count_mono b.jobs (neutral (forced_orientations b faked)) (neutral faked) (λ i h q. steps-neutral b call.steps i q))
 
-        pub building_goes_on : {dir' loads' : List ℕ} → 0 < k → Seen b (forced_orientations b faked) dir' loads' → Building i dirs xs (k - 1) dir' loads' joined'
-        building_goes_on more S =
+        pub building_goes_on : (k' : ℕ) {dir' loads' : List ℕ} → k ≡ suc k' → Seen b (forced_orientations b faked) dir' loads' → Building i dirs xs k' dir' loads' joined'
+        building_goes_on k' turn S =
             record {
               now_dirs = forced_orientations b faked;
               now_xs = closed;
               seen = S;
               rounds = X;
-              few = fewer more;
-              same = B.same ∙ construct-turns k b i B.now_dirs B.now_xs v more building_at step.bench_below;
+              few = fewer k' turn;
+              same = B.same ∙ construct-turns k k' b i B.now_dirs B.now_xs v turn building_at step.bench_below;
             }

@@ -10,6 +10,7 @@ use Rattle.algorithm.specs.Board.{Board, Directions}
 use Rattle.algorithm.specs.Explore.{Constructed}
 use Rattle.rocks.specs.RockArrays.{within_at, father_at}
 use Rattle.rocks.specs.BoardArrays.{Seen, Rounds}
+use Rattle.rock_graph.specs.declared.lent.Graph.{Graph}
 use Rattle.rock_graph.specs.Graph.{lows, highs, weights}
 use Rattle.forced.specs.SetArrays.{Covers, Nowhere, forces_at}
 use Rattle.forced.specs.CandidateArrays.{Neutral}
@@ -26,7 +27,7 @@ fake_at benches dir joined r v = eqb (get_or dir r 0) 0 && within_at benches joi
 
 -- The directions and the conflict set with which the construction of round i begins: no rock is forced any more, and
 -- the sets have every neutral rock, every bench that joins, and every bench with a rock for a fake orientation.
-pub record Opened (b : Board) (n : Limits) (graph : List ℕ) (i : ℕ) (dirs : Directions) (xs : List ℕ)
+pub record Opened (b : Board) (n : Limits) (graph : Graph) (i : ℕ) (dirs : Directions) (xs : List ℕ)
     (dir loads rounds : List ℕ) (joining faking neutral : ℕ) : Type 0 where
   pub round : i ≤ b.benches
   pub seen : Seen b dirs dir loads
@@ -37,7 +38,7 @@ pub record Opened (b : Board) (n : Limits) (graph : List ℕ) (i : ℕ) (dirs : 
   pub fakes : Covers n (lows graph) (highs graph) (fake_at n.benches dir rounds) faking
 
 -- Where it ends: no bench joins any more, no rock is left for a fake orientation, and none is forced.
-pub record Finished (n : Limits) (graph dir loads rounds : List ℕ) (neutral : ℕ) : Type 0 where
+pub record Finished (n : Limits) (graph : Graph) (dir loads rounds : List ℕ) (neutral : ℕ) : Type 0 where
   pub joined_all : Nowhere n (lows graph) (highs graph) (joins_at n.benches (lows graph) (highs graph) dir rounds)
   pub faked_all : Nowhere n (lows graph) (highs graph) (fake_at n.benches dir rounds)
   pub unforced : Nowhere n (lows graph) (highs graph) (forces_at n.bound (weights graph) dir loads)

@@ -1,5 +1,5 @@
 // The conflict set and fake orientations.
-ghost use Rattle.std.specs.Prelude.{◌≡◌, ℕ, ◌≤◌, ◌<◌, List};
+ghost use Rattle.std.specs.Prelude.{◌≡◌, ℕ, ◌≤◌, ◌<◌, List, Some, None, MatchOption};
 ghost use Rattle.algorithm.specs.Board.{Board, Directions};
 ghost use Rattle.algorithm.specs.Explore.{conflict_set, construct as constructed};
 ghost use Rattle.rocks.specs.BoardArrays.{Directed, Rounds};
@@ -7,45 +7,41 @@ ghost use Rattle.conflict.specs.ConflictArrays.{joins_at, fake_at, Opened, Built
 ghost use Rattle.rock_graph.specs.Neighbours.{Incident};
 ghost use Rattle.rock_graph.specs.Graph.{incidents, lows, highs, RockGraph};
 ghost use Rattle.forced.specs.SetArrays.{Covers, Nowhere};
-ghost use Rattle.forced.specs.CandidateArrays.{Neutral, rock_of, bench_of};
+ghost use Rattle.forced.specs.CandidateArrays.{Neutral, some_rock, rock_of, bench_of};
 
+use forced::Changed;
+use rock_graph::Graph;
 use rocks::Limits;
 
-// The lowest rock by which v joins the conflict set, and 64 where there is none.
-fn joining_rock<'a>(
-    benches: usize,
-    graph: &'a [usize],
-    dir: &'a [usize],
-    joined: &'a [usize],
-    v: usize,
-) -> usize
+// Whether v joins the conflict set, by one of its rocks.
+fn joins(benches: usize, graph: &Graph, dir: &[usize], joined: &[usize], v: usize) -> bool
     ensures { result
-        ≡ rock_of (incidents graph.now)
+        ≡ some_rock (incidents graph.now)
         (joins_at benches (lows graph.now) (highs graph.now) dir.now
         joined.now) v }
 {
     if rocks::within(benches, joined, v) {
-        return 64;
+        return false;
     }
-    let mut left = rock_graph::incident(graph, v);
+    let mut left = graph.incident(v);
     while 0 < left {
         let r = sets::lowest(left);
-        if rock_graph::father(benches, graph, dir, joined, r, v) {
-            return r;
+        if graph.father(benches, dir, joined, r, v) {
+            return true;
         }
         left = sets::after(left, r);
     }
-    64
+    false
 }
 
-// The lowest candidate that joins the conflict set, and 64 where there is none.
-fn first_joining<'a>(
+// The lowest candidate that joins the conflict set.
+fn first_joining(
     benches: usize,
-    graph: &'a [usize],
+    graph: &Graph,
     cand: usize,
-    dir: &'a [usize],
-    joined: &'a [usize],
-) -> usize
+    dir: &[usize],
+    joined: &[usize],
+) -> Option<usize>
     ensures { result
         ≡ bench_of (incidents graph.now)
         (joins_at benches (lows graph.now) (highs graph.now) dir.now
@@ -54,22 +50,22 @@ fn first_joining<'a>(
     let mut left = cand;
     while 0 < left {
         let v = sets::lowest(left);
-        if joining_rock(benches, graph, dir, joined, v) < 64 {
-            return v;
+        if joins(benches, graph, dir, joined, v) {
+            return Some(v);
         }
         left = sets::after(left, v);
     }
-    64
+    None
 }
 
 // conflict_set benches b i dir joined, where every bench that joins is a candidate. The result has the benches that
 // joined.
-fn close<'a>(
+fn close(
     n: Limits,
     i: usize,
-    graph: &'a [usize],
+    graph: &Graph,
     cand: usize,
-    dir: &'a [usize],
+    dir: &[usize],
     joined: &mut [usize],
 ) -> usize
     ensures { (b : Board) → (dirs : Directions) → (xs : List ℕ)
@@ -86,87 +82,88 @@ fn close<'a>(
 {
     let mut cands = cand;
     let mut grown = 0;
-    let mut turns = n.benches;
-    while 0 < turns {
-        let v = first_joining(n.benches, graph, cands, dir, joined);
-        if 63 < v {
-            return grown;
-        }
+    for _ in 0..n.benches {
+        let Some(v) = first_joining(n.benches, graph, cands, dir, joined) else {
+            break;
+        };
         arrays::put(joined, v, i);
         grown = sets::with(grown, v);
-        cands = sets::above(cands, v) | rock_graph::neighbours(graph, v);
-        turns -= 1;
+        cands = sets::above(cands, v) | graph.neighbours(v);
     }
     grown
 }
 
-// The lowest neutral rock at v where v is in the conflict set, and 64 where there is none.
-fn fake_rock<'a>(
+// The lowest neutral rock at v, where v is in the conflict set.
+fn fake_rock(
     benches: usize,
-    graph: &'a [usize],
+    graph: &Graph,
     neutral: usize,
-    joined: &'a [usize],
+    joined: &[usize],
     v: usize,
-) -> usize
+) -> Option<usize>
     ensures { (n : Limits) → (dir : List ℕ)
         → Incident n (lows graph.now) (highs graph.now) (incidents graph.now)
         → Neutral n dir neutral → v < 64
         → result ≡ rock_of (incidents graph.now) (fake_at benches dir joined.now) v }
 {
     if !rocks::within(benches, joined, v) {
-        return 64;
+        return None;
     }
-    sets::lowest(sets::common(rock_graph::incident(graph, v), neutral))
+    let r = sets::lowest(sets::common(graph.incident(v), neutral));
+    if r < 64 { Some(r) } else { None }
 }
 
-// The lowest candidate in the conflict set with a neutral rock, and 64 where there is none.
-fn first_fake<'a>(
+// A bench of the conflict set, and its lowest neutral rock.
+#[derive(Drop)]
+struct Fake {
+    bench: usize,
+    rock: usize,
+}
+
+// The lowest candidate in the conflict set with a neutral rock.
+fn first_fake(
     benches: usize,
-    graph: &'a [usize],
+    graph: &Graph,
     fakes: usize,
     neutral: usize,
-    joined: &'a [usize],
-) -> usize
+    joined: &[usize],
+) -> Option<Fake>
     ensures { (n : Limits) → (dir : List ℕ)
         → Incident n (lows graph.now) (highs graph.now) (incidents graph.now)
         → Neutral n dir neutral
-        → result ≡ bench_of (incidents graph.now) (fake_at benches dir joined.now) fakes }
+        → MatchOption result
+        (None ≡ bench_of (incidents graph.now) (fake_at benches dir joined.now) fakes)
+        (λ f. (Some f.bench ≡ bench_of (incidents graph.now) (fake_at benches dir joined.now) fakes)
+        × (Some f.rock ≡ rock_of (incidents graph.now) (fake_at benches dir joined.now) f.bench)) }
 {
     let mut left = fakes;
     while 0 < left {
-        let v = sets::lowest(left);
-        if fake_rock(benches, graph, neutral, joined, v) < 64 {
-            return v;
+        let bench = sets::lowest(left);
+        if let Some(rock) = fake_rock(benches, graph, neutral, joined, bench) {
+            return Some(Fake { bench, rock });
         }
-        left = sets::after(left, v);
+        left = sets::after(left, bench);
     }
-    64
-}
-
-// The benches that joined the conflict set, and the neutral rocks.
-#[derive(Drop)]
-pub struct Grown {
-    pub benches: usize,
-    pub neutral: usize,
+    None
 }
 
 // construct jobs b i dir joined, where every bench that joins is in cand and every one with a rock for a fake
 // orientation in fakes.
 // The result has the benches that joined, and the neutral rocks.
-pub fn construct<'a>(
+pub fn construct(
     n: Limits,
     i: usize,
-    graph: &'a [usize],
+    graph: &Graph,
     cand: usize,
     fakes: usize,
-    before: usize,
+    neutral: usize,
     dir: &mut [usize],
     load: &mut [usize],
     joined: &mut [usize],
-) -> Grown
+) -> Changed
     ensures { (b : Board) → (dirs : Directions) → (xs : List ℕ) → RockGraph b n graph.now
         → Opened b n graph.now i dirs xs dir.old load.old joined.old cand
-        fakes before
+        fakes neutral
         → Built b (constructed b.jobs b i dirs xs) dir.new load.new joined.new
         × Grew n joined.old joined.new result.benches
         × Finished n graph.now dir.new load.new joined.new
@@ -174,32 +171,25 @@ pub fn construct<'a>(
 {
     let mut joining = cand;
     let mut faking = fakes;
-    let mut neutral = before;
-    let mut grown = 0;
-    let mut turns = n.jobs;
-    while 0 < turns {
+    let mut changed = Changed {
+        benches: 0,
+        neutral,
+    };
+    for _ in 0..n.jobs {
         let more = close(n, i, graph, joining, dir, joined);
-        grown = grown | more;
-        faking = faking | more;
-        let v = first_fake(n.benches, graph, faking, neutral, joined);
-        if 63 < v {
-            return Grown {
-                benches: grown,
-                neutral: neutral,
-            };
-        }
-        let r = fake_rock(n.benches, graph, neutral, joined, v);
-        let u = rock_graph::direct(graph, dir, load, r, v);
-        neutral = sets::less(neutral, sets::with(0, r));
-        let f = forced::force(n, graph, sets::with(0, u), neutral, dir, load);
-        joining = f.tails;
-        neutral = f.neutral;
-        faking = sets::with(sets::above(faking, v), v);
-        turns -= 1;
+        changed.benches |= more;
+        faking |= more;
+        let Some(fake) = first_fake(n.benches, graph, faking, changed.neutral, joined) else {
+            return changed;
+        };
+        let u = graph.direct(dir, load, fake.rock, fake.bench);
+        let rest = sets::less(changed.neutral, sets::with(0, fake.rock));
+        let forced = forced::force(n, graph, sets::with(0, u), rest, dir, load);
+        joining = forced.benches;
+        changed.neutral = forced.neutral;
+        faking = sets::with(sets::above(faking, fake.bench), fake.bench);
     }
     let more = close(n, i, graph, joining, dir, joined);
-    Grown {
-        benches: grown | more,
-        neutral: neutral,
-    }
+    changed.benches |= more;
+    changed
 }

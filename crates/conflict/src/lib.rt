@@ -3,4 +3,4 @@
 
 mod conflict;
 
-pub use conflict::{Grown, construct};
+pub use conflict::construct;

@@ -12,10 +12,10 @@ ghost use Rattle.decisions.specs.declared.decision.Decision.TheVariants.{None};
 use answers::{LongAnswer, NoneAnswer};
 use decisions::{Decided, Decision};
 use fields::Head;
-use rocks::Limits;
+use rocks::{Balance, Limits};
 
 // None with the component of bench v, and no move.
-fn crowded<'a>(n: Limits, low: &'a [usize], high: &'a [usize], v: usize) -> Decision
+fn crowded(n: Limits, low: &[usize], high: &[usize], v: usize) -> Decision
     ensures { (d : Day) → DayRocks d n low.now high.now → v < d.benches
         → result ≡ None (record { set = set_of (members d.benches (component_of d v)); moves = 0 }) }
 {
@@ -27,17 +27,17 @@ fn crowded<'a>(n: Limits, low: &'a [usize], high: &'a [usize], v: usize) -> Deci
 }
 
 // The run of a day without a long job or a crowded component: weights and pebbles first.
-fn decide_sparse<'a>(
+fn decide_sparse(
     h: Head,
     n: Limits,
     rock: [bool; 512],
     booked: [usize; 64],
-    minutes: &'a [usize],
-    allowed: &'a [usize],
-    job: &'a [usize],
-    low: &'a [usize],
-    high: &'a [usize],
-    balance: &'a [usize],
+    minutes: &[usize],
+    allowed: &[usize],
+    job: &[usize],
+    low: &[usize],
+    high: &[usize],
+    balance: &[Balance],
 ) -> Decided
     ensures { (d : Day) → Lent d h n.jobs minutes.now allowed.now booked
         → Sparse d n job.now low.now high.now balance.now rock
@@ -64,11 +64,11 @@ fn decide_sparse<'a>(
 }
 
 // The decision of a day without a long job: a crowded component, or the run.
-fn decide_short<'a>(
+fn decide_short(
     h: Head,
     jobs: usize,
-    minutes: &'a [usize],
-    allowed: &'a [usize],
+    minutes: &[usize],
+    allowed: &[usize],
     booked: [usize; 64],
 ) -> Decided
     ensures { (d : Day) → Lent d h jobs minutes.now allowed.now booked
@@ -83,12 +83,11 @@ fn decide_short<'a>(
     let mut low = [0usize; 512];
     let mut high = [0usize; 512];
     let rocks = start::gather(jobs, &rock, allowed, &mut job, &mut low, &mut high);
-    let mut n = start::limits(h.benches as usize, jobs, p, q, target);
-    n.rocks = rocks;
-    let mut balance = [rocks::UNKNOWN; 64];
+    let bare = start::limits(h.benches as usize, jobs, p, q, target);
+    let n = Limits { rocks, ..bare };
+    let mut balance = [Balance::Unknown; 64];
     rocks::balances(n, &low, &high, &mut balance);
-    let v = rocks::crowded_bench(n.benches, &balance);
-    if v < n.benches {
+    if let Some(v) = rocks::crowded_bench(n.benches, &balance) {
         return decisions::without_places(crowded(n, &low, &high, v));
     }
     decide_sparse(
@@ -97,18 +96,17 @@ fn decide_short<'a>(
 }
 
 // The decision of a day, with the target of the head, the jobs' minutes and allowed benches, and the booked minutes.
-pub fn decide<'a>(
+pub fn decide(
     h: Head,
     jobs: usize,
-    minutes: &'a [usize],
-    allowed: &'a [usize],
+    minutes: &[usize],
+    allowed: &[usize],
     booked: [usize; 64],
 ) -> Decided
     ensures { (d : Day) → Lent d h jobs minutes.now allowed.now booked → Decides d result }
 {
-    let long = start::long_job(jobs, h.target as usize, minutes);
-    if long < jobs {
-        return decisions::without_places(Decision::Long(LongAnswer { job: long as u64 }));
+    if let Some(job) = start::long_job(jobs, h.target as usize, minutes) {
+        return decisions::without_places(Decision::Long(LongAnswer { job: job as u64 }));
     }
     decide_short(h, jobs, minutes, allowed, booked)
 }

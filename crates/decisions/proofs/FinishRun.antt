@@ -42,7 +42,7 @@ use Rattle.start.specs.StartArrays.{Fields, Placed}
 use Rattle.start.proofs.RocksRun.{left_count, left_jobs, left_lows, left_highs}
 use Rattle.run.specs.declared.state.State.{State as Kept}
 use Rattle.run.specs.TableArrays.{placed_of}
-use Rattle.run.specs.Held.{Ready, Held, Last, is_left, left_job}
+use Rattle.run.specs.Held.{Ready, Last, is_left, left_job}
 use Rattle.run.proofs.HeldLaws.{few_left, held-rocks, rock-job}
 use Rattle.run.proofs.StartState.{begins_light}
 use Rattle.run.proofs.StateRun.{calm_shown, busy_shown}

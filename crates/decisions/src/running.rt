@@ -8,7 +8,7 @@ ghost use Rattle.decisions.specs.Decision.{Decides};
 
 use crate::decision::{Decided, Decision, PlanMoves};
 use answers::NoneAnswer;
-use rocks::Limits;
+use rocks::{Balance, Limits};
 use run::State;
 
 // A decision that is no plan.
@@ -21,14 +21,14 @@ pub fn without_places(decision: Decision) -> Decided
 
 // The decision at the last state of the run: none with the activated benches, or a plan with the places that the other
 // jobs have, and the rocks settled from their directions.
-fn finish<'a>(
+fn finish(
     last: State,
     place: [u8; 512],
     aims: [usize; 64],
     n: Limits,
-    job: &'a [usize],
-    low: &'a [usize],
-    high: &'a [usize],
+    job: &[usize],
+    low: &[usize],
+    high: &[usize],
 ) -> Decided
     ensures { (d : Day) → (weights : List ℕ) → (amount : List ℕ) → (pebbles : List Bool) → (allowed : List ℕ)
         → Ready d n low.now high.now weights amount pebbles allowed
@@ -36,10 +36,9 @@ fn finish<'a>(
         → Last d last place aims → ltb (long_job d) d.jobs ≡ false → ltb (crowded_bench d) d.benches ≡ false
         → Decides d result }
 {
-    let active = last.active;
-    if active != 0 {
+    if last.active != 0 {
         return without_places(Decision::None(NoneAnswer {
-            set: active as u64,
+            set: last.active as u64,
             moves: last.moves as u64,
         }));
     }
@@ -56,17 +55,17 @@ fn finish<'a>(
 }
 
 // The run of a day without a long job or a crowded component.
-pub fn decide_run<'a>(
+pub fn decide_run(
     n: Limits,
     rock: [bool; 512],
     burden: [usize; 64],
-    pebble: &'a [bool],
-    allowed: &'a [usize],
-    amount: &'a [usize],
-    job: &'a [usize],
-    low: &'a [usize],
-    high: &'a [usize],
-    balance: &'a [usize],
+    pebble: &[bool],
+    allowed: &[usize],
+    amount: &[usize],
+    job: &[usize],
+    low: &[usize],
+    high: &[usize],
+    balance: &[Balance],
 ) -> Decided
     ensures { (d : Day) → (minutes : List ℕ)
         → Begins d n minutes allowed.now amount.now job.now low.now
@@ -87,8 +86,7 @@ pub fn decide_run<'a>(
     let rocks = start::gather(n.jobs, &left, allowed, &mut mine, &mut lows, &mut highs);
     let mut weight = [0usize; 64];
     run::pick(rocks, &mine, amount, &mut weight);
-    let mut m = n;
-    m.rocks = rocks;
+    let m = Limits { rocks, ..n };
     let budget = arrays::times(n.benches, arrays::count(n.jobs, pebble));
     let mut dir = [0usize; 64];
     let last = turns::turns(

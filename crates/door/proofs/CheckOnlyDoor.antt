@@ -27,8 +27,7 @@ use Rattle.fields.specs.declared.fault.Fault.{Fault}
 use Rattle.fields.specs.declared.fault.Fault.TheVariants.{Table}
 use Rattle.fields.specs.Contents.{Contents}
 use Rattle.fields.specs.Tests.{no_minutes, job_at}
-use Rattle.frame.specs.declared.written.Written.{Written}
-use Rattle.frame.specs.declared.written.Written.TheVariants.{Length, Refusal}
+use Rattle.std.specs.Prelude.{Result, Ok, Err}
 use Rattle.frame.specs.Writing.{jobs_of, write_sheet}
 use Rattle.frame.proofs.WriterSteps.{length-job_table, job_at_lem}
 use Rattle.frame.proofs.FirstFault.{never_10}
@@ -110,12 +109,12 @@ entries_begun : (t : List ℕ) → 0 < length t % 8 → length t / 8 < entries_o
 unfolding entries_of
 entries_begun t begun = omega arith
 
-refused : (w : Written) → ((n : ℕ) → w ≡ Length n → ⊥) → (f : Fault) × (w ≡ Refusal f)
-refused (Length n) none = absurd (none n refl)
-refused (Refusal f) none = (f, refl)
+refused : (w : Result ℕ Fault) → ((n : ℕ) → w ≡ Ok n → ⊥) → (f : Fault) × (w ≡ Err f)
+refused (Ok n) none = absurd (none n refl)
+refused (Err f) none = (f, refl)
 
 module _ (h : Head) (booked minutes allowed : List ℕ) (room : ℕ) where
-  pub zero-written : {n : ℕ} → write_sheet (contents_in h booked minutes allowed) room ≡ Length n
+  pub zero-written : {n : ℕ} → write_sheet (contents_in h booked minutes allowed) room ≡ Ok n
       → (j : ℕ) → j < length (jobs_of (minutes_in minutes) (numbers_of allowed))
       → (job_at (jobs_of (minutes_in minutes) (numbers_of allowed)) j).minutes ≡ 0
       → (8 * j + 8 ≤ length minutes) × (entry_of minutes j ≡ 0)
@@ -128,7 +127,7 @@ module _ (h : Head) (booked minutes allowed : List ℕ) (room : ℕ) where
       (sym (ap (λ (k : Job). k.minutes) job) ∙ zero)
 
   pub begun_unwritten : 0 < length minutes % 8 → entry_of minutes (length minutes / 8) ≡ 0
-      → (f : Fault) × (write_sheet (contents_in h booked minutes allowed) room ≡ Refusal f)
+      → (f : Fault) × (write_sheet (contents_in h booked minutes allowed) room ≡ Err f)
   begun_unwritten begun zero =
       let j = length minutes / 8 in
       let there = entries_begun minutes begun in
@@ -145,7 +144,7 @@ module _ (h : Head) (booked minutes allowed : List ℕ) (room : ℕ) where
       omega (arith, read.1, begun_given minutes j (omega arith) zero there))
 
   pub short_unwritten : entries_of minutes < entries_of allowed
-      → (f : Fault) × (write_sheet (contents_in h booked minutes allowed) room ≡ Refusal f)
+      → (f : Fault) × (write_sheet (contents_in h booked minutes allowed) room ≡ Err f)
   short_unwritten l =
       unwritten h (numbers_of booked) (minutes_in minutes) (numbers_of allowed)
       (omega (arith, length-given_numbers minutes no_minutes, length-numbers_of allowed)) room

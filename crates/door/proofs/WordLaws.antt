@@ -11,7 +11,7 @@ use mathlib.Core.List.{List}
 use lib.ListN.{length}
 use Rattle.fields.specs.Contents.{Contents}
 use Rattle.fields.specs.declared.fault.Fault.{Fault}
-use Rattle.frame.specs.declared.written.Written.TheVariants.{Length, Refusal}
+use Rattle.std.specs.Prelude.{Ok, Err}
 use Rattle.fields.specs.Numbers.{number_of, place_of}
 use Rattle.frame.specs.Writing.{write_sheet}
 use Rattle.frame.specs.Reading.{refused, read_sheet}
@@ -21,10 +21,10 @@ use Rattle.tables.proofs.WordLaws.{fault_word_number, fault_word_place}
 use Rattle.door.specs.Door.{written_word}
 
 module _ (c : Contents) (room : ℕ) where
-  pub written_word_value : (n : ℕ) → write_sheet c room ≡ Length n → (written_word (write_sheet c room) ≡ n) × (n < 2 ^ 32)
+  pub written_word_value : (n : ℕ) → write_sheet c room ≡ Ok n → (written_word (write_sheet c room) ≡ n) × (n < 2 ^ 32)
   written_word_value n e = (ap written_word e, omega (arith, written-length c room n e))
 
-  pub written_word_fault : (f : Fault) → write_sheet c room ≡ Refusal f
+  pub written_word_fault : (f : Fault) → write_sheet c room ≡ Err f
       → (written_word (write_sheet c room) / 2 ^ 32 ≡ number_of f)
       × (length c.booked < 2 ^ 32 → written_word (write_sheet c room) % 2 ^ 32 ≡ place_of f)
   written_word_fault f e = (

@@ -3,11 +3,10 @@
 --     minutes_in        the minutes of a table; an entry that lacks bytes and has none above 0 gives none
 --     contents_in       what the writer is given: a head, a table of bookings, and the jobs of two tables
 --     written_word w    what writing returns: the length, or the fault
-use Rattle.std.specs.Prelude.{ℕ, List}
+use Rattle.std.specs.Prelude.{ℕ, List, Result, Ok, Err}
 use Rattle.fields.specs.declared.sheet.Head.{Head}
 use Rattle.fields.specs.Contents.{Contents}
-use Rattle.frame.specs.declared.written.Written.{Written}
-use Rattle.frame.specs.declared.written.Written.TheVariants.{Length, Refusal}
+use Rattle.fields.specs.declared.fault.Fault.{Fault}
 use Rattle.fields.specs.Tests.{no_minutes}
 use Rattle.frame.specs.Writing.{contents_of}
 use Rattle.tables.specs.Tables.{numbers_of, given_numbers}
@@ -24,6 +23,6 @@ minutes_in minutes = given_numbers minutes no_minutes
 abbrev pub contents_in : Head → List ℕ → List ℕ → List ℕ → Contents
 contents_in h booked minutes allowed = contents_of h (numbers_of booked) (minutes_in minutes) (numbers_of allowed)
 
-abbrev pub written_word : Written → ℕ
-written_word (Length n) = n
-written_word (Refusal f) = fault_word f
+abbrev pub written_word : Result ℕ Fault → ℕ
+written_word (Ok n) = n
+written_word (Err f) = fault_word f

@@ -18,13 +18,12 @@ use Rattle.bits.proofs.LittleLaws.{little-lt}
 use Rattle.bits.proofs.SetBits.{is_set-zero}
 use Rattle.fields.specs.declared.sheet.Head.{Head}
 use Rattle.fields.specs.declared.sheet.Job.{Job}
-use Rattle.fields.specs.declared.fault.Verdict.TheVariants.{Accepted}
+use Rattle.fields.specs.declared.fault.Fault.{Fault}
 use Rattle.fields.specs.Contents.{Contents, booked_at, every_bench}
 use Rattle.fields.specs.Format.{sheet_bytes}
 use Rattle.fields.specs.Tests.{no_minutes, job_at}
 use Rattle.fields.proofs.FormatLaws.{length-sheet_bytes}
-use Rattle.frame.specs.declared.written.Written.{Written}
-use Rattle.frame.specs.declared.written.Written.TheVariants.{Length, Refusal}
+use Rattle.std.specs.Prelude.{Result, Ok, Err}
 use Rattle.frame.specs.Reading.{Read, accepted, read_sheet}
 use Rattle.frame.specs.Writing.{jobs_of, as_read, writer_verdict, write_sheet, output}
 use Rattle.frame.specs.Sound.{SoundSheet}
@@ -49,15 +48,15 @@ use Rattle.door_round_trip.proofs.ContentsNumbers.{given_entry}
 -- ── what was written ──
 
 -- A word below 2 ^ 32 is a length.
-length-returned : (w : Written) {n : ℕ} → n ≡ written_word w → n < 2 ^ 32 → w ≡ Length n
-length-returned (Length k) e l = ap Length (sym e)
-length-returned (Refusal f) e l = absurd (omega (arith, fault_word_large f))
+length-returned : (w : Result ℕ Fault) {n : ℕ} → n ≡ written_word w → n < 2 ^ 32 → w ≡ Ok n
+length-returned (Ok k) e l = ap Ok (sym e)
+length-returned (Err f) e l = absurd (omega (arith, fault_word_large f))
 
-verdict_of-length : (c : Contents) (room n : ℕ) → write_sheet c room ≡ Length n → writer_verdict c ≡ Accepted
+verdict_of-length : (c : Contents) (room n : ℕ) → write_sheet c room ≡ Ok n → writer_verdict c ≡ Ok tt
 verdict_of-length c room n e = elim (verdict_cases (writer_verdict c)) [
   | inl a ↦ a
   | inr (f, a) ↦
-      let no_length : Refusal f ≡ Length n = sym (write_refused c room f a) ∙ e in
+      let no_length : Err f ≡ Ok n = sym (write_refused c room f a) ∙ e in
       let z : ◌≡◌ {A = ℕ} 0 1 = cc in absurd (omega arith)
 ]
 
@@ -72,10 +71,10 @@ module _ (h : Head) (booked minutes allowed out : List ℕ) (n : ℕ) (out' t : 
   abbrev given : Contents
   given = contents_in h booked minutes allowed
 
-  written : write_sheet given (length out) ≡ Length n
+  written : write_sheet given (length out) ≡ Ok n
   written = length-returned (write_sheet given (length out)) both.write_called.word both.no_fault
 
-  verdict : writer_verdict given ≡ Accepted
+  verdict : writer_verdict given ≡ Ok tt
   verdict = verdict_of-length given (length out) n written
 
   sound : SoundSheet given
@@ -147,7 +146,7 @@ module _ (h : Head) (booked minutes allowed out : List ℕ) (n : ℕ) (out' t : 
   sheet_written =
       let size : length (sheet_bytes given) ≡ n =
       omega (arith, length-sheet_bytes given, written-length given (length out) n written) in
-      ap (take n) (both.write_called.new_output ∙ ap (λ (w : Written). output w given out) written)
+      ap (take n) (both.write_called.new_output ∙ ap (λ (w : Result ℕ Fault). output w given out) written)
       ∙ take_at (sheet_bytes given) (drop n out) n size
 
   read_back : read_sheet (take n out') ≡ accepted (as_read given)

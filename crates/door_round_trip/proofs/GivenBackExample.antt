@@ -13,11 +13,10 @@ use Rattle.bits.specs.Little.{little, little_of, little_all}
 use Rattle.bits.proofs.BitsLaws.{Bytes-nil, Bytes-append}
 use Rattle.bits.proofs.LittleLaws.{Bytes-little_of}
 use Rattle.fields.specs.declared.sheet.Head.{Head}
-use Rattle.fields.specs.declared.fault.Verdict.TheVariants.{Accepted}
 use Rattle.fields.specs.Contents.{Contents}
 use Rattle.fields.specs.Format.{booked_from, booking_frames, job_frames, sheet_bytes}
 use Rattle.fields.specs.Tests.{booked_faults, hyper_edge_verdict}
-use Rattle.frame.specs.declared.written.Written.TheVariants.{Length}
+use Rattle.std.specs.Prelude.{Ok}
 use Rattle.frame.specs.Reading.{read_sheet}
 use Rattle.frame.specs.Writing.{jobs_verdict, opening_verdict, writer_verdict, write_sheet, output}
 use Rattle.frame.proofs.WriterLaws.{write_accepted}
@@ -54,7 +53,7 @@ allowed-bytes =
     Bytes-append (little_of 8 both_benches) (little_all 8 (bench_1 ∷ [])) (Bytes-little_of 8 both_benches)
     (Bytes-append (little_of 8 bench_1) [] (Bytes-little_of 8 bench_1) Bytes-nil)
 
-faultless : writer_verdict given ≡ Accepted
+faultless : writer_verdict given ≡ Ok tt
 unfolding writer_verdict opening_verdict jobs_verdict booked_faults hyper_edge_verdict booked_from is_set
     little little_of little_all entries_of entry_of numbers_of given_at given_numbers
 faultless = refl
@@ -69,7 +68,7 @@ unfolding entries_of little_of little_all
 two_jobs = refl
 
 module _ (out t : List ℕ) (room-for-sheet : 48 ≤ length out) (room-for-two : 576 ≤ length t) where
-  written : write_sheet given (length out) ≡ Length 48
+  written : write_sheet given (length out) ≡ Ok 48
   written = write_accepted given (length out) faultless ∙ rw (size, le-leb 48 (length out) room-for-sheet)
 
   abbrev after : List ℕ

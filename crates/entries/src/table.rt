@@ -1,13 +1,13 @@
 // Tables that are read: numbers of 8 bytes each, the least significant byte first.
-ghost use Rattle.std.specs.Prelude.{◌≡◌, ◌<◌, min, length};
+ghost use Rattle.std.specs.Prelude.{◌≡◌, min, length};
 ghost use Rattle.bits.specs.Little.{little};
-ghost use Rattle.tables.specs.Tables.{entries_of, entry_of, numbers_of, given_numbers, first_from, loaded_into};
+ghost use Rattle.tables.specs.Tables.{entries_of, entry_of, numbers_of, given_numbers, found_from, loaded_into};
 
 // How many entries a table has; a begun entry counts.
 pub fn entries(t: &[u8]) -> usize
     ensures { result ≡ entries_of t.now }
 {
-    (t.len() + 7) / 8
+    t.len().div_ceil(8)
 }
 
 // Entry n of a table; bytes that it lacks count as 0.
@@ -25,12 +25,9 @@ pub fn load(t: &[u8], into: &mut [u64]) -> usize
     ensures counted { result ≡ min (entries_of t.now) (length into.old) }
     ensures loaded { into.new ≡ loaded_into (numbers_of t.now) into.old }
 {
-    let all = entries(t);
-    let n = if all < into.len() { all } else { into.len() };
-    let mut i = 0;
-    while i < n {
+    let n = entries(t).min(into.len());
+    for i in 0..n {
         into[i] = entry(t, i);
-        i += 1;
     }
     n
 }
@@ -44,63 +41,28 @@ pub fn load_given(t: &[u8], missing: u64, into: &mut [u64]) -> usize
     let n = load(t, into);
     // The entry behind the whole ones: where there is one, it lacks bytes.
     let last = t.len() / 8;
-    if last < n {
-        if into[last] == 0 {
-            into[last] = missing;
-        }
+    if last < n && into[last] == 0 {
+        into[last] = missing;
     }
     n
 }
 
-// The first entry from number `from` on that is not 0, and the number of entries where there is none.
-pub fn first_from(t: &[u8], from: usize) -> usize
-    ensures { result ≡ first_from t.now from }
+// The first entry from number `from` on that is not 0.
+pub fn first_from(t: &[u8], from: usize) -> Option<usize>
+    ensures { result ≡ found_from t.now from }
 {
-    let all = entries(t);
-    let mut i = from;
-    while i < all {
-        if entry(t, i) != 0 {
-            return i;
-        }
-        i += 1;
-    }
-    all
-}
-
-fn wide(x: u8) -> u64
-    ensures { (result ≡ x) × (result < 256) }
-{
-    x as u64
+    (from..entries(t)).find(|&n| entry(t, n) != 0)
 }
 
 // The number of the first eight bytes; bytes that s lacks count as 0.
 fn little8(s: &[u8]) -> u64
     ensures { result ≡ little s.now 8 }
 {
+    let mut bytes = [0u8; 8];
     if s.len() < 8 {
-        return part8(s);
+        bytes[..s.len()].copy_from_slice(s);
+    } else {
+        bytes.copy_from_slice(&s[..8]);
     }
-    ((((((wide(s[7]) * 256 + wide(s[6])) * 256 + wide(s[5])) * 256 + wide(s[4])) * 256 + wide(s[3]))
-        * 256
-        + wide(s[2]))
-        * 256
-        + wide(s[1]))
-        * 256
-        + wide(s[0])
-}
-
-// The number of the first eight bytes, of which some are missing.
-fn part8(s: &[u8]) -> u64
-    ensures { result ≡ little s.now 8 }
-{
-    ((((((unpacking::byte(s, 7) * 256 + unpacking::byte(s, 6)) * 256 + unpacking::byte(s, 5)) * 256
-        + unpacking::byte(s, 4))
-        * 256
-        + unpacking::byte(s, 3))
-        * 256
-        + unpacking::byte(s, 2))
-        * 256
-        + unpacking::byte(s, 1))
-        * 256
-        + unpacking::byte(s, 0)
+    u64::from_le_bytes(bytes)
 }

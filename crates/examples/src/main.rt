@@ -4,7 +4,7 @@
 
 ghost use Rattle.std.specs.Prelude.{◌≡◌, ◌-◌};
 
-use frame::{Head, Written};
+use frame::Head;
 use std::io;
 
 fn main(rt: HostRuntime) -> io::Result<()> {
@@ -90,10 +90,7 @@ fn show_written(rt: &impl Print) -> io::Result<()> {
         &allowed,
         &mut out,
     );
-    let size = match written {
-        Written::Length(n) => n,
-        Written::Refusal(_) => 0,
-    };
+    let size = written.unwrap_or(0);
     print!(rt; "12 length written: {size}, expected 55\n12 head written:")?;
     show_bytes(rt, &out[..10])?;
     print!(rt; ", expected 11 00 07 04 10 38 00 00 01 20\n12 job 0 written:")?;

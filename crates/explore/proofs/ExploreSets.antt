@@ -55,17 +55,17 @@ module _ (b : Board) (n : Limits) (low high weight : List ℕ) (R : Rocks b n lo
         free = free;
       }
 
-  pub exploration_spent : {i turns all neutral active fresh wait : ℕ} {dir load joined level : List ℕ} → Exploration i all dir load joined level neutral active fresh wait
-      → turns ≡ plus_of n.benches 1 → turns ≤ i → Shown b (explore b) dir load joined level × ShowsActive b (explore b) active
-  exploration_spent E e over = exploring_spent b n low high weight R E.exploring e over E.sets
+  pub exploration_spent : {i all neutral active fresh wait : ℕ} {dir load joined level : List ℕ} → Exploration i all dir load joined level neutral active fresh wait
+      → n.benches < i → Shown b (explore b) dir load joined level × ShowsActive b (explore b) active
+  exploration_spent E over = exploring_spent b n low high weight R E.exploring over E.sets
 
-  module _ (idle : ℕ) {i turns all neutral active reach fresh wait opened : ℕ} {reaches dir load joined level joined' level' : List ℕ} (T : Reaches b reaches)
-      (E : Exploration i all dir load joined level neutral active fresh wait) (in-time : i < turns) (bound : turns ≡ plus_of n.benches 1)
+  module _ (idle : ℕ) {i all neutral active reach fresh wait opened : ℕ} {reaches dir load joined level joined' level' : List ℕ} (T : Reaches b reaches)
+      (E : Exploration i all dir load joined level neutral active fresh wait) (in-time : i ≤ n.benches)
       (ei : (v : ℕ) → is_set 64 idle v ≡ (is_set 64 all v && not (is_set 64 active v)))
       (e : (v : ℕ) → v < 64 → is_set 64 idle v ≡ true → is_set 64 reach v ≡ any 64 (λ u. is_set 64 fresh u && is_set 64 (get_or reaches u 0) v))
       (O : Raised n i all active reach load joined level opened joined' level') where
     pub exploration_ends : opened ≡ 0 → Shown b (explore b) dir load joined' level' × ShowsActive b (explore b) active
-    exploration_ends shut = exploring_ends b n low high weight R idle T E.exploring in-time bound ei e E.sets O shut
+    exploration_ends shut = exploring_ends b n low high weight R idle T E.exploring in-time ei e E.sets O shut
 
     module _ (few : rocks_of b ≤ 64) (neighbours : List ℕ) (touched cand fakes grown neutral' waiting rest asked left went fresh' active' : ℕ) (dir' load' joined'' level'' : List ℕ)
         (N : Neighbours n low high neighbours) (K : Touches n low high touched)
@@ -85,33 +85,30 @@ module _ (b : Board) (n : Limits) (low high weight : List ℕ) (R : Rocks b n lo
         (ew : (v : ℕ) → is_set 64 went v ≡ (is_set 64 asked v && not (is_set 64 left v)))
         (ef : (v : ℕ) → is_set 64 fresh' v ≡ (is_set 64 opened v || is_set 64 went v))
         (en : (v : ℕ) → is_set 64 active' v ≡ (is_set 64 active v || is_set 64 fresh' v)) where
-      here_time : i ≤ n.benches
-      here_time = omega (arith, bound, in-time)
-
       board_time : i ≤ b.benches
-      board_time = omega (arith, here_time, R.benches)
+      board_time = omega (arith, in-time, R.benches)
 
       built : (dirs : Directions) (xs : List ℕ) → Seen b dirs dir load → Rounds b xs joined'
           → Built b (construct b.jobs b i dirs xs) dir' load' joined'' × Grew n joined' joined'' grown × Nowhere n low high (joins_at n.benches low high dir' joined'')
           × Nowhere n low high (fake_at n.benches dir' joined'') × Nowhere n low high (forces_at n.bound weight dir' load') × Neutral n dir' neutral'
       built dirs xs S X =
           build dirs xs board_time E.free
-          (joins_covered n low high weight (few_benches b n low high weight R) (rock-ends b n low high weight R) here_time E.sets O neighbours touched cand (few-rocks b n low high weight R few) N K ec)
-          (fakes_covered n low high weight (few_benches b n low high weight R) (rock-ends b n low high weight R) here_time E.sets O touched fakes (few-rocks b n low high weight R few) K ek)
+          (joins_covered n low high weight (few_benches b n low high weight R) (rock-ends b n low high weight R) in-time E.sets O neighbours touched cand (few-rocks b n low high weight R few) N K ec)
+          (fakes_covered n low high weight (few_benches b n low high weight R) (rock-ends b n low high weight R) in-time E.sets O touched fakes (few-rocks b n low high weight R few) K ek)
           E.sets.forces S X
 
       pub exploration_goes_on : opened ≢ 0 → opened < 2 ^ 64 → length joined'' ≡ length joined' → length level'' ≡ length level'
           → Exploration (i + 1) all dir' load' joined'' level'' neutral' active' fresh' left
       exploration_goes_on some fits lj ll =
           let now-x = E.exploring.now_x in
-          let G = built now-x.dir (opened_joined b i now-x) E.exploring.shown.seen (exploring_joined b n low high weight R idle T E.exploring in-time bound ei e E.sets O) in
-          let W = waits_asked n low high weight (few_benches b n low high weight R) (rock-ends b n low high weight R) here_time E.sets O grown waiting rest asked joined'' G.1 eg er ea in
+          let G = built now-x.dir (opened_joined b i now-x) E.exploring.shown.seen (exploring_joined b n low high weight R idle T E.exploring in-time ei e E.sets O) in
+          let W = waits_asked n low high weight (few_benches b n low high weight R) (rock-ends b n low high weight R) in-time E.sets O grown waiting rest asked joined'' G.1 eg er ea in
           record {
             exploring =
-                exploring_goes_on b n low high weight R idle T E.exploring in-time bound ei e E.sets O (positive opened some) fits (λ dirs xs S X. (built dirs xs S X).0)
-                (λ dirs xs ys D X Y. act dirs xs ys here_time W D X Y);
+                exploring_goes_on b n low high weight R idle T E.exploring in-time ei e E.sets O (positive opened some) fits (λ dirs xs S X. (built dirs xs S X).0)
+                (λ dirs xs ys D X Y. act dirs xs ys in-time W D X Y);
             sets =
-                sets_next n low high weight (few_benches b n low high weight R) (rock-ends b n low high weight R) here_time E.sets O grown waiting rest asked joined'' G.1 eg er ea
+                sets_next n low high weight (few_benches b n low high weight R) (rock-ends b n low high weight R) in-time E.sets O grown waiting rest asked joined'' G.1 eg er ea
                 left went fresh' active' dir' load' level'' step ew ef en lj ll G.2 G.3 G.4;
             free = G.5;
           }

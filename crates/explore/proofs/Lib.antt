@@ -1,5 +1,4 @@
 pub mod BlankRun
-pub mod ExploreLaws
 pub mod ExploreSets
 pub mod OpenRun
 pub mod ReachRun

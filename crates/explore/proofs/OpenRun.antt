@@ -49,17 +49,6 @@ module _ (m i all : ℕ) (t₀ : List ℕ) where
     pub waiting : (v : ℕ) → v < 64 → is_set 64 left v ≡ true → get_or t v 0 ≡ get_or t₀ v 0
     pub outside : (v : ℕ) → v < 64 → is_set 64 all v ≡ false → get_or t v 0 ≡ get_or t₀ v 0
 
-  pub entering_starts : Entering all t₀
-  entering_starts =
-      record {
-        small = omega arith;
-        inside = λ k h p. p;
-        long = refl;
-        entered = λ v l h p q. clash p q;
-        waiting = λ v h p. refl;
-        outside = λ v h p. refl;
-      }
-
   pub entering_goes_on : (left u : ℕ) (t : List ℕ) → Entering left t → u ≡ lowest_of left → u < 64
       → (left' : ℕ) → ((k : ℕ) → k < 64 → is_set 64 left' k ≡ (is_set 64 left k && not (eqb k u))) → left' < left
       → {t' : List ℕ} → t' ≡ cond (within_at m t u) t (set t u i) → Entering left' t'

@@ -1,7 +1,7 @@
 -- The sets of the benches that the pebbles on each bench allow, filled job by job.
 --     lies                 pebble j lies on u and allows v
 --     Filled               what the loop keeps: the pebbles among the jobs passed are in the sets
---     filled_none, filled_next, filled_all     how it starts, goes on and ends
+--     filled_none, filled_next     how it starts and goes on
 use Prim.Native.Nat.{ℕ, suc, ◌+◌, ◌≤◌, ◌<◌}
 use mathlib.Core.Path.{◌≡◌, sym, ap, ap₂, ◌∙◌}
 use mathlib.Core.Bool.{Bool, true, false, cond, ◌&&◌, ◌||◌}
@@ -21,7 +21,7 @@ use Rattle.bits.specs.Bits.{is_set}
 use Rattle.bits.proofs.SetBits.{is_set-zero}
 use Rattle.algorithm.specs.Board.{Board}
 use Rattle.rocks.specs.BoardArrays.{Pebbles}
-use Rattle.explore.specs.ExploreArrays.{added_at, Reaches}
+use Rattle.explore.specs.ExploreArrays.{added_at}
 use Rattle.sets.proofs.SetLaws.{or-is_set}
 
 abbrev pub lies : Board → ℕ → ℕ → ℕ → Bool
@@ -79,6 +79,3 @@ module _ (b : Board) (pebble : List Bool) (allowed place reaches : List ℕ) (j 
 
   pub filled_next : {reaches' : List ℕ} → reaches' ≡ added_at pebble allowed place reaches j → Filled b (j + 1) reaches'
   filled_next e = rw (e, add-one) (filled_added (get_or pebble j false) (P.are j h))
-
-pub filled_all : (b : Board) (k : ℕ) {reaches : List ℕ} → Filled b k reaches → k ≡ b.jobs → Reaches b reaches
-filled_all b k F e = record { entries = λ u v hu hv. F.entries u v hu hv ∙ ap (λ (m : ℕ). any m (lies b u v)) e }

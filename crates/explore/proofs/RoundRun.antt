@@ -20,7 +20,7 @@ use Rattle.sums.proofs.TableLaws.{length-table, get_or-table}
 use Rattle.bits.specs.Bits.{is_set}
 use Rattle.bits.proofs.SetBits.{is_set-zero, any-is_set}
 use Rattle.rocks.specs.declared.rocks.Limits.{Limits}
-use Rattle.algorithm.specs.Board.{Board, Directions, load, overloaded}
+use Rattle.algorithm.specs.Board.{Board, Directions, overloaded}
 use Rattle.algorithm.specs.Properties.{SoundBoard}
 use Rattle.algorithm.specs.Explore.{Explored, never, round_of, in_conflict, activated, construct, activate, in_reach, type_a, open_round, rounds, unexplored, explore, opened_levels, opened_joined}
 use Rattle.algorithm.specs.Forced.{forced_orientations}
@@ -32,7 +32,6 @@ use Rattle.rocks.specs.Shown.{Shown, ShowsActive}
 use Rattle.algorithm.proofs.BoardLaws.{pointed_start, rock_load-none}
 use Rattle.rocks.proofs.ScanLaws.{rock_below}
 use Rattle.arrays.proofs.NumberLaws.{plus_one}
-use Rattle.explore.proofs.ExploreLaws.{cond_no}
 use Rattle.rocks.proofs.BoardLaws.{within_same}
 use Rattle.explore.proofs.RoundSets.{Raised, Sets}
 use Rattle.explore.proofs.ReachRun.{lies}
@@ -82,7 +81,7 @@ module _ (b : Board) (sound : SoundBoard b) (few : b.benches ≤ 64) (i : ℕ) (
 
 type_a_lem : (i : ℕ) (b : Board) (x : Explored) (k : ℕ) → type_a b i x k ≡ cond (eqb i 0) (overloaded b x.dir k) (not (activated b x k) && in_reach b i x.level k)
 type_a_lem zero b x k = refl
-type_a_lem (suc i) b x k = cond_no (overloaded b x.dir k) refl (ne_eqb (suc i) 0 (λ e. omega arith)) refl
+type_a_lem (suc i) b x k = rw (ne_eqb (suc i) 0 (λ e. omega arith)) refl
 
 and_swap : (a b : Bool) → (a && b) ≡ (b && a)
 and_swap true true = refl
@@ -281,17 +280,17 @@ module _ (b : Board) (n : Limits) (low high weight : List ℕ) (R : Rocks b n lo
         ∙ sym (and-false_left (activated b x v) (le-ltb v b.benches l))
   ]
 
-  pub exploring_spent : {i turns : ℕ} {dir loads joined level : List ℕ} → Exploring i dir loads joined level → turns ≡ plus_of n.benches 1 → turns ≤ i
+  pub exploring_spent : {i : ℕ} {dir loads joined level : List ℕ} → Exploring i dir loads joined level → n.benches < i
       → {all active fresh wait : ℕ} → Sets n low high weight i all dir loads joined level active fresh wait
       → Shown b (explore b) dir loads joined level × ShowsActive b (explore b) active
-  exploring_spent {i} {turns} {dir} {loads} {joined} {level} E e over {active = active} S =
-      let none : E.left ≡ 0 = omega (arith, E.in_all, e, R.benches, R.few_benches) in
+  exploring_spent {i} {dir} {loads} {joined} {level} E over {active = active} S =
+      let none : E.left ≡ 0 = omega (arith, E.in_all, R.benches) in
       subst (λ (x : Explored). Shown b x dir loads joined level × ShowsActive b x active)
       (sym (E.same ∙ ap (λ (k : ℕ). rounds k b i E.now_x) none ∙ rounds-none b i E.now_x))
       (E.shown, active_shown E.now_x E.shown.level S)
 
-  module _ (idle : ℕ) {i turns all active reach fresh wait opened : ℕ} {reaches dir loads joined level joined' level' : List ℕ} (T : Reaches b reaches)
-      (E : Exploring i dir loads joined level) (in-time : i < turns) (bound : turns ≡ plus_of n.benches 1)
+  module _ (idle : ℕ) {i all active reach fresh wait opened : ℕ} {reaches dir loads joined level joined' level' : List ℕ} (T : Reaches b reaches)
+      (E : Exploring i dir loads joined level) (in-time : i ≤ n.benches)
       (ei : (v : ℕ) → is_set 64 idle v ≡ (is_set 64 all v && not (is_set 64 active v)))
       (e : (v : ℕ) → v < 64 → is_set 64 idle v ≡ true → is_set 64 reach v ≡ any 64 (λ u. is_set 64 fresh u && is_set 64 (get_or reaches u 0) v))
       (S : Sets n low high weight i all dir loads joined level active fresh wait) (O : Raised n i all active reach loads joined level opened joined' level') where
@@ -301,7 +300,7 @@ module _ (b : Board) (n : Limits) (low high weight : List ℕ) (R : Rocks b n lo
         E.shown.seen.loaded E.shown.joined E.shown.level
         (λ v h out.
         let small : v < 64 = omega (arith, R.few_benches) in
-        reach_shows b R.sound R.few_benches i (omega (arith, bound, R.benches)) reaches E.now_x.level level T E.shown.level reach fresh
+        reach_shows b R.sound R.few_benches i (omega (arith, R.benches)) reaches E.now_x.level level T E.shown.level reach fresh
         (λ u h. S.freshly u h ∙ ap (λ (m : ℕ). ltb u m && eqb (plus_of (get_or level u 0) 1) i) R.benches) v h
         (e v small (ei v ∙ and_intro (S.alls v small ∙ lt-ltb v n.benches (omega (arith, R.benches))) (not_intro_true out))))
 
@@ -322,7 +321,7 @@ module _ (b : Board) (n : Limits) (low high weight : List ℕ) (R : Rocks b n lo
         → Exploring (i + 1) dir' loads' joined'' level''
     exploring_goes_on {dir'} {loads'} {joined''} {level''} some fits build act =
         let x = E.now_x in
-        let one : E.left ≡ suc (E.left - 1) = omega (arith, E.in_all, bound, R.benches) in
+        let one : E.left ≡ suc (E.left - 1) = omega (arith, E.in_all, R.benches) in
         let B = build x.dir (opened_joined b i x) E.shown.seen opened_now.joined in
         let c = construct b.jobs b i x.dir (opened_joined b i x) in
         rw add-one (

@@ -1,6 +1,6 @@
 -- What the program's arrays hold in the course of an exploration.
 --     added_at                  the sets after the pebble j added the benches that it allows
---     opens_at                   bench v opens round i: all is the set of the benches, active that of the activated ones
+--     opens_at                  bench v opens round i: all is the set of the benches, active that of the activated ones
 --     Benchwise                 tables of an exploration: each has as many entries as there can be benches
 --     Blank                     the tables before an exploration
 --     Begun                     how a round begins

@@ -6,9 +6,9 @@ use rocks::Limits;
 
 // No rock is directed, the loads are the own loads, and no bench is in the conflict set or activated, whatever was
 // there.
-pub fn clear<'a>(
+pub fn clear(
     n: Limits,
-    own: &'a [usize],
+    own: &[usize],
     dir: &mut [usize],
     load: &mut [usize],
     joined: &mut [usize],
@@ -18,9 +18,9 @@ pub fn clear<'a>(
         → Benchwise dir.old load.old joined.old level.old
         → Blank n own.now dir.new load.new joined.new level.new }
 {
-    let never = arrays::plus(n.benches, 1);
+    let never = n.benches.saturating_add(1);
     arrays::fill(dir, 0);
-    arrays::copy(own, load);
+    arrays::to_numbers(load.len(), own, load);
     arrays::fill(joined, never);
     arrays::fill(level, never);
 }

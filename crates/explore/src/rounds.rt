@@ -9,20 +9,15 @@ ghost use Rattle.explore.specs.ExploreArrays.{added_at, opens_at, Reaches, Blank
 ghost use Rattle.rock_graph.specs.Graph.{RockGraph};
 ghost use Rattle.rocks.specs.Shown.{Shown, ShowsActive};
 
+use rock_graph::Graph;
 use rocks::Limits;
 
 // Job j, where it is a pebble, adds the benches that it allows to the set of the bench on which it lies.
-fn add_pebble<'a>(
-    pebble: &'a [bool],
-    allowed: &'a [usize],
-    place: &'a [usize],
-    reach: &mut [usize],
-    j: usize,
-)
+fn add_pebble(pebble: &[bool], allowed: &[usize], place: &[usize], reach: &mut [usize], j: usize)
     ensures { reach.new
         ≡ added_at pebble.now allowed.now place.now reach.old j }
 {
-    if arrays::holds(pebble, j) {
+    if arrays::at(pebble, j) {
         let u = arrays::at(place, j);
         let set = arrays::at(reach, u) | arrays::at(allowed, j);
         arrays::put(reach, u, set);
@@ -30,21 +25,19 @@ fn add_pebble<'a>(
 }
 
 // Entry u: the benches that a pebble on u allows, as a set.
-pub fn fill_reach<'a>(
+pub fn fill_reach(
     n: Limits,
-    pebble: &'a [bool],
-    allowed: &'a [usize],
-    place: &'a [usize],
+    pebble: &[bool],
+    allowed: &[usize],
+    place: &[usize],
     reach: &mut [usize],
 )
     ensures { (b : Board) → n.jobs ≡ b.jobs → b.benches ≤ 64
         → Pebbles b pebble.now allowed.now place.now
         → reach.old ≡ replicate 64 0 → Reaches b reach.new }
 {
-    let mut j = 0;
-    while j < n.jobs {
+    for j in 0..n.jobs {
         add_pebble(pebble, allowed, place, reach, j);
-        j += 1;
     }
 }
 
@@ -54,29 +47,21 @@ fn overloaded(n: Limits, load: &[usize]) -> usize
         → is_set 64 result v ≡ (ltb v n.benches && ltb n.bound (get_or load.now v 0)) }
 {
     let mut over = 0;
-    let mut v = 0;
-    while v < n.benches {
+    for v in 0..n.benches {
         over = sets::add(over, v, n.bound < arrays::at(load, v));
-        v += 1;
     }
     over
 }
 
 // The benches that open round i.
-fn opening<'a>(
-    n: Limits,
-    i: usize,
-    all: usize,
-    active: usize,
-    reached: usize,
-    load: &'a [usize],
-) -> usize
+fn opening(n: Limits, i: usize, all: usize, active: usize, reached: usize, load: &[usize]) -> usize
     ensures { (v : ℕ) → v < 64 → is_set 64 result v ≡ opens_at n i all active reached load.now v }
 {
     if i == 0 {
-        return overloaded(n, load);
+        overloaded(n, load)
+    } else {
+        sets::common(all, sets::less(reached, active))
     }
-    sets::common(all, sets::less(reached, active))
 }
 
 // Bench v joins the conflict set in round i, unless it is in it.
@@ -108,13 +93,13 @@ fn enter_all(benches: usize, i: usize, set: usize, joined: &mut [usize], level: 
 }
 
 // The levels and the conflict set with which open_round b i x begins; the benches that open it.
-fn open_round<'a>(
+fn open_round(
     n: Limits,
     i: usize,
     all: usize,
     active: usize,
     reached: usize,
-    load: &'a [usize],
+    load: &[usize],
     joined: &mut [usize],
     level: &mut [usize],
 ) -> usize
@@ -134,11 +119,11 @@ fn open_round<'a>(
 // explore b, where dir is 0 everywhere, load is own, and joined and level are never everywhere.
 // Kept in the rounds: the neutral rocks, the activated benches, those of the round before, and those of the conflict
 // set that may be activated yet.
-pub fn explore<'a>(
+pub fn explore(
     n: Limits,
-    graph: &'a [usize],
-    own: &'a [usize],
-    reach: &'a [usize],
+    graph: &Graph,
+    own: &[usize],
+    reach: &[usize],
     dir: &mut [usize],
     load: &mut [usize],
     joined: &mut [usize],
@@ -150,23 +135,21 @@ pub fn explore<'a>(
         → Shown b (explored b) dir.new load.new joined.new level.new
         × ShowsActive b (explored b) result }
 {
-    let all = rock_graph::every_bench(graph);
-    let touched = rock_graph::touched(graph);
-    let f = forced::force(n, graph, touched, rock_graph::every_rock(graph), dir, load);
+    let all = graph.every_bench;
+    let touched = graph.touched;
+    let f = forced::force(n, graph, touched, graph.every_rock, dir, load);
     let mut neutral = f.neutral;
-    let turns = arrays::plus(n.benches, 1);
     let mut active = 0;
     let mut fresh = 0;
     let mut wait = 0;
-    let mut i = 0;
-    while i < turns {
+    for i in 0..=n.benches {
         let rest = sets::less(all, active);
         let reached = sets::reach_of(reach, fresh, rest);
         let opened = open_round(n, i, all, active, reached, load, joined, level);
         if opened == 0 {
-            return active;
+            break;
         }
-        let cand = rock_graph::neighbours_of(graph, opened, touched);
+        let cand = graph.neighbours_of(opened, touched);
         let grown = conflict::construct(
             n,
             i,
@@ -183,7 +166,6 @@ pub fn explore<'a>(
         wait = activation::activate(n, i, graph, asked, own, dir, joined, level);
         fresh = sets::either(opened, sets::less(asked, wait));
         active = sets::either(active, fresh);
-        i += 1;
     }
     active
 }

@@ -25,29 +25,21 @@
 mod lines;
 mod steps;
 
-ghost use Rattle.std.specs.Prelude.{◌≡◌, ℕ, List, length, take};
-ghost use Rattle.frame.specs.Reading.{read_sheet, stored};
-
-use frame::Reading;
+use frame::Fault;
 use std::io;
 
-// One byte more than a sheet may have, so that fault 1 can be seen.
-const SHEET_ROOM: usize = 65537;
-
 fn main(rt: HostRuntime) -> io::Result<()> {
-    let mut buffer = [0u8; SHEET_ROOM];
-    let n = input::read_full(&mut rt.stdin(), &mut buffer)?;
-    steps::see(&rt, input_read(n, &buffer))
+    match input::read_sheet(&mut rt.stdin())? {
+        Err(f) => see_fault(&rt, f),
+        Ok(sheet) => steps::see_sheet(&rt, sheet),
+    }
 }
 
-// What the whole input s is read as, if the buffer's first n bytes are those of s, as far as the buffer has room.
-fn input_read(n: usize, buffer: &[u8; SHEET_ROOM]) -> Reading
-    ensures { (s : List ℕ) → take n buffer.now ≡ take (length buffer.now) s
-        → result ≡ stored (read_sheet s) }
-{
-    let whole: &[u8] = buffer;
-    if n < whole.len() {
-        return reading::read(&whole[..n]);
-    }
-    reading::read(whole)
+fn see_fault(rt: &impl Print, f: Fault) -> io::Result<()> {
+    lines::line(
+        rt,
+        "fault",
+        &[Some(f.number() as usize), Some(f.place())],
+        0,
+    )
 }

@@ -1,142 +1,130 @@
 // The steps of the run, as the planner takes them, and its last exploration once more with the tables kept.
 use crate::lines;
-use fields::Head;
-use frame::{Reading, Sheet, Verdict};
-use placements::Least;
+use frame::{Head, Sheet};
 use placing::Bay;
-use rocks::Limits;
+use rock_graph::Graph;
+use rocks::{Balance, Limits};
 use run::State;
 use std::io;
 
-// A fault, or the sheet.
-pub fn see(rt: &impl Print, reading: Reading) -> io::Result<()> {
-    let verdict = reading.verdict;
-    match verdict {
-        Verdict::Refused(f) => lines::line(rt, "fault", &[f.number() as usize, f.place()], 0),
-        Verdict::Accepted => {
-            let sheet = reading.sheet;
-            see_sheet(rt, sheet)
-        }
-    }
+// The day of a sheet, in tables as wide as the run has them.
+#[derive(Clone, Copy)]
+pub struct Day<'a> {
+    pub head: Head,
+    pub jobs: usize,
+    pub minutes: &'a [usize],
+    pub allowed: &'a [usize],
+    pub booked: &'a [usize],
 }
 
-// The fields of a sheet, in tables as wide as the run has them: a long job, or the day without one.
-fn see_sheet(rt: &impl Print, s: Sheet) -> io::Result<()> {
-    let h = s.head;
+// Of each rock its job, and its lower and its higher bench.
+#[derive(Clone, Copy)]
+pub struct Rocks<'a> {
+    pub job: &'a [usize],
+    pub low: &'a [usize],
+    pub high: &'a [usize],
+}
+
+// A sheet: a long job, or the day without one.
+pub fn see_sheet(rt: &impl Print, s: Sheet) -> io::Result<()> {
+    let head = s.head;
     let jobs = s.count;
-    let benches = h.benches as usize;
     let mut minutes = [0usize; 512];
-    arrays::narrow(jobs, &s.minutes, &mut minutes);
-    let long = start::long_job(jobs, h.target as usize, &minutes);
-    if long < jobs {
-        return lines::line(rt, "long", &[long], 0);
+    arrays::to_numbers(jobs, &s.minutes, &mut minutes);
+    if let Some(long) = start::long_job(jobs, head.target as usize, &minutes) {
+        return lines::line(rt, "long", &[Some(long)], 0);
     }
     let mut allowed = [0usize; 512];
-    arrays::narrow(jobs, &s.allowed, &mut allowed);
+    arrays::to_numbers(jobs, &s.allowed, &mut allowed);
     let mut booked = [0usize; 64];
-    arrays::narrow(benches, &s.booked, &mut booked);
-    see_short(rt, h, jobs, &minutes, &allowed, &booked)
+    arrays::to_numbers(head.benches as usize, &s.booked, &mut booked);
+    let d = Day {
+        head,
+        jobs,
+        minutes: &minutes,
+        allowed: &allowed,
+        booked: &booked,
+    };
+    see_short(rt, d)
 }
 
 // A day without a long job: a crowded component, or the run.
-fn see_short(
-    rt: &impl Print,
-    h: Head,
-    jobs: usize,
-    minutes: &[usize],
-    allowed: &[usize],
-    booked: &[usize],
-) -> io::Result<()> {
-    let p = h.p as usize;
-    let q = h.q as usize;
-    let target = h.target as usize;
+fn see_short(rt: &impl Print, d: Day<'_>) -> io::Result<()> {
+    let benches = d.head.benches as usize;
+    let p = d.head.p as usize;
+    let q = d.head.q as usize;
+    let target = d.head.target as usize;
     let mut rock = [false; 512];
-    start::mark_rocks(jobs, p, q, target, minutes, allowed, &mut rock);
+    start::mark_rocks(d.jobs, p, q, target, d.minutes, d.allowed, &mut rock);
     let mut job = [0usize; 512];
     let mut low = [0usize; 512];
     let mut high = [0usize; 512];
-    let rocks = start::gather(jobs, &rock, allowed, &mut job, &mut low, &mut high);
-    let mut n = start::limits(h.benches as usize, jobs, p, q, target);
-    n.rocks = rocks;
-    lines::line(rt, "sheet", &[n.benches, p, q, target, jobs], 0)?;
-    let mut balance = [rocks::UNKNOWN; 64];
+    let mut n = start::limits(benches, d.jobs, p, q, target);
+    n.rocks = start::gather(d.jobs, &rock, d.allowed, &mut job, &mut low, &mut high);
+    let fields = [Some(benches), Some(p), Some(q), Some(target), Some(d.jobs)];
+    lines::line(rt, "sheet", &fields, 0)?;
+    let mut balance = [Balance::Unknown; 64];
     rocks::balances(n, &low, &high, &mut balance);
-    let v = rocks::crowded_bench(n.benches, &balance);
-    if v < n.benches {
-        return see_crowded(rt, n, minutes, &job, &low, &high, v);
+    let rocks = Rocks {
+        job: &job,
+        low: &low,
+        high: &high,
+    };
+    match rocks::crowded_bench(benches, &balance) {
+        Some(v) => see_crowded(rt, d, n, rocks, v),
+        None => see_run(rt, d, n, rocks, rock, &balance),
     }
-    see_run(
-        rt, h, n, rock, minutes, allowed, booked, &job, &low, &high, &balance,
-    )
 }
 
 // The component of bench v, with its rocks.
 fn see_crowded(
     rt: &impl Print,
+    d: Day<'_>,
     n: Limits,
-    minutes: &[usize],
-    job: &[usize],
-    low: &[usize],
-    high: &[usize],
+    rocks: Rocks<'_>,
     v: usize,
 ) -> io::Result<()> {
-    let set = rocks::component(n, low, high, v);
-    let dir = [0usize; 64];
-    lines::heavies(rt, n.rocks, minutes, job, low, high, &dir, set)?;
-    lines::line(rt, "none", &[0], set)
+    let set = rocks::component(n, rocks.low, rocks.high, v);
+    lines::heavies(rt, n.rocks, d.minutes, rocks, &[0usize; 64], set)?;
+    lines::line(rt, "none", &[Some(0)], set)
 }
 
 // The first state of the run, with its tables.
 fn see_run(
     rt: &impl Print,
-    h: Head,
+    d: Day<'_>,
     n: Limits,
+    rocks: Rocks<'_>,
     rock: [bool; 512],
-    minutes: &[usize],
-    allowed: &[usize],
-    booked: &[usize],
-    job: &[usize],
-    low: &[usize],
-    high: &[usize],
-    balance: &[usize],
+    balance: &[Balance],
 ) -> io::Result<()> {
-    let q = h.q as usize;
+    let p = d.head.p as usize;
+    let q = d.head.q as usize;
+    let target = d.head.target as usize;
     let mut own = [0usize; 64];
-    start::weigh(n.benches, q, booked, &mut own);
+    start::weigh(n.benches, q, d.booked, &mut own);
     let mut amount = [0usize; 512];
-    start::weigh(n.jobs, q, minutes, &mut amount);
+    start::weigh(d.jobs, q, d.minutes, &mut amount);
     let mut pebble = [false; 512];
-    start::mark_pebbles(
-        n.jobs,
-        h.p as usize,
-        q,
-        h.target as usize,
-        minutes,
-        allowed,
-        &mut pebble,
-    );
+    start::mark_pebbles(d.jobs, p, q, target, d.minutes, d.allowed, &mut pebble);
     let mut left = rock;
     let mut place = [0u8; 512];
     let mut reach = [0usize; 64];
     let first = State::start(
-        n, &pebble, allowed, &amount, job, low, high, balance, &mut left, &mut place, &mut own,
-        &mut reach,
+        n, &pebble, d.allowed, &amount, rocks.job, rocks.low, rocks.high, balance, &mut left,
+        &mut place, &mut own, &mut reach,
     );
     see_turns(
-        rt, h, n, first, minutes, allowed, booked, &amount, &pebble, &left, &mut place, &mut own,
-        &mut reach,
+        rt, d, n, first, &amount, &pebble, &left, &mut place, &mut own, &mut reach,
     )
 }
 
 // The turns of the run from its first state.
 fn see_turns(
     rt: &impl Print,
-    h: Head,
+    d: Day<'_>,
     n: Limits,
     first: State,
-    minutes: &[usize],
-    allowed: &[usize],
-    booked: &[usize],
     amount: &[usize],
     pebble: &[bool],
     left: &[bool],
@@ -147,52 +135,38 @@ fn see_turns(
     let mut job = [0usize; 64];
     let mut low = [0usize; 64];
     let mut high = [0usize; 64];
-    let rocks = start::gather(n.jobs, left, allowed, &mut job, &mut low, &mut high);
-    let mut weight = [0usize; 64];
-    run::pick(rocks, &job, amount, &mut weight);
     let mut m = n;
-    m.rocks = rocks;
-    let budget = arrays::times(n.benches, arrays::count(n.jobs, pebble));
+    m.rocks = start::gather(d.jobs, left, d.allowed, &mut job, &mut low, &mut high);
+    let mut weight = [0usize; 64];
+    run::pick(m.rocks, &job, amount, &mut weight);
+    let budget = arrays::times(n.benches, arrays::count(d.jobs, pebble));
     let mut dir = [0usize; 64];
     let last = turns::turns(
-        first, budget, m, &low, &high, &weight, amount, pebble, allowed, place, own, reach,
+        first, budget, m, &low, &high, &weight, amount, pebble, d.allowed, place, own, reach,
         &mut dir,
     );
-    see_last(
-        rt,
-        last,
-        m,
-        h.q as usize,
-        minutes,
-        booked,
-        &job,
-        &low,
-        &high,
-        &weight,
-        own,
-        reach,
-    )?;
-    lines::others(rt, n.jobs, minutes, allowed, left, pebble, place)?;
-    see_answer(rt, last, h, n.jobs, minutes, allowed)
+    let rocks = Rocks {
+        job: &job,
+        low: &low,
+        high: &high,
+    };
+    see_last(rt, d, last, m, rocks, &weight, own, reach)?;
+    lines::others(rt, d, left, pebble, place)?;
+    see_answer(rt, d, last)
 }
 
 // The last exploration once more, with its tables. No move came after it, so what it reads is as it was.
 fn see_last(
     rt: &impl Print,
+    d: Day<'_>,
     last: State,
     n: Limits,
-    q: usize,
-    minutes: &[usize],
-    booked: &[usize],
-    job: &[usize],
-    low: &[usize],
-    high: &[usize],
+    rocks: Rocks<'_>,
     weight: &[usize],
     own: &[usize],
     reach: &[usize],
 ) -> io::Result<()> {
-    let mut graph = [0usize; 323];
-    rock_graph::fill_graph(n, low, high, weight, &mut graph);
+    let graph = Graph::new(n, rocks.low, rocks.high, weight);
     let mut dir = [0usize; 64];
     let mut load = [0usize; 64];
     let mut joined = [0usize; 64];
@@ -207,38 +181,23 @@ fn see_last(
         &mut joined,
         &mut level,
     );
-    lines::benches(rt, n, q, booked, own, &load, &joined, &level)?;
-    let all = sets::everywhere(64);
-    lines::heavies(rt, n.rocks, minutes, job, low, high, &dir, all)
+    lines::benches(rt, d, n, own, &load, &joined, &level)?;
+    lines::heavies(rt, n.rocks, d.minutes, rocks, &dir, sets::everywhere(64))
 }
 
 // What the last state comes to: a plan, or none with the activated set and what the heavy jobs weigh inside it.
-fn see_answer(
-    rt: &impl Print,
-    last: State,
-    h: Head,
-    jobs: usize,
-    minutes: &[usize],
-    allowed: &[usize],
-) -> io::Result<()> {
+fn see_answer(rt: &impl Print, d: Day<'_>, last: State) -> io::Result<()> {
     if last.active == 0 {
-        return lines::line(rt, "plan", &[last.moves], 0);
+        return lines::line(rt, "plan", &[Some(last.moves)], 0);
     }
     let bay = Bay {
-        benches: h.benches as usize,
-        p: h.p as usize,
-        q: h.q as usize,
-        target: h.target as usize,
+        benches: d.head.benches as usize,
+        p: d.head.p as usize,
+        q: d.head.q as usize,
+        target: d.head.target as usize,
         set: last.active,
     };
-    let least = placing::least_heavy(bay, jobs, minutes, allowed);
-    lines::line(rt, "least", &[weight_of(least)], 0)?;
-    lines::line(rt, "none", &[last.moves], last.active)
-}
-
-fn weight_of(least: Least) -> usize {
-    match least {
-        Least::NoPlacement => lines::NONE,
-        Least::Weight(w) => w,
-    }
+    let least = placing::least_heavy(bay, d.jobs, d.minutes, d.allowed);
+    lines::line(rt, "least", &[least], 0)?;
+    lines::line(rt, "none", &[Some(last.moves)], last.active)
 }

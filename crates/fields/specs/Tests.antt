@@ -1,5 +1,6 @@
 -- The tests of faults 7 to 12, 14 and 15, the same for the reader and the writer (document 01, "Faults, in checking
 -- order"; request S-1).
+--     Verdict                 no fault, or the one that is found
 --     first_fault tests       the fault of the first test that holds
 --     bench_count_fault h     7        share_fault h    8
 --     job_count_fault n       9        minutes_fault j  10      allowed_fault m j   11
@@ -17,7 +18,8 @@
 --     LowestHeavyHyperEdge h js n   n is the lowest such job
 --     hyper_edge_verdict h js  12: the lowest such job, if there is one
 -- Tests of a width can hold for numbers handed to the writer only: a field that was read fits its width.
-use Rattle.std.specs.Prelude.{ℕ, ◌*◌, ◌^◌, ◌<◌, ◌≡◌, Bool, true, false, cond, not, ◌&&◌, ◌||◌, List, [], ◌∷◌, ◌++◌, length, get_or, eqb, leb, ltb}
+use Rattle.std.specs.Prelude.{ℕ, ◌*◌, ◌^◌, ◌<◌, ◌≡◌, Bool, true, false, cond, not, ◌&&◌, ◌||◌, List, [], ◌∷◌, ◌++◌}
+use Rattle.std.specs.Prelude.{length, get_or, eqb, leb, ltb, Result, Ok, Err}
 use Rattle.sums.specs.Sum.{count, largest}
 use Rattle.sums.specs.Search.{any, least}
 use Rattle.sums.specs.Table.{table}
@@ -27,8 +29,6 @@ use Rattle.fields.specs.declared.sheet.Job.{Job}
 use Rattle.fields.specs.declared.fault.Fault.{Fault}
 use Rattle.fields.specs.declared.fault.Fault.TheVariants.{BenchCount, Share, JobCount, Minutes, Allowed}
 use Rattle.fields.specs.declared.fault.Fault.TheVariants.{HeavyHyperEdge, BookedBench, BookedTwice}
-use Rattle.fields.specs.declared.fault.Verdict.{Verdict}
-use Rattle.fields.specs.declared.fault.Verdict.TheVariants.{Accepted, Refused}
 use Rattle.fields.specs.Format.{allows}
 
 -- A test and the fault that it stands for.
@@ -36,9 +36,13 @@ pub record Test : Type 0 where
   pub holds : Bool
   pub fault : Fault
 
+-- What the tests of a sheet give: nothing, or the fault that was found first.
+abbrev pub Verdict : Type 0
+Verdict = Result (Unit {0}) Fault
+
 abbrev pub first_fault : List Test → Verdict
-first_fault [] = Accepted
-first_fault (t ∷ ts) = cond t.holds (Refused t.fault) (first_fault ts)
+first_fault [] = Ok tt
+first_fault (t ∷ ts) = cond t.holds (Err t.fault) (first_fault ts)
 
 -- "7. The head has 0 benches or more than 64." Target too wide for its field: 7 too.
 abbrev pub bench_count_fault : Head → Bool
@@ -131,4 +135,4 @@ pub record LowestHeavyHyperEdge (h : Head) (js : List Job) (n : ℕ) : Type 0 wh
 unfoldable pub hyper_edge_verdict : Head → List Job → Verdict
 hyper_edge_verdict h js =
     let n = least (length js) (heavy_hyper_edge_at h js) in
-    cond (ltb n (length js)) (Refused (HeavyHyperEdge n)) Accepted
+    cond (ltb n (length js)) (Err (HeavyHyperEdge n)) (Ok tt)

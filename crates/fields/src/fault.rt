@@ -2,7 +2,7 @@
 ghost use Rattle.std.specs.Prelude.{◌≡◌};
 ghost use Rattle.fields.specs.Numbers.{number_of, place_of};
 
-#[derive(Clone, Copy)]
+#[derive(Clone, Copy, Debug, PartialEq, Eq)]
 pub enum Fault {
     // 1: the sheet is longer than 65,536 bytes.
     TooLong,
@@ -43,13 +43,6 @@ pub enum Fault {
     SharedBench(usize),
 }
 
-// Whether a test found a fault.
-#[derive(Drop)]
-pub enum Verdict {
-    Accepted,
-    Refused(Fault),
-}
-
 impl Fault {
     // The number that users see.
     pub fn number(self) -> u64
@@ -82,24 +75,23 @@ impl Fault {
         ensures { result ≡ place_of self }
     {
         match self {
-            Fault::TooLong => 0,
-            Fault::Truncated(at) => at,
-            Fault::UnknownKind(at) => at,
-            Fault::Misplaced(at) => at,
-            Fault::WrongLength(at) => at,
-            Fault::SpareBit(at) => at,
-            Fault::BenchCount(at) => at,
-            Fault::Share(at) => at,
-            Fault::JobCount(at) => at,
-            Fault::Minutes(at) => at,
-            Fault::Allowed(at) => at,
-            Fault::HeavyHyperEdge(job) => job,
-            Fault::Table(at) => at,
-            Fault::BookedBench(at) => at,
-            Fault::BookedTwice(at) => at,
-            Fault::PlaceCount => 0,
-            Fault::SetBench(at) => at,
-            Fault::SharedBench(set) => set,
+            Fault::TooLong | Fault::PlaceCount => 0,
+            Fault::Truncated(at)
+            | Fault::UnknownKind(at)
+            | Fault::Misplaced(at)
+            | Fault::WrongLength(at)
+            | Fault::SpareBit(at)
+            | Fault::BenchCount(at)
+            | Fault::Share(at)
+            | Fault::JobCount(at)
+            | Fault::Minutes(at)
+            | Fault::Allowed(at)
+            | Fault::HeavyHyperEdge(at)
+            | Fault::Table(at)
+            | Fault::BookedBench(at)
+            | Fault::BookedTwice(at)
+            | Fault::SetBench(at)
+            | Fault::SharedBench(at) => at,
         }
     }
 }

@@ -4,5 +4,5 @@
 mod fault;
 mod sheet;
 
-pub use fault::{Fault, Verdict};
-pub use sheet::{Booking, Head, Job, Reading, Sheet};
+pub use fault::Fault;
+pub use sheet::{Booking, Head, Job, Sheet};

@@ -1,5 +1,4 @@
 // What a sheet holds.
-use crate::fault::Verdict;
 
 // Benches, the share p / q, and the target in minutes.
 #[derive(Clone, Copy)]
@@ -37,11 +36,4 @@ pub struct Sheet {
     pub count: usize,
     pub minutes: [u64; 512],
     pub allowed: [u64; 512],
-}
-
-// The sheet that was read, or an empty one beside its first fault.
-#[derive(Drop)]
-pub struct Reading {
-    pub verdict: Verdict,
-    pub sheet: Sheet,
 }

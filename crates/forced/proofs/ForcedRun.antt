@@ -1,7 +1,7 @@
 -- The arrays follow FORCED ORIENTATIONS, one direction after another.
 --     lowest-forcing, first-forced        the bench and the rock that the searches find are those of the definition
 --     Inner, Outer                        what the two loops keep; how they go on, and how they end
-use Prim.Native.Nat.{ℕ, zero, suc, ◌+◌, ◌-◌, ◌≤◌, ◌<◌}
+use Prim.Native.Nat.{ℕ, zero, suc, ◌+◌, ◌≤◌, ◌<◌}
 use mathlib.Core.Path.{◌≡◌, refl, sym, ap, subst, ◌∙◌}
 use mathlib.Core.Bool.{Bool, true, false, ◌&&◌}
 use mathlib.Core.Logic.{⊎_elim, ◌≢◌}
@@ -24,7 +24,7 @@ use Rattle.rocks.specs.BoardArrays.{rocks_of, rock_at, Rocks, Seen}
 use Rattle.algorithm.proofs.StepLaws.{forces-touches, forces-neutral}
 use Rattle.algorithm.proofs.TurnLaws.{forced_job-forces, inner-stop, inner-go, outer-stop, outer-go}
 use Rattle.forced.proofs.MarkLaws.{Marked, marked_none, marked-set}
-use Rattle.rocks.proofs.ScanLaws.{board_lowest, board_first, rock_below}
+use Rattle.rocks.proofs.ScanLaws.{board_lowest, board_first}
 use Rattle.rocks.proofs.BoardLaws.{other_at_lem, directs_seen}
 
 -- ── the loops of the definition, turn by turn ──
@@ -34,27 +34,27 @@ unfolding inner
 inner-stops zero b dirs ms e = refl
 inner-stops (suc k) b dirs ms e = inner-stop k b dirs ms (le-ltb (least b.benches (marked_forcing b dirs ms)) b.benches (omega arith))
 
-inner-turns : (k : ℕ) (b : Board) (dirs : Directions) (ms : List Bool) (v : ℕ) → 0 < k → v ≡ least b.benches (marked_forcing b dirs ms) → v < b.benches
-    → inner k b dirs ms ≡ inner (k - 1) b (direct b dirs v (forced_job b dirs v)) (set ms (other b (forced_job b dirs v) v) true)
-inner-turns zero b dirs ms v more e h = absurd (omega arith)
-inner-turns (suc k) b dirs ms v more e h =
-    let same : suc k - 1 ≡ k = omega arith in
-    subst (λ (u : ℕ). inner (suc k) b dirs ms ≡ inner (suc k - 1) b (direct b dirs u (forced_job b dirs u)) (set ms (other b (forced_job b dirs u) u) true)) (sym e)
-    (rw same (inner-go k b dirs ms (lt-ltb (least b.benches (marked_forcing b dirs ms)) b.benches (subst (λ (u : ℕ). u < b.benches) e h))))
+inner-turns : (k k' : ℕ) (b : Board) (dirs : Directions) (ms : List Bool) (v : ℕ) → k ≡ suc k'
+    → v ≡ least b.benches (marked_forcing b dirs ms) → v < b.benches
+    → inner k b dirs ms ≡ inner k' b (direct b dirs v (forced_job b dirs v)) (set ms (other b (forced_job b dirs v) v) true)
+inner-turns k k' b dirs ms v turn e h =
+    ap (λ (i : ℕ). inner i b dirs ms) turn
+    ∙ subst (λ (u : ℕ). inner (suc k') b dirs ms
+    ≡ inner k' b (direct b dirs u (forced_job b dirs u)) (set ms (other b (forced_job b dirs u) u) true)) (sym e)
+    (inner-go k' b dirs ms (lt-ltb (least b.benches (marked_forcing b dirs ms)) b.benches (subst (λ (u : ℕ). u < b.benches) e h)))
 
 outer-stops : (k : ℕ) (b : Board) (dirs : Directions) → least b.benches (forcing b dirs) ≡ b.benches → outer k b dirs ≡ dirs
 unfolding outer
 outer-stops zero b dirs e = refl
 outer-stops (suc k) b dirs e = outer-stop k b dirs (le-ltb (least b.benches (forcing b dirs)) b.benches (omega arith))
 
-outer-turns : (k : ℕ) (b : Board) (dirs : Directions) (v : ℕ) → 0 < k → v ≡ least b.benches (forcing b dirs) → v < b.benches
-    → outer k b dirs ≡ outer (k - 1) b (inner b.jobs b (direct b dirs v (forced_job b dirs v)) (set (nobody b) (other b (forced_job b dirs v) v) true))
-outer-turns zero b dirs v more e h = absurd (omega arith)
-outer-turns (suc k) b dirs v more e h =
-    let same : suc k - 1 ≡ k = omega arith in
-    subst (λ (u : ℕ). outer (suc k) b dirs
-    ≡ outer (suc k - 1) b (inner b.jobs b (direct b dirs u (forced_job b dirs u)) (set (nobody b) (other b (forced_job b dirs u) u) true))) (sym e)
-    (rw same (outer-go k b dirs (lt-ltb (least b.benches (forcing b dirs)) b.benches (subst (λ (u : ℕ). u < b.benches) e h))))
+outer-turns : (k k' : ℕ) (b : Board) (dirs : Directions) (v : ℕ) → k ≡ suc k' → v ≡ least b.benches (forcing b dirs) → v < b.benches
+    → outer k b dirs ≡ outer k' b (inner b.jobs b (direct b dirs v (forced_job b dirs v)) (set (nobody b) (other b (forced_job b dirs v) v) true))
+outer-turns k k' b dirs v turn e h =
+    ap (λ (i : ℕ). outer i b dirs) turn
+    ∙ subst (λ (u : ℕ). outer (suc k') b dirs
+    ≡ outer k' b (inner b.jobs b (direct b dirs u (forced_job b dirs u)) (set (nobody b) (other b (forced_job b dirs u) u) true))) (sym e)
+    (outer-go k' b dirs (lt-ltb (least b.benches (forcing b dirs)) b.benches (subst (λ (u : ℕ). u < b.benches) e h)))
 
 with_mark : (a b m c : Bool) → m ≡ true → (a && (b && m && c)) ≡ (a && b && c)
 with_mark true true m c e = rw e
@@ -149,10 +149,10 @@ module _ (b : Board) (n : Limits) (low high weight : List ℕ) (R : Rocks b n lo
     pub inner-ends : v ≡ n.benches → Seen b (inner b.jobs b dirs ms) dir loads
     inner-ends stop = subst (λ (x : Directions). Seen b x dir loads) (sym (I.same ∙ inner-stops k b I.now_dirs I.now_marks (sym inner-at ∙ stop ∙ R.benches))) I.seen
 
-    pub inner-goes_on : (u r : ℕ) → v ≢ n.benches → 0 < k
+    pub inner-goes_on : (u r k' : ℕ) → v ≢ n.benches → k ≡ suc k'
         → r ≡ least n.rocks (λ i. touches_at low high i v && forced_at n.bound weight dir loads marked i v) → u ≡ other_at low high r v
-        → Inner dirs ms (k - 1) (set dir r (plus_of u 1)) (set loads u (plus_of (get_or loads u 0) (get_or weight r 0))) (set marked u true)
-    inner-goes_on u r ne more first at =
+        → Inner dirs ms k' (set dir r (plus_of u 1)) (set loads u (plus_of (get_or loads u 0) (get_or weight r 0))) (set marked u true)
+    inner-goes_on u r k' ne turn first at =
         let step = forced-step I.now_dirs dir loads I.seen marked v r e ne first in
         let j = forced_job b I.now_dirs v in
         let far : u ≡ other b j v = at ∙ other_at_lem b n low high weight R r v step.rock_below ∙ ap (λ (x : ℕ). other b x v) step.rock_is in
@@ -165,14 +165,14 @@ module _ (b : Board) (n : Limits) (low high weight : List ℕ) (R : Rocks b n lo
               (set loads (other_at low high r v) (plus_of (get_or loads (other_at low high r v) 0) (get_or weight r 0)))) step.rock_is
               (directs_seen b n low high weight R I.now_dirs r v step.rock_below step.touched dir loads I.seen step.free));
           marks = subst (λ (x : ℕ). Marked b (set I.now_marks x true) (set marked u true)) far (marked-set b I.now_marks marked u I.marks);
-          same = I.same ∙ inner-turns k b I.now_dirs I.now_marks v more inner-at step.bench_below;
+          same = I.same ∙ inner-turns k k' b I.now_dirs I.now_marks v turn inner-at step.bench_below;
         }
 
-    pub inner-next : (u r : ℕ) {dir' loads' : List ℕ} {marked' : List Bool} → v ≢ n.benches → 0 < k
+    pub inner-next : (u r k' : ℕ) {dir' loads' : List ℕ} {marked' : List Bool} → v ≢ n.benches → k ≡ suc k'
         → r ≡ least n.rocks (λ i. touches_at low high i v && forced_at n.bound weight dir loads marked i v) → u ≡ other_at low high r v
         → dir' ≡ set dir r (plus_of u 1) → loads' ≡ set loads u (plus_of (get_or loads u 0) (get_or weight r 0)) → marked' ≡ set marked u true
-        → Inner dirs ms (k - 1) dir' loads' marked'
-    inner-next u r ne more first at d l m = rw (d, l, m) (inner-goes_on u r ne more first at)
+        → Inner dirs ms k' dir' loads' marked'
+    inner-next u r k' ne turn first at d l m = rw (d, l, m) (inner-goes_on u r k' ne turn first at)
 
   pub inner-starts : (dirs : Directions) (first k : ℕ) {dir loads : List ℕ} {marked : List Bool} → Seen b dirs dir loads
       → marked ≡ set (replicate 64 false) first true → k ≡ n.jobs → Inner dirs (set (nobody b) first true) k dir loads marked
@@ -210,12 +210,12 @@ module _ (b : Board) (n : Limits) (low high weight : List ℕ) (R : Rocks b n lo
     pub outer-ends : v ≡ n.benches → Seen b (forced_orientations b dirs) dir loads
     outer-ends stop = subst (λ (x : Directions). Seen b x dir loads) (sym (O.same ∙ outer-stops k b O.now_dirs (sym outer-at ∙ stop ∙ R.benches))) O.seen
 
-    pub outer-goes_on : (u r : ℕ) (dir' loads' : List ℕ) → v ≢ n.benches → 0 < k
+    pub outer-goes_on : (u r k' : ℕ) (dir' loads' : List ℕ) → v ≢ n.benches → k ≡ suc k'
         → r ≡ least n.rocks (λ i. touches_at low high i v && forced_at n.bound weight dir loads marked i v) → u ≡ other_at low high r v
         → ((x : Directions) → Seen b x (set dir r (plus_of u 1)) (set loads u (plus_of (get_or loads u 0) (get_or weight r 0)))
         → Seen b (inner b.jobs b x (set (nobody b) u true)) dir' loads')
-        → Outer dirs (k - 1) dir' loads'
-    outer-goes_on u r dir' loads' ne more first at call =
+        → Outer dirs k' dir' loads'
+    outer-goes_on u r k' dir' loads' ne turn first at call =
         let step = forced-step O.now_dirs dir loads O.seen marked v r e ne first in
         let j = forced_job b O.now_dirs v in
         let far : u ≡ other b j v = at ∙ other_at_lem b n low high weight R r v step.rock_below ∙ ap (λ (x : ℕ). other b x v) step.rock_is in
@@ -228,7 +228,7 @@ module _ (b : Board) (n : Limits) (low high weight : List ℕ) (R : Rocks b n lo
               (subst (λ (x : ℕ). Seen b (direct b O.now_dirs v x) (set dir r (plus_of (other_at low high r v) 1))
               (set loads (other_at low high r v) (plus_of (get_or loads (other_at low high r v) 0) (get_or weight r 0)))) step.rock_is
               (directs_seen b n low high weight R O.now_dirs r v step.rock_below step.touched dir loads O.seen step.free))));
-          same = O.same ∙ outer-turns k b O.now_dirs v more outer-at step.bench_below;
+          same = O.same ∙ outer-turns k k' b O.now_dirs v turn outer-at step.bench_below;
         }
 
   pub outer-starts : (dirs : Directions) (k : ℕ) {dir loads : List ℕ} → Seen b dirs dir loads → k ≡ n.jobs → Outer dirs k dir loads

@@ -2,6 +2,7 @@
 --     Source                           the bench and the rock that a search through the candidates finds are those of a search through all rocks
 --     forces_after, tails_next         the candidates after a rock is directed, and the benches that one was directed away from
 --     nowhere_forced                   at the end no rock is forced
+use Rattle.std.proofs.Common.{Some, None}
 use Prim.Native.Nat.{ℕ, ◌+◌, ◌≤◌, ◌<◌}
 use mathlib.Core.Path.{◌≡◌, refl, sym, ap, subst, ◌∙◌}
 use mathlib.Core.Bool.{Bool, true, false, cond, ◌&&◌, ◌||◌}
@@ -13,9 +14,9 @@ use lib.Dec.{eqb, ltb}
 use lib.Seq.{get_or-set_same, get_or-set_other}
 use borrow.Author.Tests.{eq-eqb, ne_eqb, le-ltb, eqb-true}
 use Rattle.bools.proofs.BoolLaws.{split, and_intro, and_left, and_right, and-false_left, and-false_right, or_left, or_right, or_elim}
-use Rattle.bools.proofs.OrderLaws.{eq-or-ne, lt-or-le}
+use Rattle.bools.proofs.OrderLaws.{eq-or-ne}
 use Rattle.sums.specs.Search.{least}
-use Rattle.sums.proofs.SearchLaws.{any_cong, least_cong, least-le}
+use Rattle.sums.proofs.SearchLaws.{any_cong}
 use Rattle.sums.proofs.CountLaws.{count-le}
 use Rattle.bits.specs.Bits.{is_set}
 use Rattle.rocks.specs.declared.rocks.Limits.{Limits}
@@ -30,9 +31,10 @@ use Rattle.forced.specs.SetArrays.{forced_at, forces_at, Covers, Nowhere, Tails}
 use Rattle.rocks.specs.BoardArrays.{rocks_of, rock_at, Rocks, Seen}
 use Rattle.rock_graph.specs.Neighbours.{Incident}
 use Rattle.forced.specs.CandidateArrays.{some_rock, rock_of, bench_of, Left}
+use Rattle.forced.proofs.AnswerLaws.{first_cong}
 use Rattle.rocks.proofs.RockLaws.{end_below}
 use Rattle.rocks.proofs.ScanLaws.{rock_below, rock_holds, touches_at_lem}
-use Rattle.forced.proofs.CandidateLaws.{rock_met, first_rock, candidate_below, candidate_some, candidate_lowest, candidate_none, rock-ends, few-rocks, few_benches}
+use Rattle.forced.proofs.CandidateLaws.{bench_near, rock_met, first_rock, candidate_below, candidate_some, candidate_lowest, candidate_none, rock-ends, few-rocks, few_benches}
 
 -- ── marked benches ──
 
@@ -43,13 +45,6 @@ and_middle false m c e = refl
 -- Every candidate is marked.
 abbrev pub Inside : ℕ → List Bool → Type 0
 Inside cand marked = (v : ℕ) → v < 64 → is_set 64 cand v ≡ true → get_or marked v false ≡ true
-
-pub bench_most : (incident : List ℕ) (P : ℕ → ℕ → Bool) (cand v : ℕ) → v ≡ bench_of incident P cand → v ≢ 64 → v < 64
-unfolding bench_of
-bench_most incident P cand v e ne = elim (lt-or-le v 64) [
-  | inl h ↦ h
-  | inr h ↦ absurd (ne (omega (arith, e, least-le 64 (λ u. is_set 64 cand u && some_rock incident P u))))
-]
 
 module _ (bound : ℕ) (weight dir loads : List ℕ) (marked : List Bool) where
   abbrev F : ℕ → ℕ → Bool
@@ -81,11 +76,11 @@ module _ (bound : ℕ) (weight dir loads : List ℕ) (marked : List Bool) where
     pub rock_same : (v : ℕ) → v < 64 → is_set 64 cand v ≡ true → rock_of incident F v ≡ rock_of incident M v
     unfolding rock_of
     rock_same v h p =
-        least_cong 64 (λ r. is_set 64 (get_or incident v 0) r && F r v) (λ r. is_set 64 (get_or incident v 0) r && M r v) (λ r l. listed_same v h p r)
+        first_cong (λ r. is_set 64 (get_or incident v 0) r && F r v) (λ r. is_set 64 (get_or incident v 0) r && M r v) (λ r l. listed_same v h p r)
 
     pub bench_same : bench_of incident F cand ≡ bench_of incident M cand
     unfolding bench_of
-    bench_same = least_cong 64 (λ v. is_set 64 cand v && some_rock incident F v) (λ v. is_set 64 cand v && some_rock incident M v) (λ v h. elim (split (is_set 64 cand v)) [
+    bench_same = first_cong (λ v. is_set 64 cand v && some_rock incident F v) (λ v. is_set 64 cand v && some_rock incident M v) (λ v h. elim (split (is_set 64 cand v)) [
       | inl p ↦ ap (λ (x : Bool). is_set 64 cand v && x) (some_same v h p)
       | inr p ↦ and-false_left (some_rock incident F v) p ∙ sym (and-false_left (some_rock incident M v) p)
     ])
@@ -108,34 +103,39 @@ module _ (b : Board) (n : Limits) (low high weight : List ℕ) (R : Rocks b n lo
     pub near : v < 64
 
   module _ (incident : List ℕ) (few : rocks_of b ≤ 64) (H : Incident n low high incident) (dir loads : List ℕ) (marked : List Bool) (cand : ℕ)
-      (C : Covers n low high (forced_at n.bound weight dir loads marked) cand) (I : Inside cand marked) (v : ℕ)
-      (e : v ≡ bench_of incident (forces_at n.bound weight dir loads) cand) where
+      (C : Covers n low high (forced_at n.bound weight dir loads marked) cand) (I : Inside cand marked) where
     abbrev P : ℕ → ℕ → Bool
     P = forced_at n.bound weight dir loads marked
 
     ends : (r : ℕ) → r < n.rocks → (get_or low r 0 < n.benches) × (get_or high r 0 < n.benches)
     ends = rock-ends b n low high weight R
 
-    at : v ≡ bench_of incident P cand
-    at = e ∙ bench_same n.bound weight dir loads marked incident cand I
+    same : bench_of incident (forces_at n.bound weight dir loads) cand ≡ bench_of incident P cand
+    same = bench_same n.bound weight dir loads marked incident cand I
 
-    pub search_found : (r : ℕ) → (v < 64 → (r < 64) × (r ≡ rock_of incident (forces_at n.bound weight dir loads) v)) → v ≢ 64 → Source dir loads marked v r
-    search_found r found ne =
-        let h : v < 64 = bench_most incident P cand v at ne in
-        let is-cand = (candidate_some n low high incident H (few-rocks b n low high weight R few) ends (few_benches b n low high weight R) P cand C v at h).0 in
-        let rock : r ≡ rock_of incident P v = (found h).1 ∙ rock_same n.bound weight dir loads marked incident cand I v h is-cand in
-        let met = rock_met n low high incident H (few-rocks b n low high weight R few) ends (few_benches b n low high weight R) P v r h rock (found h).0 in
+    pub search_found : (v r : ℕ) → Some v ≡ bench_of incident (forces_at n.bound weight dir loads) cand
+        → Some r ≡ rock_of incident (forces_at n.bound weight dir loads) v → Source dir loads marked v r
+    search_found v r bench rock =
+        let at : Some v ≡ bench_of incident P cand = bench ∙ same in
+        let h : v < 64 = bench_near incident P cand v at in
+        let is-cand = (candidate_some n low high incident H (few-rocks b n low high weight R few) ends (few_benches b n low high weight R) P cand C v at).0 in
+        let there : Some r ≡ rock_of incident P v =
+        rock ∙ rock_same n.bound weight dir loads marked incident cand I v h is-cand in
+        let met = rock_met n low high incident H (few-rocks b n low high weight R few) ends (few_benches b n low high weight R) P v r h there in
         record {
-          lowest = candidate_lowest n low high incident H (few-rocks b n low high weight R few) ends (few_benches b n low high weight R) P cand C v at h;
-          some = λ q. omega (arith, candidate_below n low high incident H (few-rocks b n low high weight R few) ends (few_benches b n low high weight R) P cand C v at h);
-          first = first_rock n low high incident H (few-rocks b n low high weight R few) ends (few_benches b n low high weight R) P v r h rock (found h).0;
+          lowest = candidate_lowest n low high incident H (few-rocks b n low high weight R few) ends (few_benches b n low high weight R) P cand C v at;
+          some = λ q. omega (arith, candidate_below n low high incident H (few-rocks b n low high weight R few) ends (few_benches b n low high weight R) P cand C v at);
+          first = first_rock n low high incident H (few-rocks b n low high weight R few) ends (few_benches b n low high weight R) P v r h there;
           below = met.below;
           touched = met.touched;
           near = h;
         }
 
-    pub search_none : v ≡ 64 → n.benches ≡ lowest_end n.benches n.rocks low high P
-    search_none q = candidate_none n low high incident H (few-rocks b n low high weight R few) ends (few_benches b n low high weight R) P cand C v at (omega arith)
+    pub search_none : None ≡ bench_of incident (forces_at n.bound weight dir loads) cand
+        → n.benches ≡ lowest_end n.benches n.rocks low high P
+    search_none none =
+        candidate_none n low high incident H (few-rocks b n low high weight R few) ends (few_benches b n low high weight R) P cand C
+        (none ∙ same)
 
   -- ── after a rock is directed ──
 

@@ -1,3 +1,4 @@
+pub mod AnswerLaws
 pub mod CandidateLaws
 pub mod NeutralLaws
 pub mod ForcedRun

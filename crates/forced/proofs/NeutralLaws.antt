@@ -1,10 +1,13 @@
 -- The neutral rocks as a set.
---     WithOne, LessOne, BothOf  a set with one more number, one without the numbers of another, and the numbers that two have
+--     WithOne, WithoutOne       a set with one more number, and one with one number less
+--     LessOne, BothOf           one without the numbers of another, and the numbers that two have
+--     without_one               one without the numbers of a set of one number
 --     exceeds_at                rock r is too heavy for bench v
 --     free-least                the lowest neutral rock of entry v of here with g
 --     free_found, free_none     how a search through the neutral rocks of entry v of here for one that is forced ends (its loop keeps Searched)
 --     neutral_starts            where no rock is directed, every rock is neutral
 --     neutral_next              after a rock is directed, the set loses it
+use Rattle.std.proofs.Common.{Some, None}
 use Prim.Native.Nat.{ℕ, ◌+◌, ◌≤◌, ◌<◌}
 use mathlib.Core.Path.{◌≡◌, sym, ap, ◌∙◌}
 use mathlib.Core.Bool.{Bool, true, not, ◌&&◌, ◌||◌}
@@ -15,7 +18,7 @@ use lib.ListN.{length, get_or, set, replicate, get_or-replicate}
 use lib.Dec.{eqb, ltb}
 use lib.Seq.{get_or-set_same, get_or-set_other}
 use borrow.Author.Tests.{eq-eqb, ne_eqb, lt-ltb, ltb-true}
-use Rattle.bools.proofs.BoolLaws.{split, and_left, and-false_left, and-false_right, or_right, or-false, not_intro_true, not_intro_false, and_unit}
+use Rattle.bools.proofs.BoolLaws.{split, and_left, and-false_left, and-false_right, not_intro_true, not_intro_false, and_unit}
 use Rattle.bools.proofs.OrderLaws.{eq-or-ne}
 use Rattle.sums.specs.Search.{least}
 use Rattle.sums.proofs.SearchLaws.{least_cong}
@@ -28,12 +31,17 @@ use Rattle.rocks.specs.RockArrays.{touches_at}
 use Rattle.rock_graph.specs.Neighbours.{Incident}
 use Rattle.forced.specs.SetArrays.{forces_at}
 use Rattle.forced.specs.CandidateArrays.{Neutral, rock_of}
+use Rattle.forced.proofs.AnswerLaws.{first_at, first_past}
 use Rattle.sets.proofs.SetRun.{Searched, searched_found, searched_none}
 use Rattle.rocks.proofs.ScanLaws.{and_assoc}
 
 -- The set with u has what the set has, and u.
 abbrev pub WithOne : ℕ → ℕ → ℕ → Type 0
 WithOne set set' u = (w : ℕ) → w < 64 → is_set 64 set' w ≡ (is_set 64 set w || eqb w u)
+
+-- The set loses u.
+abbrev pub WithoutOne : ℕ → ℕ → ℕ → Type 0
+WithoutOne set set' u = (w : ℕ) → w < 64 → is_set 64 set' w ≡ (is_set 64 set w && not (eqb w u))
 
 -- The set loses what one has.
 abbrev pub LessOne : ℕ → ℕ → ℕ → Type 0
@@ -67,14 +75,18 @@ module _ (n : Limits) (low high dir incident : List ℕ) (neutral : ℕ) (H : In
       least_cong 64 (λ r. is_set 64 set r && g r) (λ r. is_set 64 (get_or incident v 0) r && (eqb (get_or dir r 0) 0 && g r)) (free_rock g)
 
   module _ (bound : ℕ) (weight load : List ℕ) (left : ℕ) (S : Searched set (exceeds_at bound weight load v) left) where
-    pub free_found : (r : ℕ) → r ≡ lowest_of left → r < 64 → exceeds_at bound weight load v r ≡ true → r ≡ rock_of incident (forces_at bound weight dir load) v
+    pub free_found : (r : ℕ) → r ≡ lowest_of left → r < 64 → exceeds_at bound weight load v r ≡ true
+        → Some r ≡ rock_of incident (forces_at bound weight dir load) v
     unfolding rock_of
     free_found r e h p =
-        searched_found set (exceeds_at bound weight load v) left r S e h p ∙ free-least (exceeds_at bound weight load v)
+        first_at (λ r. is_set 64 (get_or incident v 0) r && forces_at bound weight dir load r v) r
+        (searched_found set (exceeds_at bound weight load v) left r S e h p ∙ free-least (exceeds_at bound weight load v)) h
 
-    pub free_none : left ≤ 0 → 64 ≡ rock_of incident (forces_at bound weight dir load) v
+    pub free_none : left ≤ 0 → None ≡ rock_of incident (forces_at bound weight dir load) v
     unfolding rock_of
-    free_none none = searched_none set (exceeds_at bound weight load v) left S none ∙ free-least (exceeds_at bound weight load v)
+    free_none none =
+        let e = searched_none set (exceeds_at bound weight load v) left S none ∙ free-least (exceeds_at bound weight load v) in
+        first_past (λ r. is_set 64 (get_or incident v 0) r && forces_at bound weight dir load r v) (omega (arith, e))
 
 -- ── how the set changes ──
 
@@ -83,17 +95,22 @@ neutral_starts n dir all every e r below h =
     every r h ∙ lt-ltb r n.rocks below
     ∙ sym (eq-eqb (get_or dir r 0) 0 (ap (λ (x : List ℕ). get_or x r 0) e ∙ get_or-replicate 64 r 0 0 h))
 
--- Rock r is directed; one is the set of r.
+pub without_one : (set set' one r : ℕ) → WithOne 0 one r → LessOne set set' one → WithoutOne set set' r
+without_one set set' one r single less w h =
+    less w
+    ∙ ap (λ (x : Bool). is_set 64 set w && not x) (single w h ∙ ap (λ (x : Bool). x || eqb w r) (is_set-zero 64 w))
+
+-- Rock r is directed.
 pub neutral_next : (n : Limits) (dir : List ℕ) (r u : ℕ) → r < length dir → {dir' : List ℕ} → dir' ≡ set dir r (plus_of u 1)
-    → (one neutral neutral' : ℕ) → WithOne 0 one r → LessOne neutral neutral' one → Neutral n dir neutral → Neutral n dir' neutral'
-neutral_next n dir r u room {dir'} ed one neutral neutral' single less N k below h =
-    less k ∙ sym (ap (λ (x : List ℕ). eqb (get_or x k 0) 0) ed ∙ elim (eq-or-ne k r) [
+    → (neutral neutral' : ℕ) → WithoutOne neutral neutral' r → Neutral n dir neutral → Neutral n dir' neutral'
+neutral_next n dir r u room {dir'} ed neutral neutral' less N k below h =
+    less k h ∙ sym (ap (λ (x : List ℕ). eqb (get_or x k 0) 0) ed ∙ elim (eq-or-ne k r) [
       | inl e ↦
           let same : get_or (set dir r (plus_of u 1)) k 0 ≡ plus_of u 1 =
           ap (λ (i : ℕ). get_or (set dir r (plus_of u 1)) i 0) e ∙ get_or-set_same dir r (plus_of u 1) 0 room in
           ne_eqb (get_or (set dir r (plus_of u 1)) k 0) 0 (λ z. omega (arith, same))
-          ∙ sym (and-false_right (is_set 64 neutral k) (not_intro_false (single k h ∙ or_right (is_set 64 0 k) (eq-eqb k r e))))
+          ∙ sym (and-false_right (is_set 64 neutral k) (not_intro_false (eq-eqb k r e)))
       | inr ne ↦
           ap (λ (i : ℕ). eqb i 0) (get_or-set_other dir r k (plus_of u 1) 0 ne) ∙ sym (N k below h)
-          ∙ sym (and_unit (is_set 64 neutral k) (not_intro_true (single k h ∙ or-false (is_set-zero 64 k) (ne_eqb k r ne))))
+          ∙ sym (and_unit (is_set 64 neutral k) (not_intro_true (ne_eqb k r ne)))
     ])

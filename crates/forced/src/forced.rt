@@ -1,5 +1,6 @@
 // FORCED ORIENTATIONS. Only benches of a set that has every bench from which a rock is forced are looked at.
-ghost use Rattle.std.specs.Prelude.{◌≡◌, true, List, ℕ, ◌<◌, set};
+ghost use Rattle.std.specs.Prelude.{◌≡◌, true, not, ◌&&◌, ◌||◌, eqb, List, ℕ, ◌<◌, set, get_or};
+ghost use Rattle.std.specs.Prelude.{Some, None, MatchOption};
 ghost use Rattle.algorithm.specs.Board.{Board, Directions};
 ghost use Rattle.algorithm.specs.Forced.{inner, nobody, forced_orientations};
 ghost use Rattle.rocks.specs.BoardArrays.{Seen};
@@ -7,208 +8,174 @@ ghost use Rattle.forced.specs.SetArrays.{forces_at, Covers, Nowhere, Tails};
 ghost use Rattle.rock_graph.specs.Neighbours.{Incident};
 ghost use Rattle.rock_graph.specs.Graph.{incidents, lows, highs, weights, RockGraph};
 ghost use Rattle.forced.specs.CandidateArrays.{Neutral, rock_of, bench_of, Left, CoversBut};
+ghost use Rattle.bits.specs.Bits.{is_set};
+ghost use Rattle.arrays.specs.Arrays.{plus_of};
+ghost use Rattle.rocks.specs.RockArrays.{other_at};
 
+use rock_graph::Graph;
 use rocks::Limits;
 
-// A bench and a rock at it, and the candidates that are left.
+// A bench, the first rock that is forced from it, and the candidates that are left.
 #[derive(Drop)]
-pub struct Found {
-    pub bench: usize,
-    pub rock: usize,
-    pub left: usize,
+struct Found {
+    bench: usize,
+    rock: usize,
+    left: usize,
 }
 
-// The benches from which a rock may be forced, the benches that a rock was directed away from, and the neutral rocks.
+// The benches at which something changed, and the rocks that are neutral then.
 #[derive(Drop)]
-pub struct Sources {
-    pub watch: usize,
-    pub tails: usize,
+pub struct Changed {
+    pub benches: usize,
     pub neutral: usize,
 }
 
-// The benches that a rock was directed away from, and the neutral rocks.
-#[derive(Drop)]
-pub struct Forced {
-    pub tails: usize,
-    pub neutral: usize,
-}
-
-// The first rock that is forced from v, and 64 where there is none.
-fn forced_rock<'a>(
+// The first rock that is forced from v.
+fn forced_rock(
     bound: usize,
-    graph: &'a [usize],
+    graph: &Graph,
     neutral: usize,
-    load: &'a [usize],
+    load: &[usize],
     v: usize,
-) -> usize
+) -> Option<usize>
     ensures { (n : Limits) → (dir : List ℕ)
         → Incident n (lows graph.now) (highs graph.now) (incidents graph.now)
         → Neutral n dir neutral → v < 64
         → result ≡ rock_of (incidents graph.now) (forces_at bound (weights graph.now) dir
         load.now) v }
 {
-    let mut left = sets::common(rock_graph::incident(graph, v), neutral);
+    let mut left = sets::common(graph.incident(v), neutral);
     while 0 < left {
         let r = sets::lowest(left);
-        if arrays::exceeds(bound, arrays::at(load, v), rock_graph::weight(graph, r)) {
-            return r;
+        if arrays::exceeds(bound, arrays::at(load, v), graph.weight(r)) {
+            return Some(r);
         }
         left = sets::after(left, r);
     }
-    64
+    None
 }
 
-// The lowest candidate from which a rock is forced, and 64 where there is none.
-fn first_forcing<'a>(
+// The lowest candidate from which a rock is forced.
+fn first_forcing(
     bound: usize,
-    graph: &'a [usize],
+    graph: &Graph,
     neutral: usize,
-    load: &'a [usize],
+    load: &[usize],
     cand: usize,
-) -> Found
+) -> Option<Found>
     ensures { (n : Limits) → (dir : List ℕ)
         → Incident n (lows graph.now) (highs graph.now) (incidents graph.now)
         → Neutral n dir neutral
-        → (result.bench
-        ≡ bench_of (incidents graph.now) (forces_at bound (weights graph.now) dir
+        → MatchOption result
+        (None ≡ bench_of (incidents graph.now) (forces_at bound (weights graph.now) dir
         load.now) cand)
-        × (result.bench < 64
-        → (result.rock < 64)
-        × (result.rock
-        ≡ rock_of (incidents graph.now) (forces_at bound (weights graph.now) dir
-        load.now)
-        result.bench))
-        × Left (incidents graph.now) (forces_at bound (weights graph.now) dir load.now)
-        cand
-        result.left }
+        (λ f. (Some f.bench ≡ bench_of (incidents graph.now) (forces_at bound (weights graph.now) dir
+        load.now) cand)
+        × (Some f.rock ≡ rock_of (incidents graph.now) (forces_at bound (weights graph.now) dir
+        load.now) f.bench)
+        × Left (incidents graph.now) (forces_at bound (weights graph.now) dir load.now) cand f.left) }
 {
     let mut left = cand;
     while 0 < left {
-        let v = sets::lowest(left);
-        let r = forced_rock(bound, graph, neutral, load, v);
-        if r < 64 {
-            return Found {
-                bench: v,
-                rock: r,
-                left: left,
-            };
+        let bench = sets::lowest(left);
+        if let Some(rock) = forced_rock(bound, graph, neutral, load, bench) {
+            return Some(Found { bench, rock, left });
         }
-        left = sets::after(left, v);
+        left = sets::after(left, bench);
     }
-    Found {
-        bench: 64,
-        rock: 64,
-        left: left,
-    }
+    None
 }
 
-// The rocks that are forced from `first`, and from the benches that these come to.
-fn force_marked<'a>(
-    n: Limits,
-    graph: &'a [usize],
-    sources: Sources,
+// Directs the rock away from its bench, and says where to.
+fn direct(
+    graph: &Graph,
+    bench: usize,
+    rock: usize,
     dir: &mut [usize],
     load: &mut [usize],
+    changed: &mut Changed,
+) -> usize
+    ensures { (result ≡ other_at (lows graph.now) (highs graph.now) rock bench)
+        × (dir.new ≡ set dir.old rock (plus_of result 1))
+        × (load.new ≡ set load.old result (plus_of (get_or load.old result 0) (get_or (weights graph.now) rock 0)))
+        × ((v : ℕ) → v < 64 → is_set 64 changed.new.benches v ≡ (is_set 64 changed.old.benches v || eqb v bench))
+        × ((r : ℕ) → r < 64 → is_set 64 changed.new.neutral r ≡ (is_set 64 changed.old.neutral r && not (eqb r rock))) }
+{
+    changed.benches = sets::with(changed.benches, bench);
+    changed.neutral = sets::less(changed.neutral, sets::with(0, rock));
+    graph.direct(dir, load, rock, bench)
+}
+
+// The rocks that are forced from `first`, and from the benches that these come to. Says from which benches a rock may
+// be forced then.
+fn force_marked(
+    n: Limits,
+    graph: &Graph,
+    watch: usize,
     first: usize,
-) -> Sources
+    dir: &mut [usize],
+    load: &mut [usize],
+    changed: &mut Changed,
+) -> usize
     ensures { (b : Board) → (dirs : Directions)
         → RockGraph b n graph.now
-        → Neutral n dir.old sources.neutral
+        → Neutral n dir.old changed.old.neutral
         → CoversBut n (lows graph.now) (highs graph.now)
-        (forces_at n.bound (weights graph.now) dir.old load.old) sources.watch
+        (forces_at n.bound (weights graph.now) dir.old load.old) watch
         first
         → first < 64 → Seen b dirs dir.old load.old
         → Seen b (inner b.jobs b dirs (set (nobody b) first true)) dir.new load.new
         × Covers n (lows graph.now) (highs graph.now)
-        (forces_at n.bound (weights graph.now) dir.new load.new) result.watch
+        (forces_at n.bound (weights graph.now) dir.new load.new) result
         × ((dir₀ : List ℕ) → Tails n (lows graph.now) (highs graph.now) dir₀ dir.old
-        sources.tails
-        → Tails n (lows graph.now) (highs graph.now) dir₀ dir.new result.tails)
-        × Neutral n dir.new result.neutral }
+        changed.old.benches
+        → Tails n (lows graph.now) (highs graph.now) dir₀ dir.new changed.new.benches)
+        × Neutral n dir.new changed.new.neutral }
 {
-    let watch = sources.watch;
-    let mut tails = sources.tails;
-    let mut neutral = sources.neutral;
     let mut cand = sets::with(0, first);
-    let mut turns = n.jobs;
-    while 0 < turns {
-        let f = first_forcing(n.bound, graph, neutral, load, cand);
-        if f.bench == 64 {
-            return Sources {
-                watch: watch,
-                tails: tails,
-                neutral: neutral,
-            };
-        }
-        let u = rock_graph::direct(graph, dir, load, f.rock, f.bench);
-        tails = sets::with(tails, f.bench);
-        neutral = sets::less(neutral, sets::with(0, f.rock));
+    for _ in 0..n.jobs {
+        let Some(f) = first_forcing(n.bound, graph, changed.neutral, load, cand) else {
+            return watch;
+        };
+        let u = direct(graph, f.bench, f.rock, dir, load, changed);
         cand = sets::with(f.left, u);
-        turns -= 1;
     }
-    Sources {
-        watch: watch | cand,
-        tails: tails,
-        neutral: neutral,
-    }
+    watch | cand
 }
 
 // From every bench; says which benches a rock was directed away from, and which rocks are neutral then.
-pub fn force<'a>(
+pub fn force(
     n: Limits,
-    graph: &'a [usize],
+    graph: &Graph,
     watch: usize,
-    before: usize,
+    neutral: usize,
     dir: &mut [usize],
     load: &mut [usize],
-) -> Forced
+) -> Changed
     ensures { (b : Board) → (dirs : Directions)
         → RockGraph b n graph.now
-        → Neutral n dir.old before
+        → Neutral n dir.old neutral
         → Covers n (lows graph.now) (highs graph.now)
         (forces_at n.bound (weights graph.now) dir.old load.old) watch
         → Seen b dirs dir.old load.old
         → Seen b (forced_orientations b dirs) dir.new load.new
         × Tails n (lows graph.now) (highs graph.now) dir.old dir.new
-        result.tails
+        result.benches
         × Nowhere n (lows graph.now) (highs graph.now)
         (forces_at n.bound (weights graph.now) dir.new load.new)
         × Neutral n dir.new result.neutral }
 {
     let mut left = watch;
-    let mut tails = 0;
-    let mut neutral = before;
-    let mut turns = n.jobs;
-    while 0 < turns {
-        let f = first_forcing(n.bound, graph, neutral, load, left);
-        if f.bench == 64 {
-            return Forced {
-                tails: tails,
-                neutral: neutral,
-            };
-        }
-        let u = rock_graph::direct(graph, dir, load, f.rock, f.bench);
-        tails = sets::with(tails, f.bench);
-        neutral = sets::less(neutral, sets::with(0, f.rock));
-        let s = force_marked(
-            n,
-            graph,
-            Sources {
-                watch: f.left,
-                tails: tails,
-                neutral: neutral,
-            },
-            dir,
-            load,
-            u,
-        );
-        left = s.watch;
-        tails = s.tails;
-        neutral = s.neutral;
-        turns -= 1;
+    let mut changed = Changed {
+        benches: 0,
+        neutral,
+    };
+    for _ in 0..n.jobs {
+        let Some(f) = first_forcing(n.bound, graph, changed.neutral, load, left) else {
+            break;
+        };
+        let u = direct(graph, f.bench, f.rock, dir, load, &mut changed);
+        left = force_marked(n, graph, f.left, u, dir, load, &mut changed);
     }
-    Forced {
-        tails: tails,
-        neutral: neutral,
-    }
+    changed
 }

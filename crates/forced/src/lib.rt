@@ -3,4 +3,4 @@
 
 mod forced;
 
-pub use forced::force;
+pub use forced::{Changed, force};

@@ -25,7 +25,7 @@ use Rattle.fields.specs.declared.sheet.Job.{Job}
 use Rattle.fields.specs.Contents.{Contents, booked_at, no_bookings}
 use Rattle.judging.specs.declared.judge.Stage.{Stage}
 use Rattle.judging.specs.declared.judge.Stage.TheVariants.{Start, Open, Closed}
-use Rattle.fields.specs.declared.fault.Verdict.TheVariants.{Accepted}
+use Rattle.std.specs.Prelude.{Ok}
 use Rattle.fields.specs.Format.{head_kind, job_kind, booking_kind, kind_of, body_of, body_length, spare_of}
 use Rattle.fields.specs.Format.{head_of, job_of, booking_of}
 use Rattle.fields.specs.Tests.{first_fault, booking_fault, job_at, no_job}
@@ -80,7 +80,7 @@ set-sound m bs k inside below fits s =
           get_or-set_other bs k.bench b k.minutes 0 (λ e. omega arith) ∙ s.none_past_head b l;
     }
 
-module _ (g : Progress) (at : ℕ) (f : List ℕ) (e : first_fault (faults_at g at f) ≡ Accepted) where
+module _ (g : Progress) (at : ℕ) (f : List ℕ) (e : first_fault (faults_at g at f) ≡ Ok tt) where
   abbrev jobs_read : ℕ
   jobs_read = length g.contents.jobs
 
@@ -92,7 +92,7 @@ module _ (g : Progress) (at : ℕ) (f : List ℕ) (e : first_fault (faults_at g 
       (cond-accepted (misplaced g.stage jobs_read (kind_of f)) _ _ kind-known.1).0
 
   pub content_accepted :
-      first_fault (content_faults g.contents.head.benches jobs_read g.had at (kind_of f) (body_of f)) ≡ Accepted
+      first_fault (content_faults g.contents.head.benches jobs_read g.had at (kind_of f) (body_of f)) ≡ Ok tt
   unfolding frame_faults
   content_accepted =
       let kind-known = cond-accepted (not (known_kind (kind_of f))) _ _ e in

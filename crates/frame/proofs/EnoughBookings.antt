@@ -16,9 +16,8 @@ use borrow.Author.Tests.{eq-eqb, ne_eqb, le-leb}
 use Rattle.fields.specs.declared.sheet.Head.{Head}
 use Rattle.fields.specs.Contents.{Contents}
 use Rattle.fields.specs.declared.fault.Fault.TheVariants.{BookedBench}
-use Rattle.fields.specs.declared.fault.Verdict.TheVariants.{Refused}
-use Rattle.frame.specs.declared.written.Written.{Written}
-use Rattle.frame.specs.declared.written.Written.TheVariants.{Length, Refusal}
+use Rattle.fields.specs.declared.fault.Fault.{Fault}
+use Rattle.std.specs.Prelude.{Result, Ok, Err}
 use Rattle.fields.specs.Format.{booked_from, bookings, sheet_bytes}
 use Rattle.fields.specs.Tests.{first_fault, head_faults, booked_faults}
 use Rattle.bookings.proofs.BookingLaws.{booked_from-append, booked_faults-append, first_fault-after}
@@ -55,21 +54,21 @@ module _ (h : Head) (booked booked' ms bs : List ℕ) (same : bookings booked �
         write_refused one room a.0 a.1 ∙ sym (write_refused other room a.0 (sym same_verdict ∙ a.1))
   ]
 
-  same-output : (w : Written) (out : List ℕ) → output w one out ≡ output w other out
+  same-output : (w : Result ℕ Fault) (out : List ℕ) → output w one out ≡ output w other out
   unfolding output
-  same-output (Length n) out = cc same_bytes
-  same-output (Refusal f) out = refl
+  same-output (Ok n) out = cc same_bytes
+  same-output (Err f) out = refl
 
   pub output-bookings : (room : ℕ) (out : List ℕ)
       → output (write_sheet one room) one out ≡ output (write_sheet other room) other out
   output-bookings room out =
-      ap (λ (w : Written). output w one out) (writer-bookings room) ∙ same-output (write_sheet other room) out
+      ap (λ (w : Result ℕ Fault). output w one out) (writer-bookings room) ∙ same-output (write_sheet other room) out
 
 -- ── an entry past the 64th ──
 
 pub first_far : (m i : ℕ) (zs : List ℕ) (x : ℕ) → x < length zs → ((y : ℕ) → y < x → get_or zs y 0 ≡ 0)
     → get_or zs x 0 ≢ 0 → m ≤ i + x
-    → first_fault (booked_faults m (booked_from i zs)) ≡ Refused (BookedBench (i + x))
+    → first_fault (booked_faults m (booked_from i zs)) ≡ Err (BookedBench (i + x))
 unfolding booked_from booked_faults
 first_far m i [] x l zeros some far = absurd (omega arith)
 first_far m i (z ∷ zs) zero l zeros some far =
@@ -81,7 +80,7 @@ first_far m i (z ∷ zs) (suc x) l zeros some far =
 
 pub far_refused : (h : Head) (front zs : List ℕ) (x : ℕ) → length front ≡ 64 → x < length zs
     → ((y : ℕ) → y < x → get_or zs y 0 ≡ 0) → get_or zs x 0 ≢ 0
-    → opening_verdict h (front ++ zs) ≡ and_then (opening_verdict h front) (Refused (BookedBench (64 + x)))
+    → opening_verdict h (front ++ zs) ≡ and_then (opening_verdict h front) (Err (BookedBench (64 + x)))
 unfolding opening_verdict
 far_refused h front zs x size l zeros some =
     let m = h.benches in

@@ -20,7 +20,7 @@ use Rattle.fields.specs.declared.sheet.Head.{Head}
 use Rattle.fields.specs.declared.sheet.Job.{Job}
 use Rattle.fields.specs.Contents.{Contents}
 use Rattle.fields.specs.declared.fault.Fault.{Fault}
-use Rattle.fields.specs.declared.fault.Verdict.TheVariants.{Refused}
+use Rattle.std.specs.Prelude.{Err}
 use Rattle.fields.specs.Tests.{no_minutes, first_fault, job_faults}
 use Rattle.frame.specs.Writing.{jobs_of, contents_of, and_then, jobs_verdict, opening_verdict}
 use Rattle.frame.specs.Writing.{writer_verdict, write_sheet, output}
@@ -55,7 +55,7 @@ abbrev pub first_jobs : Contents → Contents
 first_jobs c = record { head = c.head; booked = c.booked; jobs = take 513 c.jobs }
 
 pub jobs_needed : (c : Contents)
-    → (first_jobs c ≡ c) ⊎ ((f : Fault) × (writer_verdict (first_jobs c) ≡ Refused f) × (writer_verdict c ≡ Refused f))
+    → (first_jobs c ≡ c) ⊎ ((f : Fault) × (writer_verdict (first_jobs c) ≡ Err f) × (writer_verdict c ≡ Err f))
 unfolding writer_verdict
 jobs_needed c =
     let m : ℕ = c.head.benches in

@@ -40,8 +40,8 @@ use Rattle.judging.specs.declared.judge.Stage.{Stage}
 use Rattle.judging.specs.declared.judge.Stage.TheVariants.{Start, Open, Closed}
 use Rattle.fields.specs.declared.fault.Fault.{Fault}
 use Rattle.fields.specs.declared.fault.Fault.TheVariants.{TooLong, Truncated}
-use Rattle.fields.specs.declared.fault.Verdict.{Verdict}
-use Rattle.fields.specs.declared.fault.Verdict.TheVariants.{Accepted, Refused}
+use Rattle.fields.specs.Tests.{Verdict}
+use Rattle.std.specs.Prelude.{Ok, Err}
 use Rattle.fields.specs.Numbers.{number_of, place_of}
 use Rattle.fields.specs.Format.{ours, head_kind, job_kind, booking_kind, version_of, kind_of, body_of}
 use Rattle.fields.specs.Format.{head_of, job_of, booking_of}
@@ -54,7 +54,7 @@ use Rattle.frame.proofs.WholeFrames.{verdict_cases, whole_unique, frames_inducti
 
 -- ── the tests at a frame ──
 
-pub first_test : (ts : List Test) (f : Fault) → first_fault ts ≡ Refused f → FirstTest ts f
+pub first_test : (ts : List Test) (f : Fault) → first_fault ts ≡ Err f → FirstTest ts f
 first_test [] f e = let z : ◌≡◌ {A = ℕ} 0 1 = cc in absurd (omega arith)
 first_test (t ∷ ts) f e = elim (split t.holds) [
   | inl p ↦ record { before = []; test = t; later = ts; order = refl; none_before = tt; holds_here = p; fault_here = cc }
@@ -72,22 +72,22 @@ first_test (t ∷ ts) f e = elim (split t.holds) [
 ]
 
 holds_behind : (before : List Test) (t : Test) (later : List Test) → NoneHolds before → t.holds ≡ true
-    → first_fault (before ++ t ∷ later) ≡ Refused t.fault
+    → first_fault (before ++ t ∷ later) ≡ Err t.fault
 holds_behind [] t later n h = rw h
 holds_behind (b ∷ before) t later n h = rw n.0 (holds_behind before t later n.1 h)
 
-pub first_test_holds : {ts : List Test} {f : Fault} → FirstTest ts f → first_fault ts ≡ Refused f
+pub first_test_holds : {ts : List Test} {f : Fault} → FirstTest ts f → first_fault ts ≡ Err f
 first_test_holds r =
-    ap first_fault r.order ∙ holds_behind r.before r.test r.later r.none_before r.holds_here ∙ ap Refused r.fault_here
+    ap first_fault r.order ∙ holds_behind r.before r.test r.later r.none_before r.holds_here ∙ ap Err r.fault_here
 
-pub none_holds : (ts : List Test) → first_fault ts ≡ Accepted → NoneHolds ts
+pub none_holds : (ts : List Test) → first_fault ts ≡ Ok tt → NoneHolds ts
 none_holds [] e = tt
 none_holds (t ∷ ts) e = elim (split t.holds) [
   | inl p ↦ let z : ◌≡◌ {A = ℕ} 0 1 = cc in absurd (omega arith)
   | inr p ↦ (p, none_holds ts (rw p at e))
 ]
 
-pub none_holds_passes : (ts : List Test) → NoneHolds ts → first_fault ts ≡ Accepted
+pub none_holds_passes : (ts : List Test) → NoneHolds ts → first_fault ts ≡ Ok tt
 none_holds_passes [] n = refl
 none_holds_passes (t ∷ ts) n = rw n.0 (none_holds_passes ts n.1)
 
@@ -122,7 +122,7 @@ abbrev Every : (Fault → Type 0) → List Test → Type 0
 Every P [] = Unit {0}
 Every P (t ∷ ts) = (t.holds ≡ true → P t.fault) × Every P ts
 
-every_found : (P : Fault → Type 0) (ts : List Test) (f : Fault) → Every P ts → first_fault ts ≡ Refused f → P f
+every_found : (P : Fault → Type 0) (ts : List Test) (f : Fault) → Every P ts → first_fault ts ≡ Err f → P f
 every_found P [] f a e = let z : ◌≡◌ {A = ℕ} 0 1 = cc in absurd (omega arith)
 every_found P (t ∷ ts) f a e = elim (split t.holds) [
   | inl p ↦ let q : t.fault ≡ f = cc in subst P q (a.0 p)
@@ -237,7 +237,7 @@ over : (at : ℕ) (g : Progress) → read_on [] at g ≡ ending g at
 unfolding read_from
 over at g = refl
 
-truncated : (stage : Stage) (at : ℕ) (c : Contents) → stage ≢ Closed → end_verdict stage at c ≡ Refused (Truncated at)
+truncated : (stage : Stage) (at : ℕ) (c : Contents) → stage ≢ Closed → end_verdict stage at c ≡ Err (Truncated at)
 truncated Start at c n = refl
 truncated Open at c n = refl
 truncated Closed at c n = absurd (n refl)

@@ -39,8 +39,8 @@ use Rattle.judging.specs.declared.judge.Stage.TheVariants.{Start, Open, Closed}
 use Rattle.fields.specs.declared.fault.Fault.{Fault}
 use Rattle.fields.specs.declared.fault.Fault.TheVariants.{TooLong, Truncated, UnknownKind, Misplaced, WrongLength, SpareBit, BenchCount, Share, JobCount, Minutes, Allowed, HeavyHyperEdge, Table}
 use Rattle.fields.specs.declared.fault.Fault.TheVariants.{BookedBench, BookedTwice, PlaceCount, SetBench, SharedBench}
-use Rattle.fields.specs.declared.fault.Verdict.{Verdict}
-use Rattle.fields.specs.declared.fault.Verdict.TheVariants.{Accepted, Refused}
+use Rattle.fields.specs.Tests.{Verdict}
+use Rattle.std.specs.Prelude.{Ok, Err}
 use Rattle.fields.specs.Numbers.{number_of}
 use Rattle.fields.specs.Format.{ours, head_kind, job_kind, booking_kind, version_of, kind_of, frame_size, body_of}
 use Rattle.fields.specs.Format.{head_of, job_of, booking_of}
@@ -78,8 +78,8 @@ abbrev moved_test : (ℕ → ℕ) → Test → Test
 moved_test by t = record { holds = t.holds; fault = moved_by by t.fault }
 
 abbrev pub moved_verdict : (ℕ → ℕ) → Verdict → Verdict
-moved_verdict by Accepted = Accepted
-moved_verdict by (Refused f) = Refused (moved_by by f)
+moved_verdict by (Ok _) = Ok tt
+moved_verdict by (Err f) = Err (moved_by by f)
 
 first_fault-moved : (by : ℕ → ℕ) (ts : List Test) → first_fault (map (moved_test by) ts) ≡ moved_verdict by (first_fault ts)
 first_fault-moved by [] = refl
@@ -114,7 +114,7 @@ faults_at-moved by g at frame =
 
 -- 12 has a job number for its place.
 job_fault_moved : (by : ℕ → ℕ) (b : Bool) (n : ℕ)
-    → cond b (Refused (HeavyHyperEdge n)) Accepted ≡ moved_verdict by (cond b (Refused (HeavyHyperEdge n)) Accepted)
+    → cond b (Err (HeavyHyperEdge n)) (Ok tt) ≡ moved_verdict by (cond b (Err (HeavyHyperEdge n)) (Ok tt))
 unfolding moved_by
 job_fault_moved by true n = refl
 job_fault_moved by false n = refl
@@ -132,8 +132,8 @@ end_verdict-moved by Closed at c = hyper_edge_verdict-moved by c.head c.jobs
 
 judged-moved : (by : ℕ → ℕ) (v : Verdict) (c : Contents) → judged (moved_verdict by v) c ≡ moved_read_by by (judged v c)
 unfolding moved_read_by
-judged-moved by Accepted c = refl
-judged-moved by (Refused f) c = refl
+judged-moved by (Ok _) c = refl
+judged-moved by (Err f) c = refl
 
 pub ending-moved : (by : ℕ → ℕ) (g : Progress) (at : ℕ) → ending g (at + by at) ≡ moved_read_by by (ending g at)
 ending-moved by g at =
@@ -180,12 +180,12 @@ module _ (by : ℕ → ℕ) (k : ℕ) (rest : List ℕ) (at at' : ℕ) (g : Prog
         there : first_fault (faults_at g at' rest) ≡ moved_verdict by (first_fault (faults_at g at rest))
         there = rw (moves_here by at at' e) (faults_at-moved by g at rest)
 
-        sound_moved : first_fault (faults_at g at rest) ≡ Accepted → read_from (suc k) rest at' g ≡ moved_read_by by (read_from (suc k) rest at g)
+        sound_moved : first_fault (faults_at g at rest) ≡ Ok tt → read_from (suc k) rest at' g ≡ moved_read_by by (read_from (suc k) rest at g)
         sound_moved a =
             rw (read_from-next k rest at' g some whole v (there ∙ ap (moved_verdict by) a), read_from-next k rest at g some whole v a)
             (on (after g (kind_of rest) (body_of rest)))
 
-        fault_moved : (f : Fault) → first_fault (faults_at g at rest) ≡ Refused f → read_from (suc k) rest at' g ≡ moved_read_by by (read_from (suc k) rest at g)
+        fault_moved : (f : Fault) → first_fault (faults_at g at rest) ≡ Err f → read_from (suc k) rest at' g ≡ moved_read_by by (read_from (suc k) rest at g)
         fault_moved f a =
             rw (read_from-fault k rest at' g some whole (moved_by by f) v (there ∙ ap (moved_verdict by) a), read_from-fault k rest at g some whole f v a)
             (sym (refused_moved by f))
@@ -229,12 +229,12 @@ module _ (by : ℕ → ℕ) (f s t : List ℕ) (w : WholeFrame f) (at at' : ℕ)
     kept_tests : first_fault (faults_at g at' f) ≡ moved_verdict by (first_fault (faults_at g at f))
     kept_tests = rw here (faults_at-moved by g at f)
 
-    kept_sound : first_fault (faults_at g at f) ≡ Accepted → read_on (f ++ t) at' g ≡ moved_read_by by (read_on (f ++ s) at g)
+    kept_sound : first_fault (faults_at g at f) ≡ Ok tt → read_on (f ++ t) at' g ≡ moved_read_by by (read_on (f ++ s) at g)
     kept_sound a =
         rw (read_on-past_sound f t w at' g v (kept_tests ∙ ap (moved_verdict by) a), read_on-past_sound f s w at g v a)
         (on (after g (kind_of f) (body_of f)))
 
-    kept_fault : (x : Fault) → first_fault (faults_at g at f) ≡ Refused x → read_on (f ++ t) at' g ≡ moved_read_by by (read_on (f ++ s) at g)
+    kept_fault : (x : Fault) → first_fault (faults_at g at f) ≡ Err x → read_on (f ++ t) at' g ≡ moved_read_by by (read_on (f ++ s) at g)
     kept_fault x a =
         rw (read_on-in_frame f t w at' g v (moved_by by x) (kept_tests ∙ ap (moved_verdict by) a), read_on-in_frame f s w at g v x a)
         (sym (refused_moved by x))

@@ -8,18 +8,16 @@ use mathlib.Core.Path.{◌≡◌, refl, sym, ap, ◌∙◌}
 use mathlib.Core.Logic.{◌⊎◌, inl, inr, ⊎_elim}
 use mathlib.Core.Bool.{Bool, true, false, cond}
 use mathlib.Core.List.{List}
-use native.Mathlib.Omega.{arith}
 use lib.ListN.{length}
 use lib.Dec.{eqb}
 use Rattle.bools.proofs.BoolLaws.{clash}
 use Rattle.fields.specs.declared.fault.Fault.{Fault}
 use Rattle.fields.specs.declared.fault.Fault.TheVariants.{Truncated}
-use Rattle.fields.specs.declared.fault.Verdict.{Verdict}
-use Rattle.fields.specs.declared.fault.Verdict.TheVariants.{Accepted, Refused}
+use Rattle.std.specs.Prelude.{Result, Ok, Err}
 use Rattle.judging.specs.declared.judge.Frame.{Frame}
 use Rattle.judging.specs.declared.judge.Frame.TheVariants as frame
 use Rattle.fields.specs.Format.{ours, booking_layout, version_of, kind_of, body_of, head_of, job_of, booking_of}
-use Rattle.fields.specs.Tests.{first_fault}
+use Rattle.fields.specs.Tests.{Verdict, first_fault}
 use Rattle.bits.specs.Layout.{field}
 use Rattle.bits.proofs.BitsLaws.{bits-lt}
 use Rattle.judging.specs.declared.judge.Stage.{Stage}
@@ -31,36 +29,37 @@ use Rattle.frame.proofs.WholeFrames.{read_on-cut}
 use Rattle.frame.proofs.JudgeLaws.{read_on-fault, judgement, frame_of-fault}
 use Rattle.frame.proofs.JudgeLaws.{is_head, is_job, is_booking, content-not_foreign}
 
--- A frame of version 1 without a fault.
+-- A frame of version 1.
 abbrev pub holds_something : Frame → Bool
-holds_something (frame.Faulty f) = false
 holds_something frame.Foreign = false
 holds_something (frame.Head h) = true
 holds_something (frame.Booking b) = true
 holds_something (frame.Job j) = true
 holds_something frame.End = true
 
-picked : (b c : Bool) (f : Fault) (v x : Frame) → cond b (frame.Faulty f) (cond c v frame.Foreign) ≡ x → holds_something x ≡ true
-    → (b ≡ false) × (c ≡ true) × (v ≡ x)
-picked true c f v x e h = clash h (sym (ap holds_something e))
+-- A frame cut short, then one of version 1, which gives v, or else a foreign one.
+picked : (b c : Bool) (f : Fault) (v : Result Frame Fault) (x : Frame) → cond b (Err f) (cond c v (Ok frame.Foreign)) ≡ Ok x
+    → holds_something x ≡ true → (b ≡ false) × (c ≡ true) × (v ≡ Ok x)
+picked true c f v x e h = absurd cc
 picked false true f v x e h = (refl, refl, e)
-picked false false f v x e h = clash h (sym (ap holds_something e))
+picked false false f v x e h = let is : frame.Foreign ≡ x = cc in clash h (sym (ap holds_something is))
 
-picked_fault : (b c : Bool) (f : Fault) (v : Frame) (f' : Fault) → cond b (frame.Faulty f) (cond c v frame.Foreign) ≡ frame.Faulty f'
-    → ((b ≡ true) × (f ≡ f')) ⊎ ((b ≡ false) × (c ≡ true) × (v ≡ frame.Faulty f'))
+picked_fault : (b c : Bool) (f : Fault) (v : Result Frame Fault) (f' : Fault)
+    → cond b (Err f) (cond c v (Ok frame.Foreign)) ≡ Err f'
+    → ((b ≡ true) × (f ≡ f')) ⊎ ((b ≡ false) × (c ≡ true) × (v ≡ Err f'))
 picked_fault true c f v f' e = inl (refl, cc)
 picked_fault false true f v f' e = inr (refl, refl, e)
-picked_fault false false f v f' e = let z : ◌≡◌ {A = ℕ} 0 1 = cc in absurd (omega arith)
+picked_fault false false f v f' e = absurd cc
 
-picked_foreign : (b c : Bool) (f : Fault) (v : Frame) → (v ≡ frame.Foreign → ⊥) → cond b (frame.Faulty f) (cond c v frame.Foreign) ≡ frame.Foreign
-    → (b ≡ false) × (c ≡ false)
-picked_foreign true c f v k e = let z : ◌≡◌ {A = ℕ} 0 1 = cc in absurd (omega arith)
+picked_foreign : (b c : Bool) (f : Fault) (v : Result Frame Fault) → (v ≡ Ok frame.Foreign → ⊥)
+    → cond b (Err f) (cond c v (Ok frame.Foreign)) ≡ Ok frame.Foreign → (b ≡ false) × (c ≡ false)
+picked_foreign true c f v k e = absurd cc
 picked_foreign false true f v k e = absurd (k e)
 picked_foreign false false f v k e = (refl, refl)
 
-sound-not_foreign : (v : Verdict) (x : Frame) → (x ≡ frame.Foreign → ⊥) → sound v x ≡ frame.Foreign → ⊥
-sound-not_foreign Accepted x k e = k e
-sound-not_foreign (Refused f) x k e = let z : ◌≡◌ {A = ℕ} 0 1 = cc in omega arith
+sound-not_foreign : (v : Verdict) (x : Frame) → (x ≡ frame.Foreign → ⊥) → sound v x ≡ Ok frame.Foreign → ⊥
+sound-not_foreign (Ok _) x k e = k cc
+sound-not_foreign (Err f) x k e = cc
 
 pub frame_at-had : (stage : Stage) (m n : ℕ) (had had' : ℕ → Bool) (at : ℕ) (rest : List ℕ)
     → ((v : ℕ) → v < 64 → had v ≡ had' v) → frame_at stage m n had at rest ≡ frame_at stage m n had' at rest
@@ -69,10 +68,10 @@ frame_at-had stage m n had had' at rest e =
     rw (e (field booking_layout 0 (body_of rest)) (bits-lt (body_of rest) 0 6))
 
 module _ (g : Progress) (at : ℕ) (rest : List ℕ) where
-  abbrev pub found : Frame
+  abbrev pub found : Result Frame Fault
   found = frame_at g.stage g.contents.head.benches (length g.contents.jobs) g.had at rest
 
-  pub found-fault : 0 < length rest → (f : Fault) → found ≡ frame.Faulty f → read_on rest at g ≡ refused f
+  pub found-fault : 0 < length rest → (f : Fault) → found ≡ Err f → read_on rest at g ≡ refused f
   unfolding frame_at
   found-fault some f e =
       ⊎_elim
@@ -80,7 +79,7 @@ module _ (g : Progress) (at : ℕ) (rest : List ℕ) where
       (λ w. read_on-fault rest at g some w.0 f w.1 (frame_of-fault g at rest f w.2))
       (picked_fault (cut rest) (eqb (version_of rest) ours) (Truncated at) (judgement g at rest) f e)
 
-  pub found-foreign : found ≡ frame.Foreign → (cut rest ≡ false) × (eqb (version_of rest) ours ≡ false)
+  pub found-foreign : found ≡ Ok frame.Foreign → (cut rest ≡ false) × (eqb (version_of rest) ours ≡ false)
   unfolding frame_at frame_of
   found-foreign e =
       picked_foreign (cut rest) (eqb (version_of rest) ours) (Truncated at) (judgement g at rest)
@@ -88,7 +87,7 @@ module _ (g : Progress) (at : ℕ) (rest : List ℕ) where
       (content-not_foreign (head_of (body_of rest)) (job_of (body_of rest)) (booking_of (body_of rest))
       (is_head g at rest) (is_job g at rest) (is_booking g at rest))) e
 
-  pub found-ours : (x : Frame) → holds_something x ≡ true → found ≡ x
-      → (cut rest ≡ false) × (eqb (version_of rest) ours ≡ true) × (judgement g at rest ≡ x)
+  pub found-ours : (x : Frame) → holds_something x ≡ true → found ≡ Ok x
+      → (cut rest ≡ false) × (eqb (version_of rest) ours ≡ true) × (judgement g at rest ≡ Ok x)
   unfolding frame_at
   found-ours x h e = picked (cut rest) (eqb (version_of rest) ours) (Truncated at) (judgement g at rest) x e h

@@ -18,11 +18,10 @@ use Rattle.fields.specs.declared.sheet.Job.{Job}
 use Rattle.judging.specs.declared.judge.Frame.{Frame}
 use Rattle.judging.specs.declared.judge.Frame.TheVariants as frame
 use Rattle.fields.specs.declared.fault.Fault.{Fault}
-use Rattle.fields.specs.declared.fault.Verdict.{Verdict}
-use Rattle.fields.specs.declared.fault.Verdict.TheVariants.{Accepted, Refused}
+use Rattle.std.specs.Prelude.{Result, Ok, Err}
 use Rattle.fields.specs.Format.{ours, head_kind, job_kind, booking_kind, version_of, kind_of, frame_size, body_of}
 use Rattle.fields.specs.Format.{head_of, job_of, booking_of}
-use Rattle.fields.specs.Tests.{first_fault, job_faults}
+use Rattle.fields.specs.Tests.{Verdict, first_fault, job_faults}
 use Rattle.frame.specs.Sound.{SoundJob}
 use Rattle.judging.specs.FrameTests.{cut}
 use Rattle.frame.specs.Reading.{Progress, refused, faults_at, after_head, after_booking, after_job, after_end, after}
@@ -55,11 +54,11 @@ module _ (rest : List ℕ) (at : ℕ) (g : Progress) (some : 0 < length rest) (w
       ∙ read_from-foreign (length rest - 1) rest at g not-empty whole v
       ∙ rest_of g
 
-  pub read_on-fault : (f : Fault) → eqb (version_of rest) ours ≡ true → first_fault (faults_at g at rest) ≡ Refused f → read_on rest at g ≡ refused f
+  pub read_on-fault : (f : Fault) → eqb (version_of rest) ours ≡ true → first_fault (faults_at g at rest) ≡ Err f → read_on rest at g ≡ refused f
   read_on-fault f v e =
       ap (λ (k : ℕ). read_from k rest at g) one_more ∙ read_from-fault (length rest - 1) rest at g not-empty whole f v e
 
-  pub read_on-next : eqb (version_of rest) ours ≡ true → first_fault (faults_at g at rest) ≡ Accepted
+  pub read_on-next : eqb (version_of rest) ours ≡ true → first_fault (faults_at g at rest) ≡ Ok tt
       → read_on rest at g ≡ read_on (drop (frame_size rest) rest) (at + frame_size rest) (after g (kind_of rest) (body_of rest))
   read_on-next v e =
       ap (λ (k : ℕ). read_from k rest at g) one_more
@@ -98,42 +97,23 @@ module _ (h : Head) (j : Job) (k : Booking) where
   content-end false false true e = let z : ◌≡◌ {A = ℕ} 0 1 = cc in absurd (omega arith)
   content-end false false false e = (refl, refl, refl)
 
-  content-sound : (a b c : Bool) (f : Fault) → content a b c ≡ frame.Faulty f → ⊥
-  content-sound true b c f e = let z : ◌≡◌ {A = ℕ} 0 1 = cc in omega arith
-  content-sound false true c f e = let z : ◌≡◌ {A = ℕ} 0 1 = cc in omega arith
-  content-sound false false true f e = let z : ◌≡◌ {A = ℕ} 0 1 = cc in omega arith
-  content-sound false false false f e = let z : ◌≡◌ {A = ℕ} 0 1 = cc in omega arith
-
   pub content-not_foreign : (a b c : Bool) → content a b c ≡ frame.Foreign → ⊥
   content-not_foreign true b c e = let z : ◌≡◌ {A = ℕ} 0 1 = cc in omega arith
   content-not_foreign false true c e = let z : ◌≡◌ {A = ℕ} 0 1 = cc in omega arith
   content-not_foreign false false true e = let z : ◌≡◌ {A = ℕ} 0 1 = cc in omega arith
   content-not_foreign false false false e = let z : ◌≡◌ {A = ℕ} 0 1 = cc in omega arith
 
-sound-faulty : (v : Verdict) (x : Frame) (f : Fault) → (x ≡ frame.Faulty f → ⊥) → sound v x ≡ frame.Faulty f → v ≡ Refused f
-sound-faulty Accepted x f not-x e = absurd (not-x e)
-sound-faulty (Refused f') x f not-x e = cc
+sound-fault : (v : Verdict) (x : Frame) (f : Fault) → sound v x ≡ Err f → v ≡ Err f
+sound-fault (Ok _) x f e = absurd cc
+sound-fault (Err g) x f e = cc
 
-sound-head : (v : Verdict) (x : Frame) (h : Head) → sound v x ≡ frame.Head h → (v ≡ Accepted) × (x ≡ frame.Head h)
-sound-head Accepted x h e = (refl, e)
-sound-head (Refused f) x h e = let z : ◌≡◌ {A = ℕ} 0 1 = cc in absurd (omega arith)
-
-sound-booking : (v : Verdict) (x : Frame) (k : Booking) → sound v x ≡ frame.Booking k
-    → (v ≡ Accepted) × (x ≡ frame.Booking k)
-sound-booking Accepted x k e = (refl, e)
-sound-booking (Refused f) x k e = let z : ◌≡◌ {A = ℕ} 0 1 = cc in absurd (omega arith)
-
-sound-job : (v : Verdict) (x : Frame) (j : Job) → sound v x ≡ frame.Job j → (v ≡ Accepted) × (x ≡ frame.Job j)
-sound-job Accepted x j e = (refl, e)
-sound-job (Refused f) x j e = let z : ◌≡◌ {A = ℕ} 0 1 = cc in absurd (omega arith)
-
-sound-end : (v : Verdict) (x : Frame) → sound v x ≡ frame.End → (v ≡ Accepted) × (x ≡ frame.End)
-sound-end Accepted x e = (refl, e)
-sound-end (Refused f) x e = let z : ◌≡◌ {A = ℕ} 0 1 = cc in absurd (omega arith)
+sound-is : (v : Verdict) (x y : Frame) → sound v x ≡ Ok y → (v ≡ Ok tt) × (x ≡ y)
+sound-is (Ok _) x y e = (refl, cc)
+sound-is (Err f) x y e = absurd cc
 
 module _ (g : Progress) (at : ℕ) (rest : List ℕ) where
   -- What the judge is asked of the frame at the front of rest.
-  abbrev pub judgement : Frame
+  abbrev pub judgement : Result Frame Fault
   judgement =
       frame_of g.stage g.contents.head.benches (length g.contents.jobs) g.had at
       (kind_of rest) (body_of rest)
@@ -153,50 +133,50 @@ module _ (g : Progress) (at : ℕ) (rest : List ℕ) where
   abbrev held : Frame
   held = content_of (kind_of rest) (body_of rest)
 
-  pub frame_of-fault : (f : Fault) → judgement ≡ frame.Faulty f → first_fault (faults_at g at rest) ≡ Refused f
+  pub frame_of-fault : (f : Fault) → judgement ≡ Err f → first_fault (faults_at g at rest) ≡ Err f
   unfolding frame_of
-  frame_of-fault f e = sound-faulty _ _ f (content-sound _ _ _ is_head is_job is_booking f) e
+  frame_of-fault f e = sound-fault tested held f e
 
-  pub frame_of-head : (h : Head) → judgement ≡ frame.Head h
-      → (first_fault (faults_at g at rest) ≡ Accepted) × (h ≡ head_of (body_of rest))
+  pub frame_of-head : (h : Head) → judgement ≡ Ok (frame.Head h)
+      → (first_fault (faults_at g at rest) ≡ Ok tt) × (h ≡ head_of (body_of rest))
       × (after g (kind_of rest) (body_of rest) ≡ after_head g h)
   unfolding frame_of after
   frame_of-head h e =
-      let s = sound-head tested held h e in
+      let s = sound-is tested held _ e in
       let k = content-head _ _ _ is_head is_job is_booking h s.1 in
       (s.0, sym k.1, rw k.0 (ap (λ (x : Head). after_head g x) k.1))
 
-  pub frame_of-booking : (b : Booking) → judgement ≡ frame.Booking b
-      → (first_fault (faults_at g at rest) ≡ Accepted) × (b ≡ booking_of (body_of rest))
+  pub frame_of-booking : (b : Booking) → judgement ≡ Ok (frame.Booking b)
+      → (first_fault (faults_at g at rest) ≡ Ok tt) × (b ≡ booking_of (body_of rest))
       × (after g (kind_of rest) (body_of rest) ≡ after_booking g b)
   unfolding frame_of after
   frame_of-booking b e =
-      let s = sound-booking tested held b e in
+      let s = sound-is tested held _ e in
       let k = content-booking _ _ _ is_head is_job is_booking b s.1 in
       (s.0, sym k.3, rw (k.0, k.1, k.2) (ap (λ (x : Booking). after_booking g x) k.3))
 
-  pub frame_of-job : (j : Job) → judgement ≡ frame.Job j
-      → (first_fault (faults_at g at rest) ≡ Accepted) × (j ≡ job_of (body_of rest))
+  pub frame_of-job : (j : Job) → judgement ≡ Ok (frame.Job j)
+      → (first_fault (faults_at g at rest) ≡ Ok tt) × (j ≡ job_of (body_of rest))
       × (after g (kind_of rest) (body_of rest) ≡ after_job g j)
       × SoundJob g.contents.head.benches (length g.contents.jobs) j
   unfolding frame_of after
   frame_of-job j e =
       let m = g.contents.head.benches in
       let n = length g.contents.jobs in
-      let s = sound-job tested held j e in
+      let s = sound-is tested held _ e in
       let k = content-job _ _ _ is_head is_job is_booking j s.1 in (
         s.0,
         sym k.2,
         rw (k.0, k.1) (ap (λ (x : Job). after_job g x) k.2),
         job_sound m n j at
-            (subst (λ (x : Job). first_fault (job_faults m n x at) ≡ Accepted) k.2
+            (subst (λ (x : Job). first_fault (job_faults m n x at) ≡ Ok tt) k.2
             (rw (k.0, k.1) at (content_accepted g at rest s.0))),
       )
 
-  pub frame_of-end : judgement ≡ frame.End
-      → (first_fault (faults_at g at rest) ≡ Accepted) × (after g (kind_of rest) (body_of rest) ≡ after_end g)
+  pub frame_of-end : judgement ≡ Ok frame.End
+      → (first_fault (faults_at g at rest) ≡ Ok tt) × (after g (kind_of rest) (body_of rest) ≡ after_end g)
   unfolding frame_of after
   frame_of-end e =
-      let s = sound-end tested held e in
+      let s = sound-is tested held _ e in
       let k = content-end _ _ _ is_head is_job is_booking s.1 in
       (s.0, rw (k.0, k.1, k.2))

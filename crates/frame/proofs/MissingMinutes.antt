@@ -18,8 +18,7 @@ use Rattle.fields.specs.declared.sheet.Job.{Job}
 use Rattle.fields.specs.Contents.{Contents}
 use Rattle.fields.specs.declared.fault.Fault.{Fault}
 use Rattle.fields.specs.declared.fault.Fault.TheVariants.{Minutes}
-use Rattle.fields.specs.declared.fault.Verdict.TheVariants.{Accepted, Refused}
-use Rattle.frame.specs.declared.written.Written.TheVariants.{Length, Refusal}
+use Rattle.std.specs.Prelude.{Ok, Err}
 use Rattle.fields.specs.Tests.{no_minutes, first_fault, job_faults, job_at}
 use Rattle.frame.specs.Writing.{jobs_of, contents_of, jobs_verdict, opening_verdict, writer_verdict, write_sheet}
 use Rattle.frame.proofs.WholeFrames.{verdict_cases}
@@ -27,11 +26,11 @@ use Rattle.frame.proofs.WriterLaws.{and_then-accepted, jobs_verdict-fault, write
 use Rattle.frame.proofs.WriterSteps.{length-job_table, job_at_lem, minutes_at}
 use Rattle.frame.proofs.EnoughJobs.{jobs_of-take}
 
-no_length : {f : Fault} {n : ℕ} → Refusal f ≡ Length n → ⊥
+no_length : {f : Fault} {n : ℕ} → Err f ≡ Ok n → ⊥
 no_length e = let z : ◌≡◌ {A = ℕ} 0 1 = cc in omega arith
 
 -- Where the first k jobs are sound, the verdict is that on the jobs behind them.
-jobs_verdict-past : (m n k : ℕ) (js : List Job) → jobs_verdict m n (take k js) ≡ Accepted
+jobs_verdict-past : (m n k : ℕ) (js : List Job) → jobs_verdict m n (take k js) ≡ Ok tt
     → jobs_verdict m n js ≡ jobs_verdict m (n + k) (drop k js)
 unfolding jobs_verdict
 jobs_verdict-past m n zero js e = rw add-zero
@@ -41,11 +40,11 @@ jobs_verdict-past m n (suc k) (j ∷ js) e =
     rw (a.0, add-suc, ← suc-add) (jobs_verdict-past m (suc n) k js a.1)
 
 module _ (h : Head) (booked ms bs : List ℕ) (room n : ℕ)
-    (written : write_sheet (contents_of h booked ms bs) room ≡ Length n) (j : ℕ) (below : j < length (jobs_of ms bs)) where
+    (written : write_sheet (contents_of h booked ms bs) room ≡ Ok n) (j : ℕ) (below : j < length (jobs_of ms bs)) where
   abbrev all : ℕ
   all = max (length ms) (length bs)
 
-  accepted : writer_verdict (contents_of h booked ms bs) ≡ Accepted
+  accepted : writer_verdict (contents_of h booked ms bs) ≡ Ok tt
   accepted = elim (verdict_cases (writer_verdict (contents_of h booked ms bs))) [
     | inl a ↦ a
     | inr a ↦ absurd (no_length (sym (write_refused (contents_of h booked ms bs) room a.0 a.1) ∙ written))
@@ -80,17 +79,17 @@ module _ (h : Head) (booked ms bs : List ℕ) (shorter : length ms < length bs) 
       ap (λ (j : Job). j.minutes) (job_at_lem (max (length ms) (length bs)) ms bs (length ms) (omega arith))
       ∙ get_or-eq_default ms no_minutes (omega arith)
 
-  pub unwritten : (room : ℕ) → (f : Fault) × (write_sheet given room ≡ Refusal f)
+  pub unwritten : (room : ℕ) → (f : Fault) × (write_sheet given room ≡ Err f)
   unwritten room = elim (verdict_cases (writer_verdict given)) [
     | inl a ↦ absurd (omega (arith, not-given, ((writer_verdict-sound given a).jobs (length ms) there).minutes_fit))
     | inr a ↦ (a.0, write_refused given room a.0 a.1)
   ]
 
-  module _ (opening : opening_verdict h booked ≡ Accepted)
-      (before : jobs_verdict h.benches 0 (jobs_of ms (take (length ms) bs)) ≡ Accepted)
+  module _ (opening : opening_verdict h booked ≡ Ok tt)
+      (before : jobs_verdict h.benches 0 (jobs_of ms (take (length ms) bs)) ≡ Ok tt)
       (few : length ms < 512) where
     found : first_fault (job_faults h.benches (0 + length ms) (job_at js (length ms)) (0 + length ms))
-        ≡ Refused (Minutes (length ms))
+        ≡ Err (Minutes (length ms))
     found =
         rw (
           zero-add,
@@ -98,18 +97,18 @@ module _ (h : Head) (booked ms bs : List ℕ) (shorter : length ms < length bs) 
           le-leb (2 ^ 20) (job_at js (length ms)).minutes (omega (arith, not-given)),
         )
 
-    jobs_before : jobs_verdict h.benches 0 (take (length ms) js) ≡ Accepted
+    jobs_before : jobs_verdict h.benches 0 (take (length ms) js) ≡ Ok tt
     jobs_before =
         let all-given : take (length ms) ms ≡ ms = take_all (length ms) ms (omega arith) in
         ap (jobs_verdict h.benches 0)
         (sym (jobs_of-take (length ms) ms bs) ∙ ap (λ (xs : List ℕ). jobs_of xs (take (length ms) bs)) all-given)
         ∙ before
 
-    jobs_refused : jobs_verdict h.benches 0 js ≡ Refused (Minutes (length ms))
+    jobs_refused : jobs_verdict h.benches 0 js ≡ Err (Minutes (length ms))
     jobs_refused =
         jobs_verdict-past h.benches 0 (length ms) js jobs_before
         ∙ jobs_verdict-fault h.benches 0 (length ms) js (Minutes (length ms)) there found
 
-    pub first_unwritten : (room : ℕ) → write_sheet given room ≡ Refusal (Minutes (length ms))
+    pub first_unwritten : (room : ℕ) → write_sheet given room ≡ Err (Minutes (length ms))
     unfolding writer_verdict
     first_unwritten room = write_refused given room (Minutes (length ms)) (rw (opening, jobs_refused))

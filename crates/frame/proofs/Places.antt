@@ -31,13 +31,11 @@ use Rattle.fields.specs.declared.sheet.Job.{Job}
 use Rattle.fields.specs.Contents.{Contents}
 use Rattle.fields.specs.declared.fault.Fault.{Fault}
 use Rattle.fields.specs.declared.fault.Fault.TheVariants.{Table, BookedBench}
-use Rattle.fields.specs.declared.fault.Verdict.{Verdict}
-use Rattle.fields.specs.declared.fault.Verdict.TheVariants.{Accepted, Refused}
-use Rattle.frame.specs.declared.written.Written.TheVariants.{Length, Refusal}
+use Rattle.std.specs.Prelude.{Ok, Err}
 use Rattle.fields.specs.Numbers.{place_of}
 use Rattle.fields.specs.Format.{head_kind, job_kind, booking_kind, kind_of, body_of, booked_from, bookings, sheet_bytes}
 use Rattle.fields.specs.Tests.{first_fault, head_faults, booking_fault, booked_faults, job_faults, bench_count_fault, share_fault}
-use Rattle.fields.specs.Tests.{job_count_fault, minutes_fault, allowed_fault, hyper_edge_verdict}
+use Rattle.fields.specs.Tests.{Verdict, job_count_fault, minutes_fault, allowed_fault, hyper_edge_verdict}
 use Rattle.bookings.proofs.BookingLaws.{few-bookings}
 use Rattle.frame.specs.Writing.{and_then, jobs_verdict, opening_verdict, writer_verdict, write_sheet}
 use Rattle.judging.specs.FrameTests.{frame_faults}
@@ -50,17 +48,17 @@ use Rattle.frame.proofs.FirstFault.{in_frame_number, lowest_hyper_edge, reached-
 
 -- ── verdicts ──
 
-pub cond-refused : (b : Bool) (g : Fault) (v : Verdict) (f : Fault) → cond b (Refused g) v ≡ Refused f → (g ≡ f) ⊎ (v ≡ Refused f)
+pub cond-refused : (b : Bool) (g : Fault) (v : Verdict) (f : Fault) → cond b (Err g) v ≡ Err f → (g ≡ f) ⊎ (v ≡ Err f)
 cond-refused true g v f e = inl (cc)
 cond-refused false g v f e = inr e
 
-pub and_then-refused : (v w : Verdict) (f : Fault) → and_then v w ≡ Refused f → (v ≡ Refused f) ⊎ ((v ≡ Accepted) × (w ≡ Refused f))
-and_then-refused Accepted w f e = inr (refl, e)
-and_then-refused (Refused g) w f e = inl e
+pub and_then-refused : (v w : Verdict) (f : Fault) → and_then v w ≡ Err f → (v ≡ Err f) ⊎ ((v ≡ Ok tt) × (w ≡ Err f))
+and_then-refused (Ok _) w f e = inr (refl, e)
+and_then-refused (Err g) w f e = inl e
 
 -- ── the writer ──
 
-pub head_place : (h : Head) (at : ℕ) (f : Fault) → first_fault (head_faults h at) ≡ Refused f → place_of f ≡ at
+pub head_place : (h : Head) (at : ℕ) (f : Fault) → first_fault (head_faults h at) ≡ Err f → place_of f ≡ at
 head_place h at f e = elim (cond-refused (bench_count_fault h) _ _ f e) [
   | inl p ↦ sym (ap place_of p)
   | inr q ↦ elim (cond-refused (share_fault h) _ _ f q) [
@@ -69,7 +67,7 @@ head_place h at f e = elim (cond-refused (bench_count_fault h) _ _ f e) [
   ]
 ]
 
-pub job_place : (m n : ℕ) (j : Job) (at : ℕ) (f : Fault) → first_fault (job_faults m n j at) ≡ Refused f → place_of f ≡ at
+pub job_place : (m n : ℕ) (j : Job) (at : ℕ) (f : Fault) → first_fault (job_faults m n j at) ≡ Err f → place_of f ≡ at
 job_place m n j at f e = elim (cond-refused (job_count_fault n) _ _ f e) [
   | inl p ↦ sym (ap place_of p)
   | inr q ↦ elim (cond-refused (minutes_fault j) _ _ f q) [
@@ -82,7 +80,7 @@ job_place m n j at f e = elim (cond-refused (job_count_fault n) _ _ f e) [
 ]
 
 -- Behind a sound job its number is below 512.
-pub jobs_place : (m n : ℕ) (js : List Job) (f : Fault) → n ≤ 512 → jobs_verdict m n js ≡ Refused f → place_of f ≤ 512
+pub jobs_place : (m n : ℕ) (js : List Job) (f : Fault) → n ≤ 512 → jobs_verdict m n js ≡ Err f → place_of f ≤ 512
 unfolding jobs_verdict
 jobs_place m n [] f l e = let z : ◌≡◌ {A = ℕ} 0 1 = cc in absurd (omega arith)
 jobs_place m n (j ∷ js) f l e = elim (and_then-refused (first_fault (job_faults m n j n)) (jobs_verdict m (suc n) js) f e) [
@@ -90,10 +88,10 @@ jobs_place m n (j ∷ js) f l e = elim (and_then-refused (first_fault (job_fault
   | inr q ↦ jobs_place m (suc n) js f (job_sound m n j n q.0).number_below_512 q.1
 ]
 
-pub hyper_edge_place : (h : Head) (js : List Job) (f : Fault) → hyper_edge_verdict h js ≡ Refused f → place_of f < length js
+pub hyper_edge_place : (h : Head) (js : List Job) (f : Fault) → hyper_edge_verdict h js ≡ Err f → place_of f < length js
 hyper_edge_place h js f e = let r = lowest_hyper_edge h js f e in omega (arith, ap place_of r.1, r.2.is_job)
 
-booked_from_lem : (m i : ℕ) (ns : List ℕ) (f : Fault) → first_fault (booked_faults m (booked_from i ns)) ≡ Refused f
+booked_from_lem : (m i : ℕ) (ns : List ℕ) (f : Fault) → first_fault (booked_faults m (booked_from i ns)) ≡ Err f
     → (b : ℕ) × (f ≡ BookedBench b) × (b < i + length ns)
 unfolding booked_from booked_faults
 booked_from_lem m i [] f e = let z : ◌≡◌ {A = ℕ} 0 1 = cc in absurd (omega arith)
@@ -105,18 +103,18 @@ booked_from_lem m i (n ∷ ns) f e = elim (split (eqb n 0)) [
   ]
 ]
 
-pub booked_place : (m : ℕ) (bs : List ℕ) (f : Fault) → first_fault (booked_faults m (bookings bs)) ≡ Refused f
+pub booked_place : (m : ℕ) (bs : List ℕ) (f : Fault) → first_fault (booked_faults m (bookings bs)) ≡ Err f
     → (b : ℕ) × (f ≡ BookedBench b) × (b < length bs)
 booked_place m bs f e = let (b, is, l) = booked_from_lem m 0 bs f e in (b, is, omega arith)
 
-pub opening_place : (h : Head) (bs : List ℕ) (f : Fault) → opening_verdict h bs ≡ Refused f → place_of f ≤ length bs
+pub opening_place : (h : Head) (bs : List ℕ) (f : Fault) → opening_verdict h bs ≡ Err f → place_of f ≤ length bs
 unfolding opening_verdict
 opening_place h bs f e = elim (and_then-refused (first_fault (head_faults h 0)) _ f e) [
   | inl p ↦ omega (arith, head_place h 0 f p)
   | inr q ↦ let (b, is, l) = booked_place h.benches bs f q.1 in omega (arith, ap place_of is)
 ]
 
-pub writer_place : (c : Contents) (f : Fault) → writer_verdict c ≡ Refused f → place_of f ≤ max 512 (length c.booked)
+pub writer_place : (c : Contents) (f : Fault) → writer_verdict c ≡ Err f → place_of f ≤ max 512 (length c.booked)
 unfolding writer_verdict
 writer_place c f e = elim (and_then-refused (opening_verdict c.head c.booked) _ f e) [
   | inl p ↦ omega (arith, opening_place c.head c.booked f p)
@@ -128,25 +126,25 @@ writer_place c f e = elim (and_then-refused (opening_verdict c.head c.booked) _ 
   ]
 ]
 
-fitted_place : (b : Bool) (n : ℕ) (f : Fault) → cond b (Length n) (Refusal (Table 0)) ≡ Refusal f → place_of f ≡ 0
+fitted_place : (b : Bool) (n : ℕ) (f : Fault) → cond b (Ok n) (Err (Table 0)) ≡ Err f → place_of f ≡ 0
 fitted_place true n f e = let z : ◌≡◌ {A = ℕ} 0 1 = cc in absurd (omega arith)
 fitted_place false n f e = let g : Table 0 ≡ f = cc in sym (ap place_of g)
 
-pub written_place : (c : Contents) (room : ℕ) (f : Fault) → write_sheet c room ≡ Refusal f
+pub written_place : (c : Contents) (room : ℕ) (f : Fault) → write_sheet c room ≡ Err f
     → place_of f ≤ max 512 (length c.booked)
 unfolding write_sheet
 written_place c room f e = elim (verdict_cases (writer_verdict c)) [
   | inl a ↦
       let size : ℕ = length (sheet_bytes c) in
       omega (arith, fitted_place (leb size room) size f (rw (a, write_sheet) at e))
-  | inr a ↦ let g : a.0 ≡ f = cc in writer_place c f (a.1 ∙ ap Refused g)
+  | inr a ↦ let g : a.0 ≡ f = cc in writer_place c f (a.1 ∙ ap Err g)
 ]
 
-fitted-length : (b : Bool) (m n : ℕ) → cond b (Length m) (Refusal (Table 0)) ≡ Length n → m ≡ n
+fitted-length : (b : Bool) (m n : ℕ) → cond b (Ok m) (Err (Table 0)) ≡ Ok n → m ≡ n
 fitted-length true m n e = cc
 fitted-length false m n e = let z : ◌≡◌ {A = ℕ} 0 1 = cc in absurd (omega arith)
 
-pub written-length : (c : Contents) (room n : ℕ) → write_sheet c room ≡ Length n
+pub written-length : (c : Contents) (room n : ℕ) → write_sheet c room ≡ Ok n
     → (n ≡ 13 + 7 * length (bookings c.booked) + 14 * length c.jobs) × (n ≤ 7629)
 unfolding write_sheet
 written-length c room n e = elim (verdict_cases (writer_verdict c)) [

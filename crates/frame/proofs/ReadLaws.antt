@@ -17,10 +17,9 @@ use borrow.Author.Tests.{eq-eqb, eqb-true, ltb-false}
 use Rattle.bools.proofs.BoolLaws.{or-false_right}
 use Rattle.fields.specs.declared.fault.Fault.{Fault}
 use Rattle.fields.specs.declared.fault.Fault.TheVariants.{Truncated}
-use Rattle.fields.specs.declared.fault.Verdict.{Verdict}
-use Rattle.fields.specs.declared.fault.Verdict.TheVariants.{Accepted, Refused}
+use Rattle.std.specs.Prelude.{Ok, Err}
 use Rattle.fields.specs.Format.{ours, header_size, version_of, kind_of, frame_size, body_of}
-use Rattle.fields.specs.Tests.{first_fault}
+use Rattle.fields.specs.Tests.{Verdict, first_fault}
 use Rattle.judging.specs.FrameTests.{cut}
 use Rattle.frame.specs.Reading.{Progress, refused, faults_at, after, ending, read_from}
 
@@ -50,12 +49,12 @@ module _ (k : ℕ) (rest : List ℕ) (at : ℕ) (g : Progress) where
       unfolding read_from
       read_from-foreign v = rw (some, whole, v, read_from)
 
-      pub read_from-fault : (f : Fault) → eqb (version_of rest) ours ≡ true → first_fault (faults_at g at rest) ≡ Refused f
+      pub read_from-fault : (f : Fault) → eqb (version_of rest) ours ≡ true → first_fault (faults_at g at rest) ≡ Err f
           → read_from (suc k) rest at g ≡ refused f
       unfolding read_from
       read_from-fault f v e = rw (some, whole, v, e, read_from)
 
-      pub read_from-next : eqb (version_of rest) ours ≡ true → first_fault (faults_at g at rest) ≡ Accepted
+      pub read_from-next : eqb (version_of rest) ours ≡ true → first_fault (faults_at g at rest) ≡ Ok tt
           → read_from (suc k) rest at g ≡ read_from k (drop (frame_size rest) rest) (at + frame_size rest) (after g (kind_of rest) (body_of rest))
       unfolding read_from
       read_from-next v e = rw (some, whole, v, e, read_from)
@@ -70,9 +69,9 @@ module _ (j k : ℕ) (rest : List ℕ) (at : ℕ) (g : Progress)
     → read_from j (drop (frame_size rest) rest) (at + frame_size rest) g ≡ read_from k (drop (frame_size rest) rest) (at + frame_size rest) g) where
   same_verdict : eqb (length rest) 0 ≡ false → cut rest ≡ false → eqb (version_of rest) ours ≡ true
       → (r : Verdict) → first_fault (faults_at g at rest) ≡ r → read_from (suc j) rest at g ≡ read_from (suc k) rest at g
-  same_verdict some whole v (Refused f) e =
+  same_verdict some whole v (Err f) e =
       read_from-fault j rest at g some whole f v e ∙ sym (read_from-fault k rest at g some whole f v e)
-  same_verdict some whole v Accepted e =
+  same_verdict some whole v (Ok _) e =
       read_from-next j rest at g some whole v e ∙ again _ whole ∙ sym (read_from-next k rest at g some whole v e)
 
   same_version : eqb (length rest) 0 ≡ false → cut rest ≡ false

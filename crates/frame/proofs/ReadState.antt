@@ -24,20 +24,18 @@ use Rattle.fields.specs.declared.sheet.Head.{Head}
 use Rattle.fields.specs.declared.sheet.Job.{Job}
 use Rattle.fields.specs.Contents.{Contents}
 use Rattle.fields.specs.declared.sheet.Sheet.{Sheet}
-use Rattle.fields.specs.declared.sheet.Reading.{Reading}
 use Rattle.judging.specs.declared.judge.Stage.{Stage}
 use Rattle.judging.specs.declared.judge.Stage.TheVariants.{Start, Open, Closed}
 use Rattle.judging.specs.declared.judge.Frame.{Frame}
 use Rattle.judging.specs.declared.judge.Frame.TheVariants as frame
 use Rattle.fields.specs.declared.fault.Fault.{Fault}
-use Rattle.fields.specs.declared.fault.Verdict.{Verdict}
-use Rattle.fields.specs.declared.fault.Verdict.TheVariants.{Accepted, Refused}
+use Rattle.std.specs.Prelude.{Result, Ok, Err}
 use Rattle.fields.specs.Format.{ours, version_of, kind_of, frame_size, body_of, booking_of}
-use Rattle.fields.specs.Tests.{first_fault, none_had, job_table, no_minutes, job_at, no_job}
+use Rattle.fields.specs.Tests.{Verdict, first_fault, none_had, job_table, no_minutes, job_at, no_job}
 use Rattle.frame.specs.Sound.{SoundJob}
 use Rattle.judging.specs.FrameTests.{cut}
 use Rattle.frame.specs.Reading.{Progress, refused, no_contents, faults_at, with_head, with_booking, with_job, had_with}
-use Rattle.frame.specs.Reading.{after_booking, after, end_verdict, judged, read_sheet, stored, padded, sheet_of, reading_of}
+use Rattle.frame.specs.Reading.{after_booking, after, end_verdict, judged, read_sheet, stored, padded, sheet_of}
 use Rattle.frame.specs.Frames.{read_on}
 use Rattle.judging.specs.Steps.{frame_at}
 use Rattle.frame.proofs.ReadLaws.{cut-false, read_from-over}
@@ -86,7 +84,7 @@ module _ (s : List ℕ) (sheet : Sheet) (stage : Stage) (had at : ℕ) (here : R
   some : 0 < length rest
   some = rw length-drop (omega arith)
 
-  pub state_fault : (f : Fault) → found progress at rest ≡ frame.Faulty f → read_sheet s ≡ refused f
+  pub state_fault : (f : Fault) → found progress at rest ≡ Err f → read_sheet s ≡ refused f
   state_fault f e = here.so_far ∙ found-fault progress at rest some f e
 
   module _ (next : ℕ) (is-next : next ≡ at + frame_size rest) where
@@ -99,7 +97,7 @@ module _ (s : List ℕ) (sheet : Sheet) (stage : Stage) (had at : ℕ) (here : R
         ap (λ (xs : List ℕ). read_on xs (at + frame_size rest) g) (drop-drop (frame_size rest) at s)
         ∙ ap (λ (n : ℕ). read_on (drop n s) n g) (sym is-next)
 
-    pub state_foreign : found progress at rest ≡ frame.Foreign → ReadState s sheet stage had next
+    pub state_foreign : found progress at rest ≡ Ok frame.Foreign → ReadState s sheet stage had next
     state_foreign e =
         let w = found-foreign progress at rest e in
         record {
@@ -115,7 +113,7 @@ module _ (s : List ℕ) (sheet : Sheet) (stage : Stage) (had at : ℕ) (here : R
           so_far = here.so_far ∙ read_on-foreign rest at progress some w.0 w.1 ∙ left_behind progress;
         }
 
-    past : cut rest ≡ false → eqb (version_of rest) ours ≡ true → (g : Progress) → first_fault (faults_at progress at rest) ≡ Accepted
+    past : cut rest ≡ false → eqb (version_of rest) ours ≡ true → (g : Progress) → first_fault (faults_at progress at rest) ≡ Ok tt
         → after progress (kind_of rest) (body_of rest) ≡ g → read_sheet s ≡ read_on (drop next s) next g
     past whole v g ok e =
         here.so_far
@@ -123,7 +121,7 @@ module _ (s : List ℕ) (sheet : Sheet) (stage : Stage) (had at : ℕ) (here : R
         ∙ left_behind (after progress (kind_of rest) (body_of rest))
         ∙ ap (λ (x : Progress). read_on (drop next s) next x) e
 
-    pub state_head : (h : Head) → found progress at rest ≡ frame.Head h
+    pub state_head : (h : Head) → found progress at rest ≡ Ok (frame.Head h)
         → ReadState s
         (record {
           head = h;
@@ -157,7 +155,7 @@ module _ (s : List ℕ) (sheet : Sheet) (stage : Stage) (had at : ℕ) (here : R
           so_far = past w.0 w.1 _ read.0 read.2;
         }
 
-    pub state_end : found progress at rest ≡ frame.End → ReadState s sheet Closed had next
+    pub state_end : found progress at rest ≡ Ok frame.End → ReadState s sheet Closed had next
     state_end e =
         let w = found-ours progress at rest frame.End refl e in
         let read = frame_of-end progress at rest w.2 in
@@ -174,8 +172,8 @@ module _ (s : List ℕ) (sheet : Sheet) (stage : Stage) (had at : ℕ) (here : R
           so_far = past w.0 w.1 _ read.0 read.1;
         }
 
-    module _ (b : Booking) (e : found progress at rest ≡ frame.Booking b) where
-      read_booking : (first_fault (faults_at progress at rest) ≡ Accepted) × (b ≡ booking_of (body_of rest))
+    module _ (b : Booking) (e : found progress at rest ≡ Ok (frame.Booking b)) where
+      read_booking : (first_fault (faults_at progress at rest) ≡ Ok tt) × (b ≡ booking_of (body_of rest))
           × (after progress (kind_of rest) (body_of rest) ≡ after_booking progress b)
       read_booking =
           frame_of-booking progress at rest b (found-ours progress at rest (frame.Booking b) refl e).2
@@ -218,14 +216,14 @@ module _ (s : List ℕ) (sheet : Sheet) (stage : Stage) (had at : ℕ) (here : R
             so_far = past w.0 w.1 _ read_booking.0 read_booking.2;
           }
 
-    module _ (j : Job) (e : found progress at rest ≡ frame.Job j) where
+    module _ (j : Job) (e : found progress at rest ≡ Ok (frame.Job j)) where
       whole : cut rest ≡ false
       whole = (found-ours progress at rest (frame.Job j) refl e).0
 
       version : eqb (version_of rest) ours ≡ true
       version = (found-ours progress at rest (frame.Job j) refl e).1
 
-      judged-job : judgement progress at rest ≡ frame.Job j
+      judged-job : judgement progress at rest ≡ Ok (frame.Job j)
       judged-job = (found-ours progress at rest (frame.Job j) refl e).2
 
       job-found : SoundJob here.contents.head.benches (length here.contents.jobs) j
@@ -304,7 +302,7 @@ part_is s at = take_all (length s - at) (drop at s) (rw length-drop (omega arith
 pub next_is : (s : List ℕ) (at size : ℕ) → size ≡ frame_size (take (length s - at) (drop at s)) → at + size ≡ at + frame_size (drop at s)
 next_is s at size e = ap (λ (n : ℕ). at + n) (e ∙ ap (λ (xs : List ℕ). frame_size xs) (part_is s at))
 
-pub found-is : (s : List ℕ) (sheet : Sheet) (stage : Stage) (had at : ℕ) (here : ReadState s sheet stage had at) (x y : Frame)
+pub found-is : (s : List ℕ) (sheet : Sheet) (stage : Stage) (had at : ℕ) (here : ReadState s sheet stage had at) (x y : Result Frame Fault)
     → x ≡ frame_at stage sheet.head.benches sheet.count (is_set 64 had) at (take (length s - at) (drop at s))
     → x ≡ y
     → found (record { stage = stage; had = here.benches_had; contents = here.contents }) at (drop at s) ≡ y
@@ -322,11 +320,16 @@ found-is s sheet stage had at here x y e w =
 
 -- ── after the loop ──
 
+-- The sheet, if the verdict v accepts it.
+abbrev pub reading_of : Verdict → Sheet → Result Sheet Fault
+reading_of (Ok _) sheet = Ok sheet
+reading_of (Err f) sheet = Err f
+
 reading-judged : (v : Verdict) (c : Contents) (sheet : Sheet) → sheet ≡ sheet_of c
     → reading_of v sheet ≡ stored (judged v c)
 unfolding stored
-reading-judged Accepted c sheet e = ap (λ (x : Sheet). record { verdict = Accepted; sheet = x }) e
-reading-judged (Refused f) c sheet e = refl
+reading-judged (Ok _) c sheet e = ap Ok e
+reading-judged (Err f) c sheet e = refl
 
 -- What the arrays of a sheet hold.
 abbrev pub contents_in : Sheet → Contents
@@ -352,7 +355,7 @@ module _ (s : List ℕ) (sheet : Sheet) (stage : Stage) (had at : ℕ) (here : R
       ∙ ap (λ (js : List Job). record { head = here.contents.head; booked = here.contents.booked; jobs = js })
       (table-padded here.contents.jobs)
 
-  pub state_over : length s ≤ at → (r : Reading) → r ≡ reading_of (end_verdict stage at (contents_in sheet)) sheet
+  pub state_over : length s ≤ at → (r : Result Sheet Fault) → r ≡ reading_of (end_verdict stage at (contents_in sheet)) sheet
       → r ≡ stored (read_sheet s)
   state_over over r e =
       e

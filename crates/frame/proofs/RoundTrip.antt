@@ -47,7 +47,7 @@ use Rattle.fields.specs.declared.sheet.Booking.{Booking}
 use Rattle.fields.specs.declared.sheet.Job.{Job}
 use Rattle.fields.specs.Contents.{Contents, booked_at, no_bookings, every_bench}
 use Rattle.judging.specs.declared.judge.Stage.TheVariants.{Start, Open, Closed}
-use Rattle.fields.specs.declared.fault.Verdict.TheVariants.{Accepted}
+use Rattle.std.specs.Prelude.{Ok}
 use Rattle.fields.specs.Format.{ours, head_kind, job_kind, end_kind, booking_kind, header_layout, head_layout, job_layout}
 use Rattle.fields.specs.Format.{booking_layout, header_size, version_of, kind_of, length_of, frame_size, body_of}
 use Rattle.fields.specs.Format.{head_of, job_of, booking_of, spare_of, frame_bytes, head_frame, booking_frame, job_frame, end_frame}
@@ -111,13 +111,13 @@ module _ (kind : ℕ) (body rest : List ℕ) (kind_fits : kind < 2 ^ 4) (body-fi
   pub read_from-frame : (k at : ℕ) (g : Progress)
       → first_fault
       (frame_faults g.stage g.contents.head.benches (length g.contents.jobs) g.had at kind body)
-      ≡ Accepted
+      ≡ Ok tt
       → read_from (suc k) (frame_bytes kind body ++ rest) at g ≡ read_from k rest (at + length (frame_bytes kind body)) (after g kind body)
   read_from-frame k at g e =
       let frame = frame_bytes kind body ++ rest in
       let some : eqb (length frame) 0 ≡ false =
       ne_eqb (length frame) 0 (omega (arith, length-append (frame_bytes kind body) rest, length-frame_bytes kind body)) in
-      let sound : first_fault (faults_at g at frame) ≡ Accepted = rw (kind_of-frame, body_of-frame) e in
+      let sound : first_fault (faults_at g at frame) ≡ Ok tt = rw (kind_of-frame, body_of-frame) e in
       read_from-next k frame at g some cut-frame (eq-eqb _ _ version_of-frame) sound
       ∙ rw (drop-frame, frame_size-frame, kind_of-frame, body_of-frame)
 
@@ -175,7 +175,7 @@ unfolding frame_faults after
 read_from-head_frame h s k rest at =
     let fit = Fit-head h s in
     let size = length-head_body h in
-    let sound : first_fault (frame_faults Start 0 0 none_had at head_kind (head_body h)) ≡ Accepted =
+    let sound : first_fault (frame_faults Start 0 0 none_had at head_kind (head_body h)) ≡ Ok tt =
     rw (eq-eqb (length (head_body h)) 7 size, eq-eqb _ 0 (spare_of-head_body h fit))
     (ap (λ (x : Head). first_fault (head_faults x at)) (head_of-head_body h fit) ∙ sound-head h at s) in
     read_from-frame head_kind (head_body h) rest (lit< tt) (omega arith) k at nothing_read sound
@@ -193,7 +193,7 @@ read_from-booking_frame had c b none below inside fits free k rest at =
     let size = length-booking_body b in
     let no-fault : booking_fault m b ≡ false =
     or-false (lt-leb m b.bench below) (lt-leb (2 ^ 20) b.minutes fits) in
-    let sound : first_fault (frame_faults Open m (length c.jobs) had at booking_kind (booking_body b)) ≡ Accepted =
+    let sound : first_fault (frame_faults Open m (length c.jobs) had at booking_kind (booking_body b)) ≡ Ok tt =
     rw (none, eq-eqb (length (booking_body b)) 4 size, eq-eqb _ 0 (spare_of-booking_body b fit))
     (ap (λ (x : Booking). first_fault (booking_faults m had x at)) (booking_of-booking_body b fit)
     ∙ rw (no-fault, free)) in
@@ -212,7 +212,7 @@ read_from-job_frame had c j s w k rest at =
     let n : ℕ = length c.jobs in
     let fit = Fit-job m n j s w in
     let size = length-job_body j in
-    let sound : first_fault (frame_faults Open m n had at job_kind (job_body j)) ≡ Accepted =
+    let sound : first_fault (frame_faults Open m n had at job_kind (job_body j)) ≡ Ok tt =
     rw (eq-eqb (length (job_body j)) 11 size, eq-eqb _ 0 (spare_of-job_body j fit))
     (ap (λ (x : Job). first_fault (job_faults m n x at)) (job_of-job_body j fit) ∙ sound-job m n j at s) in
     read_from-frame job_kind (job_body j) rest (lit< tt) (omega arith) k at (reading had c) sound
@@ -353,7 +353,7 @@ sheet_bytes-parts c =
 -- The head frame is read first, then the frames of the bookings above 0, then the job frames, one for each job, then
 -- the end frame. The bound on the frames is the number of bytes; by read_from-enough it may be taken larger, as a sum of
 -- the frames of each kind.
-pub write_read : (c : Contents) → writer_verdict c ≡ Accepted
+pub write_read : (c : Contents) → writer_verdict c ≡ Ok tt
     → ((i : ℕ) → i < length c.jobs → (job_at c.jobs i).allowed < 2 ^ 64)
     → read_sheet (sheet_bytes c) ≡ accepted (as_read c)
 unfolding read_sheet
@@ -387,11 +387,11 @@ as_read-same c e =
     ap (λ (bs : List ℕ). record { head = c.head; booked = bs; jobs = c.jobs })
     (ap (λ (n : ℕ). table n (booked_at c.booked)) (sym e) ∙ table-get_or c.booked 0)
 
-pub write_read_same : (c : Contents) → writer_verdict c ≡ Accepted → length c.booked ≡ 64
+pub write_read_same : (c : Contents) → writer_verdict c ≡ Ok tt → length c.booked ≡ 64
     → ((i : ℕ) → i < length c.jobs → (job_at c.jobs i).allowed < 2 ^ 64) → read_sheet (sheet_bytes c) ≡ accepted c
 write_read_same c e size w = write_read c e w ∙ ap accepted (as_read-same c size)
 
-pub write_read_computed : (c : Contents) → writer_verdict c ≡ Accepted → length c.booked ≡ 64
+pub write_read_computed : (c : Contents) → writer_verdict c ≡ Ok tt → length c.booked ≡ 64
     → all (length c.jobs) (λ i. ltb (job_at c.jobs i).allowed (2 ^ 64)) ≡ true
     → read_sheet (sheet_bytes c) ≡ accepted c
 write_read_computed c e size narrow =
@@ -400,8 +400,8 @@ write_read_computed c e size narrow =
     (all_elim (length c.jobs) (λ i. ltb (job_at c.jobs i).allowed (2 ^ 64)) narrow i l))
 
 pub sheet_bytes-injective : (c e : Contents)
-    → writer_verdict c ≡ Accepted → ((i : ℕ) → i < length c.jobs → (job_at c.jobs i).allowed < 2 ^ 64)
-    → writer_verdict e ≡ Accepted → ((i : ℕ) → i < length e.jobs → (job_at e.jobs i).allowed < 2 ^ 64)
+    → writer_verdict c ≡ Ok tt → ((i : ℕ) → i < length c.jobs → (job_at c.jobs i).allowed < 2 ^ 64)
+    → writer_verdict e ≡ Ok tt → ((i : ℕ) → i < length e.jobs → (job_at e.jobs i).allowed < 2 ^ 64)
     → sheet_bytes c ≡ sheet_bytes e → as_read c ≡ as_read e
 sheet_bytes-injective c e a v b w same_bytes =
     let same : accepted (as_read c) ≡ accepted (as_read e) =

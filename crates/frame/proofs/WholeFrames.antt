@@ -32,10 +32,9 @@ use Rattle.bools.proofs.OrderLaws.{measure_induction}
 use Rattle.bits.proofs.LayoutLaws.{field-append, field-take}
 use Rattle.fields.specs.declared.fault.Fault.{Fault}
 use Rattle.fields.specs.declared.fault.Fault.TheVariants.{Truncated}
-use Rattle.fields.specs.declared.fault.Verdict.{Verdict}
-use Rattle.fields.specs.declared.fault.Verdict.TheVariants.{Accepted, Refused}
+use Rattle.std.specs.Prelude.{Ok, Err}
 use Rattle.fields.specs.Format.{ours, header_layout, header_size, version_of, kind_of, length_of, frame_size, body_of}
-use Rattle.fields.specs.Tests.{first_fault}
+use Rattle.fields.specs.Tests.{Verdict, first_fault}
 use Rattle.judging.specs.FrameTests.{cut}
 use Rattle.frame.specs.Reading.{Progress, refused, nothing_read, faults_at, after, read_from, read_sheet}
 use Rattle.frame.specs.Frames.{WholeFrame, read_on}
@@ -89,13 +88,13 @@ module _ (f rest : List ℕ) (w : WholeFrame f) where
       ours-append : eqb (version_of (f ++ rest)) ours ≡ true
       ours-append = eq-eqb (version_of (f ++ rest)) ours (version_of-append ∙ v)
 
-      pub read_from-past_sound : first_fault (faults_at g at f) ≡ Accepted
+      pub read_from-past_sound : first_fault (faults_at g at f) ≡ Ok tt
           → read_from (suc k) (f ++ rest) at g ≡ read_from k rest (at + length f) (after g (kind_of f) (body_of f))
       read_from-past_sound e =
           read_from-next k (f ++ rest) at g some_append cut-append ours-append (ap first_fault (faults_at-append g at) ∙ e)
           ∙ cc (drop-append, frame_size-append, kind_of-append, body_of-append)
 
-      pub read_from-in_frame : (x : Fault) → first_fault (faults_at g at f) ≡ Refused x → read_from (suc k) (f ++ rest) at g ≡ refused x
+      pub read_from-in_frame : (x : Fault) → first_fault (faults_at g at f) ≡ Err x → read_from (suc k) (f ++ rest) at g ≡ refused x
       read_from-in_frame x e =
           read_from-fault k (f ++ rest) at g some_append cut-append x ours-append (ap first_fault (faults_at-append g at) ∙ e)
 
@@ -111,12 +110,12 @@ module _ (f rest : List ℕ) (w : WholeFrame f) (at : ℕ) (g : Progress) where
   read_on-past_foreign v = one_more ∙ read_from-past_foreign f rest w (length (f ++ rest)) at g v ∙ behind g
 
   module _ (v : version_of f ≡ ours) where
-    pub read_on-past_sound : first_fault (faults_at g at f) ≡ Accepted
+    pub read_on-past_sound : first_fault (faults_at g at f) ≡ Ok tt
         → read_on (f ++ rest) at g ≡ read_on rest (at + length f) (after g (kind_of f) (body_of f))
     read_on-past_sound e =
         one_more ∙ read_from-past_sound f rest w (length (f ++ rest)) at g v e ∙ behind (after g (kind_of f) (body_of f))
 
-    pub read_on-in_frame : (x : Fault) → first_fault (faults_at g at f) ≡ Refused x → read_on (f ++ rest) at g ≡ refused x
+    pub read_on-in_frame : (x : Fault) → first_fault (faults_at g at f) ≡ Err x → read_on (f ++ rest) at g ≡ refused x
     read_on-in_frame x e = one_more ∙ read_from-in_frame f rest w (length (f ++ rest)) at g v x e
 
 -- ── the frame at the start of a list of bytes ──
@@ -156,9 +155,9 @@ frames_induction P over inside frame = measure_induction length P step
 
 -- ── the whole sheet ──
 
-pub verdict_cases : (v : Verdict) → (v ≡ Accepted) ⊎ ((f : Fault) × (v ≡ Refused f))
-verdict_cases Accepted = inl refl
-verdict_cases (Refused f) = inr (f, refl)
+pub verdict_cases : (v : Verdict) → (v ≡ Ok tt) ⊎ ((f : Fault) × (v ≡ Err f))
+verdict_cases (Ok _) = inl refl
+verdict_cases (Err f) = inr (f, refl)
 
 pub read_on-cut : (rest : List ℕ) (at : ℕ) (g : Progress) → 0 < length rest → cut rest ≡ true → read_on rest at g ≡ refused (Truncated at)
 read_on-cut rest at g h c =

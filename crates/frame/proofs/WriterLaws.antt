@@ -34,11 +34,9 @@ use Rattle.fields.specs.declared.sheet.Head.{Head}
 use Rattle.fields.specs.declared.sheet.Job.{Job}
 use Rattle.fields.specs.Contents.{Contents}
 use Rattle.fields.specs.declared.fault.Fault.{Fault}
-use Rattle.fields.specs.declared.fault.Verdict.{Verdict}
-use Rattle.fields.specs.declared.fault.Verdict.TheVariants.{Accepted, Refused}
+use Rattle.fields.specs.Tests.{Verdict}
+use Rattle.std.specs.Prelude.{Result, Ok, Err}
 use Rattle.fields.specs.Format.{allows, bookings, sheet_bytes}
-use Rattle.frame.specs.declared.written.Written.{Written}
-use Rattle.frame.specs.declared.written.Written.TheVariants.{Length, Refusal}
 use Rattle.fields.specs.Tests.{booked_faults, first_fault, head_faults, job_faults, no_job, job_at, bench_count_fault, share_fault, job_count_fault, minutes_fault, allowed_fault}
 pub use Rattle.bookings.proofs.BookingLaws.{cond-accepted}
 use Rattle.bookings.proofs.BookingLaws.{bookings-fit, fit-bookings}
@@ -48,9 +46,9 @@ use Rattle.frame.specs.Sound.{SoundHead, SoundBookings, SoundJob, SoundSheet}
 
 -- ── verdicts ──
 
-pub and_then-accepted : (v w : Verdict) → and_then v w ≡ Accepted → (v ≡ Accepted) × (w ≡ Accepted)
-and_then-accepted Accepted w e = (refl, e)
-and_then-accepted (Refused f) w e = let z : ◌≡◌ {A = ℕ} 0 1 = cc in absurd (omega arith)
+pub and_then-accepted : (v w : Verdict) → and_then v w ≡ Ok tt → (v ≡ Ok tt) × (w ≡ Ok tt)
+and_then-accepted (Ok _) w e = (refl, e)
+and_then-accepted (Err f) w e = let z : ◌≡◌ {A = ℕ} 0 1 = cc in absurd (omega arith)
 
 none_of_three : (a b c : Bool) → (a || b || c) ≡ false → (a ≡ false) × (b ≡ false) × (c ≡ false)
 none_of_three a b c e =
@@ -70,13 +68,13 @@ share_fault-none h e =
     let b = none_of_three (eqb h.q 0) (ltb (7 * h.p) (4 * h.q)) (leb h.q h.p) a.0 in
     omega tests
 
-pub head_sound : (h : Head) (at : ℕ) → first_fault (head_faults h at) ≡ Accepted → SoundHead h
+pub head_sound : (h : Head) (at : ℕ) → first_fault (head_faults h at) ≡ Ok tt → SoundHead h
 head_sound h at e =
     let a = cond-accepted (bench_count_fault h) _ _ e in
     let b = cond-accepted (share_fault h) _ _ a.1 in
     omega (tests, bench_count_fault-none h a.0, share_fault-none h b.0)
 
-pub sound-head : (h : Head) (at : ℕ) → SoundHead h → first_fault (head_faults h at) ≡ Accepted
+pub sound-head : (h : Head) (at : ℕ) → SoundHead h → first_fault (head_faults h at) ≡ Ok tt
 sound-head h at s =
     let no-bench : eqb h.benches 0 ≡ false = omega tests in
     let many-benches : ltb 64 h.benches ≡ false = omega tests in
@@ -90,14 +88,14 @@ sound-head h at s =
 
 -- ── bookings ──
 
-pub bookings-sound : (m : ℕ) (bs : List ℕ) → first_fault (booked_faults m (bookings bs)) ≡ Accepted → SoundBookings m bs
+pub bookings-sound : (m : ℕ) (bs : List ℕ) → first_fault (booked_faults m (bookings bs)) ≡ Ok tt → SoundBookings m bs
 bookings-sound m bs e =
     record { booked_fit = λ b. (bookings-fit m bs e b).0; none_past_head = λ b. (bookings-fit m bs e b).1 }
 
-pub sound-bookings : (m : ℕ) (bs : List ℕ) → SoundBookings m bs → first_fault (booked_faults m (bookings bs)) ≡ Accepted
+pub sound-bookings : (m : ℕ) (bs : List ℕ) → SoundBookings m bs → first_fault (booked_faults m (bookings bs)) ≡ Ok tt
 sound-bookings m bs s = fit-bookings m bs s.booked_fit s.none_past_head
 
-pub opening_sound : (h : Head) (bs : List ℕ) → opening_verdict h bs ≡ Accepted
+pub opening_sound : (h : Head) (bs : List ℕ) → opening_verdict h bs ≡ Ok tt
     → SoundHead h × SoundBookings h.benches bs
 unfolding opening_verdict
 opening_sound h bs e =
@@ -105,13 +103,13 @@ opening_sound h bs e =
     (head_sound h 0 a.0, bookings-sound h.benches bs a.1)
 
 pub sound_opening : (h : Head) (bs : List ℕ) → SoundHead h → SoundBookings h.benches bs
-    → opening_verdict h bs ≡ Accepted
+    → opening_verdict h bs ≡ Ok tt
 unfolding opening_verdict
 sound_opening h bs s b = rw (sound-head h 0 s, sound-bookings h.benches bs b)
 
 -- ── a job ──
 
-pub job_sound : (m n : ℕ) (j : Job) (at : ℕ) → first_fault (job_faults m n j at) ≡ Accepted → SoundJob m n j
+pub job_sound : (m n : ℕ) (j : Job) (at : ℕ) → first_fault (job_faults m n j at) ≡ Ok tt → SoundJob m n j
 job_sound m n j at e =
     let a = cond-accepted (job_count_fault n) _ _ e in
     let b = cond-accepted (minutes_fault j) _ _ a.1 in
@@ -129,7 +127,7 @@ job_sound m n j at e =
       ];
     }
 
-pub sound-job : (m n : ℕ) (j : Job) (at : ℕ) → SoundJob m n j → first_fault (job_faults m n j at) ≡ Accepted
+pub sound-job : (m n : ℕ) (j : Job) (at : ℕ) → SoundJob m n j → first_fault (job_faults m n j at) ≡ Ok tt
 sound-job m n j at s =
     let count : job_count_fault n ≡ false = omega tests in
     let wide : leb (2 ^ 20) j.minutes ≡ false = omega tests in
@@ -144,7 +142,7 @@ sound-job m n j at s =
 
 -- ── a list of jobs ──
 
-pub jobs_verdict-sound : (m n : ℕ) (js : List Job) → jobs_verdict m n js ≡ Accepted
+pub jobs_verdict-sound : (m n : ℕ) (js : List Job) → jobs_verdict m n js ≡ Ok tt
     → (i : ℕ) → i < length js → SoundJob m (n + i) (job_at js i)
 unfolding jobs_verdict
 jobs_verdict-sound m n [] e i l = absurd (omega arith)
@@ -154,20 +152,20 @@ jobs_verdict-sound m n (j ∷ js) e (suc i) l =
     rw (add-suc, ← suc-add) (jobs_verdict-sound m (suc n) js (and_then-accepted (first_fault (job_faults m n j n)) _ e).1 i (omega arith))
 
 pub sound-jobs_verdict : (m n : ℕ) (js : List Job) → ((i : ℕ) → i < length js → SoundJob m (n + i) (job_at js i))
-    → jobs_verdict m n js ≡ Accepted
+    → jobs_verdict m n js ≡ Ok tt
 unfolding jobs_verdict
 sound-jobs_verdict m n [] s = refl
 sound-jobs_verdict m n (j ∷ js) s =
-    let first : first_fault (job_faults m n j n) ≡ Accepted = sound-job m n j n (rw add-zero at (s 0 (omega arith))) in
-    let rest : jobs_verdict m (suc n) js ≡ Accepted =
+    let first : first_fault (job_faults m n j n) ≡ Ok tt = sound-job m n j n (rw add-zero at (s 0 (omega arith))) in
+    let rest : jobs_verdict m (suc n) js ≡ Ok tt =
     sound-jobs_verdict m (suc n) js (λ i l. rw (suc-add, ← add-suc) (s (suc i) (omega arith))) in
     rw (first, rest)
 
 pub jobs_verdict-none : (m n : ℕ) (js : List Job)
-    → (jobs_verdict m n js ≡ Accepted) ↔ ((i : ℕ) → i < length js → SoundJob m (n + i) (job_at js i))
+    → (jobs_verdict m n js ≡ Ok tt) ↔ ((i : ℕ) → i < length js → SoundJob m (n + i) (job_at js i))
 jobs_verdict-none m n js = (jobs_verdict-sound m n js, sound-jobs_verdict m n js)
 
-pub jobs_bound : (m n : ℕ) (js : List Job) → jobs_verdict m n js ≡ Accepted → n ≤ 512 → n + length js ≤ 512
+pub jobs_bound : (m n : ℕ) (js : List Job) → jobs_verdict m n js ≡ Ok tt → n ≤ 512 → n + length js ≤ 512
 unfolding jobs_verdict
 jobs_bound m n [] e h = omega arith
 jobs_bound m n (j ∷ js) e h =
@@ -176,17 +174,17 @@ jobs_bound m n (j ∷ js) e h =
 
 -- ── the loop over the jobs ──
 
-pub jobs_verdict-drop : (m n i : ℕ) (js : List Job) → i < length js → first_fault (job_faults m (n + i) (job_at js i) (n + i)) ≡ Accepted
+pub jobs_verdict-drop : (m n i : ℕ) (js : List Job) → i < length js → first_fault (job_faults m (n + i) (job_at js i) (n + i)) ≡ Ok tt
     → jobs_verdict m (n + i) (drop i js) ≡ jobs_verdict m (n + suc i) (drop (suc i) js)
 unfolding jobs_verdict
 jobs_verdict-drop m n i js l e = rw (drop-cons js i no_job, e, add-suc)
 
 pub jobs_verdict-fault : (m n i : ℕ) (js : List Job) (f : Fault) → i < length js
-    → first_fault (job_faults m (n + i) (job_at js i) (n + i)) ≡ Refused f → jobs_verdict m (n + i) (drop i js) ≡ Refused f
+    → first_fault (job_faults m (n + i) (job_at js i) (n + i)) ≡ Err f → jobs_verdict m (n + i) (drop i js) ≡ Err f
 unfolding jobs_verdict
 jobs_verdict-fault m n i js f l e = rw (drop-cons js i no_job, e)
 
-pub jobs_verdict-over : (m n i : ℕ) (js : List Job) → length js ≤ i → jobs_verdict m (n + i) (drop i js) ≡ Accepted
+pub jobs_verdict-over : (m n i : ℕ) (js : List Job) → length js ≤ i → jobs_verdict m (n + i) (drop i js) ≡ Ok tt
 unfolding jobs_verdict
 jobs_verdict-over m n zero [] h = refl
 jobs_verdict-over m n zero (j ∷ js) h = absurd (omega arith)
@@ -195,7 +193,7 @@ jobs_verdict-over m n (suc i) (j ∷ js) h = rw (add-suc, ← suc-add) (jobs_ver
 
 -- ── the whole sheet ──
 
-pub writer_verdict-sound : (c : Contents) → writer_verdict c ≡ Accepted → SoundSheet c
+pub writer_verdict-sound : (c : Contents) → writer_verdict c ≡ Ok tt → SoundSheet c
 unfolding writer_verdict
 writer_verdict-sound c e =
     let a = and_then-accepted (opening_verdict c.head c.booked) _ e in
@@ -209,30 +207,30 @@ writer_verdict-sound c e =
       no_heavy_hyper_edge = b.1;
     }
 
-pub sound-writer_verdict : (c : Contents) → SoundSheet c → writer_verdict c ≡ Accepted
+pub sound-writer_verdict : (c : Contents) → SoundSheet c → writer_verdict c ≡ Ok tt
 unfolding writer_verdict
 sound-writer_verdict c s =
     let opening = sound_opening c.head c.booked s.head s.bookings in
-    let jobs : jobs_verdict c.head.benches 0 c.jobs ≡ Accepted =
+    let jobs : jobs_verdict c.head.benches 0 c.jobs ≡ Ok tt =
     sound-jobs_verdict c.head.benches 0 c.jobs (λ i l. rw zero-add (s.jobs i l)) in
     rw (opening, jobs) s.no_heavy_hyper_edge
 
 -- ── what is returned ──
 
-pub write_accepted : (c : Contents) (room : ℕ) → writer_verdict c ≡ Accepted
+pub write_accepted : (c : Contents) (room : ℕ) → writer_verdict c ≡ Ok tt
     → write_sheet c room ≡ fitted (length (sheet_bytes c)) room
 unfolding write_sheet
 write_accepted c room e = rw (e, write_sheet)
 
-pub write_refused : (c : Contents) (room : ℕ) (f : Fault) → writer_verdict c ≡ Refused f → write_sheet c room ≡ Refusal f
+pub write_refused : (c : Contents) (room : ℕ) (f : Fault) → writer_verdict c ≡ Err f → write_sheet c room ≡ Err f
 unfolding write_sheet
 write_refused c room f e = rw (e, write_sheet)
 
-pub output-refused : (w : Written) (f : Fault) (c : Contents) (out : List ℕ) → w ≡ Refusal f → output w c out ≡ out
+pub output-refused : (w : Result ℕ Fault) (f : Fault) (c : Contents) (out : List ℕ) → w ≡ Err f → output w c out ≡ out
 unfolding output
 output-refused w f c out e = rw e
 
 pub output-later : (n : ℕ) (c : Contents) (out : List ℕ) → length (sheet_bytes c) ≡ n
-    → drop n (output (Length n) c out) ≡ drop n out
+    → drop n (output (Ok n) c out) ≡ drop n out
 unfolding output
 output-later n c out e = drop_at (sheet_bytes c) (drop n out) n e

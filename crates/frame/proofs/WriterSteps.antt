@@ -35,12 +35,10 @@ use Rattle.fields.specs.declared.sheet.Job.{Job}
 use Rattle.fields.specs.Contents.{Contents}
 use Rattle.fields.specs.declared.fault.Fault.{Fault}
 use Rattle.fields.specs.declared.fault.Fault.TheVariants.{Table}
-use Rattle.fields.specs.declared.fault.Verdict.{Verdict}
-use Rattle.fields.specs.declared.fault.Verdict.TheVariants.{Accepted, Refused}
-use Rattle.frame.specs.declared.written.Written.TheVariants.{Length, Refusal}
+use Rattle.std.specs.Prelude.{Ok, Err}
 use Rattle.fields.specs.Format.{head_frame, job_frame, end_frame, bookings, booking_frames, job_frames, sheet_bytes}
 use Rattle.fields.specs.Tests.{first_fault, head_faults, booked_faults, job_faults, no_job, no_minutes, job_at, job_table}
-use Rattle.fields.specs.Tests.{hyper_edge_verdict}
+use Rattle.fields.specs.Tests.{Verdict, hyper_edge_verdict}
 use Rattle.packing.specs.Packing.{frame_put}
 use Rattle.bookings.specs.Bookings.{cut_bookings}
 use Rattle.bookings.proofs.BookingLaws.{few-bookings, cut_bookings-fit}
@@ -101,7 +99,7 @@ jobs_more start out ms bs i j l first m b second =
 
 -- The part of the output that is left for the bookings is as long as their frames.
 pub bookings-put : (m : ℕ) (booked out : List ℕ) {n : ℕ} → m ≤ 64
-    → first_fault (booked_faults m (bookings booked)) ≡ Accepted
+    → first_fault (booked_faults m (bookings booked)) ≡ Ok tt
     → n ≡ 7 * length (bookings booked) → 10 + n ≤ length out
     → frame_put (booking_frames (cut_bookings (bookings booked))) 0 (take n (drop 10 out))
     ≡ booking_frames (bookings booked)
@@ -158,50 +156,50 @@ module _ (m n : ℕ) (ms bs : List ℕ) where
   found i j l p q e a = rw (zero-add i, job_at_lem n ms bs i l, ← p, ← q) (sym e ∙ a)
 
   pub jobs_sound : (i : ℕ) (j : Job) {v : Verdict} → i < n → j.minutes ≡ get_or ms i no_minutes → j.allowed ≡ get_or bs i 0
-      → v ≡ first_fault (job_faults m i j i) → v ≡ Accepted → verdict_from i ≡ verdict_from (i + 1)
+      → v ≡ first_fault (job_faults m i j i) → v ≡ Ok tt → verdict_from i ≡ verdict_from (i + 1)
   jobs_sound i j l p q e a =
       rw (add-one i)
       (simp zero-add at (jobs_verdict-drop m 0 i (job_table n ms bs) (omega (arith, length-job_table n ms bs)) (found i j l p q e a)))
 
   pub jobs_fault : (i : ℕ) (j : Job) {v : Verdict} {f : Fault} → i < n → j.minutes ≡ get_or ms i no_minutes
       → j.allowed ≡ get_or bs i 0
-      → v ≡ first_fault (job_faults m i j i) → v ≡ Refused f → verdict_from i ≡ Refused f
+      → v ≡ first_fault (job_faults m i j i) → v ≡ Err f → verdict_from i ≡ Err f
   jobs_fault i j {f = f} l p q e a =
       rw zero-add at (jobs_verdict-fault m 0 i (job_table n ms bs) f (omega (arith, length-job_table n ms bs)) (found i j l p q e a))
 
-  pub jobs_over : (i : ℕ) → n ≤ i → verdict_from i ≡ Accepted
+  pub jobs_over : (i : ℕ) → n ≤ i → verdict_from i ≡ Ok tt
   jobs_over i l = rw zero-add at (jobs_verdict-over m 0 i (job_table n ms bs) (omega (arith, length-job_table n ms bs)))
 
 -- ── the verdict on the contents ──
 
 module _ (h : Head) (booked : List ℕ) {v : Verdict} (head : v ≡ first_fault (head_faults h 0)) where
-  pub opening_refused : {f : Fault} → v ≡ Refused f → Refused f ≡ opening_verdict h booked
+  pub opening_refused : {f : Fault} → v ≡ Err f → Err f ≡ opening_verdict h booked
   unfolding opening_verdict
   opening_refused a = rw (← head, a)
 
-  pub opening_passed : {w : Verdict} → v ≡ Accepted → w ≡ first_fault (booked_faults h.benches (bookings booked))
+  pub opening_passed : {w : Verdict} → v ≡ Ok tt → w ≡ first_fault (booked_faults h.benches (bookings booked))
       → w ≡ opening_verdict h booked
   unfolding opening_verdict
   opening_passed a e = rw (← head, a) e
 
 module _ (c : Contents) {v : Verdict} (opening : v ≡ opening_verdict c.head c.booked) where
-  pub opening_fault : {f : Fault} → v ≡ Refused f → Refused f ≡ writer_verdict c
+  pub opening_fault : {f : Fault} → v ≡ Err f → Err f ≡ writer_verdict c
   unfolding writer_verdict
   opening_fault a = rw (← opening, a)
 
-  pub job_fault : {w : Verdict} {f : Fault} → v ≡ Accepted → w ≡ jobs_verdict c.head.benches 0 c.jobs
-      → w ≡ Refused f → Refused f ≡ writer_verdict c
+  pub job_fault : {w : Verdict} {f : Fault} → v ≡ Ok tt → w ≡ jobs_verdict c.head.benches 0 c.jobs
+      → w ≡ Err f → Err f ≡ writer_verdict c
   unfolding writer_verdict
   job_fault a jobs b = rw (← opening, a, ← jobs, b)
 
-  pub all_checked : {w x : Verdict} → v ≡ Accepted → w ≡ jobs_verdict c.head.benches 0 c.jobs → w ≡ Accepted
+  pub all_checked : {w x : Verdict} → v ≡ Ok tt → w ≡ jobs_verdict c.head.benches 0 c.jobs → w ≡ Ok tt
       → x ≡ hyper_edge_verdict c.head c.jobs → x ≡ writer_verdict c
   unfolding writer_verdict
   all_checked a jobs b last = rw (← opening, a, ← jobs, b) last
 
 pub hyper_edges_ready : (h : Head) (booked : List ℕ) (n : ℕ) (ms bs : List ℕ) {v w : Verdict}
-    → v ≡ opening_verdict h booked → v ≡ Accepted
-    → w ≡ jobs_verdict h.benches 0 (job_table n ms bs) → w ≡ Accepted
+    → v ≡ opening_verdict h booked → v ≡ Ok tt
+    → w ≡ jobs_verdict h.benches 0 (job_table n ms bs) → w ≡ Ok tt
     → (h.p < 128) × (h.q < 128) × ((i : ℕ) → i < n → get_or ms i no_minutes < 2 ^ 20)
 hyper_edges_ready h booked n ms bs opening a jobs b =
     let s = (opening_sound h booked (sym opening ∙ a)).0 in
@@ -212,10 +210,10 @@ hyper_edges_ready h booked n ms bs opening a jobs b =
 
 module _ (h : Head) (booked : List ℕ) (n : ℕ) (ms bs : List ℕ) {v : Verdict}
     (e : v ≡ writer_verdict (given h booked n ms bs)) where
-  pub refused : (room : ℕ) {f : Fault} → v ≡ Refused f → Refusal f ≡ write_sheet (given h booked n ms bs) room
+  pub refused : (room : ℕ) {f : Fault} → v ≡ Err f → Err f ≡ write_sheet (given h booked n ms bs) room
   refused room {f} a = sym (write_refused (given h booked n ms bs) room f (sym e ∙ a))
 
-  module _ (a : v ≡ Accepted) where
+  module _ (a : v ≡ Ok tt) where
     sound : SoundSheet (given h booked n ms bs)
     sound = writer_verdict-sound (given h booked n ms bs) (sym e ∙ a)
 
@@ -225,7 +223,7 @@ module _ (h : Head) (booked : List ℕ) (n : ℕ) (ms bs : List ℕ) {v : Verdic
     pub few_benches : h.benches ≤ 64
     few_benches = sound.head.at_most_64_benches
 
-    pub bookings-ready : first_fault (booked_faults h.benches (bookings booked)) ≡ Accepted
+    pub bookings-ready : first_fault (booked_faults h.benches (bookings booked)) ≡ Ok tt
     bookings-ready = sound-bookings h.benches booked sound.bookings
 
     pub bookings-few : length (bookings booked) ≤ 64
@@ -244,9 +242,9 @@ module _ (h : Head) (booked : List ℕ) (n : ℕ) (ms bs : List ℕ) {v : Verdic
           omega (arith, length-sheet_bytes (given h booked n ms bs), length-job_table n ms bs) in
           write_accepted (given h booked n ms bs) room (sym e ∙ a) ∙ ap (λ (k : ℕ). fitted k room) size
 
-      pub no_room : room < start + 14 * n + 3 → Refusal (Table 0) ≡ write_sheet (given h booked n ms bs) room
+      pub no_room : room < start + 14 * n + 3 → Err (Table 0) ≡ write_sheet (given h booked n ms bs) room
       no_room l = rw (fits, lt-leb (start + 14 * n + 3) room l)
 
       pub all-written : start + 14 * n + 3 ≤ room
-          → Length (start + 14 * n + 3) ≡ write_sheet (given h booked n ms bs) room
+          → Ok (start + 14 * n + 3) ≡ write_sheet (given h booked n ms bs) room
       all-written l = rw (fits, le-leb (start + 14 * n + 3) room l)

@@ -29,7 +29,7 @@ use Rattle.fields.specs.Contents.{Contents}
 use Rattle.judging.specs.declared.judge.Stage.{Stage}
 use Rattle.judging.specs.declared.judge.Stage.TheVariants.{Start}
 use Rattle.fields.specs.declared.fault.Fault.{Fault}
-use Rattle.fields.specs.declared.fault.Verdict.TheVariants.{Accepted, Refused}
+use Rattle.std.specs.Prelude.{Ok, Err}
 use Rattle.fields.specs.Format.{ours, head_kind, job_kind, booking_kind, version_of, kind_of, body_of}
 use Rattle.fields.specs.Format.{booking_of, booking_frame}
 use Rattle.fields.specs.Tests.{first_fault}
@@ -153,13 +153,13 @@ module _ {s : List ℕ} (b : ℕ) (none : NoBookingOf b s) where
       frame_faults_lem : faults_at (with_had had g) at f ≡ faults_at g at f
       frame_faults_lem = faults-with_had b g had alike (kind_of f) (body_of f) at (λ k. none at f rest g r w v k)
 
-      frame_fault : (x : Fault) → first_fault (faults_at g at f) ≡ Refused x
+      frame_fault : (x : Fault) → first_fault (faults_at g at f) ≡ Err x
           → read_on (f ++ rest) at (with_had had g) ≡ read_on (f ++ rest) at g
       frame_fault x e =
           read_on-in_frame f rest w at (with_had had g) v x (ap first_fault frame_faults_lem ∙ e)
           ∙ sym (read_on-in_frame f rest w at g v x e)
 
-      frame_sound : first_fault (faults_at g at f) ≡ Accepted
+      frame_sound : first_fault (faults_at g at f) ≡ Ok tt
           → read_on (f ++ rest) at (with_had had g) ≡ read_on (f ++ rest) at g
       frame_sound e =
           let next = after-with_had b g had alike (kind_of f) (body_of f) in

@@ -24,7 +24,7 @@ use Rattle.fields.specs.declared.sheet.Booking.{Booking}
 use Rattle.fields.specs.declared.sheet.Job.{Job}
 use Rattle.fields.specs.Contents.{Contents, booked_at, no_bookings}
 use Rattle.judging.specs.declared.judge.Stage.TheVariants.{Start}
-use Rattle.fields.specs.declared.fault.Verdict.TheVariants.{Accepted}
+use Rattle.std.specs.Prelude.{Ok}
 use Rattle.fields.specs.Format.{ours, head_kind, job_kind, end_kind, booking_kind, version_of, kind_of, frame_size, body_of}
 use Rattle.fields.specs.Format.{booking_of, frame_bytes, head_frame, booking_frame, job_frame, end_frame}
 use Rattle.fields.specs.Format.{booked_from, bookings, booking_frames, job_frames, sheet_bytes}
@@ -143,7 +143,7 @@ module _ (h : Head) (ok : SoundHead h) (rest : List ℕ) where
   size_fits : length (head_body h) < 2 ^ 16
   size_fits = omega (arith, length-head_body h)
 
-  head_passes : first_fault (frame_faults Start 0 0 none_had 0 head_kind (head_body h)) ≡ Accepted
+  head_passes : first_fault (frame_faults Start 0 0 none_had 0 head_kind (head_body h)) ≡ Ok tt
   unfolding frame_faults
   head_passes =
       let fit = Fit-head h ok in
@@ -160,7 +160,7 @@ module _ (h : Head) (ok : SoundHead h) (rest : List ℕ) where
   head_reached =
       let whole = frame_whole head_kind (head_body h) (lit< tt) size_fits in
       let first : version_of (head_frame h) ≡ ours = frame-ours head_kind (head_body h) (lit< tt) size_fits in
-      let passes : first_fault (faults_at nothing_read 0 (head_frame h)) ≡ Accepted =
+      let passes : first_fault (faults_at nothing_read 0 (head_frame h)) ≡ Ok tt =
       rw (frame_kind head_kind (head_body h) (lit< tt) size_fits, frame_body head_kind (head_body h) (lit< tt) size_fits)
       head_passes in
       let there :
@@ -188,7 +188,7 @@ written_parts c =
     append_assoc (head ++ booked) (job_frames c.jobs) end_frame
     ∙ append_assoc head booked (job_frames c.jobs ++ end_frame)
 
-module _ (c : Contents) (e : writer_verdict c ≡ Accepted) where
+module _ (c : Contents) (e : writer_verdict c ≡ Ok tt) where
   pub written_without : (b : ℕ) → booked_at c.booked b ≡ 0 → RowWithout b (head_frame c.head ++ behind_head c)
   written_without b free =
       let ok = writer_verdict-sound c e in

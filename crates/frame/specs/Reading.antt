@@ -10,24 +10,21 @@
 --     end_verdict, ending     after the last frame
 --     read_from               the frames from byte at on. The first argument bounds the frames that are left to read
 --     read_sheet              the whole sheet
---     sheet_of, stored        the values of the program's structs that stand for what was read
---     reading_of v sheet       the sheet, if the verdict v accepts it
-use Rattle.std.specs.Prelude.{ℕ, zero, suc, ◌+◌, ◌-◌, Bool, true, false, cond, ◌||◌, List, [], ◌∷◌, ◌++◌, map, length, drop, replicate, set, eqb, ltb}
+--     sheet_of, stored        the program's sheet, and what it is given as: the sheet, or its first fault
+use Rattle.std.specs.Prelude.{ℕ, zero, suc, ◌+◌, ◌-◌, Bool, true, false, cond, ◌||◌, List, [], ◌∷◌, ◌++◌}
+use Rattle.std.specs.Prelude.{map, length, drop, replicate, set, eqb, ltb, Result, Ok, Err}
 use Rattle.fields.specs.declared.sheet.Head.{Head}
 use Rattle.fields.specs.declared.sheet.Booking.{Booking}
 use Rattle.fields.specs.declared.sheet.Job.{Job}
 use Rattle.fields.specs.Contents.{Contents, no_bookings}
 use Rattle.fields.specs.declared.sheet.Sheet.{Sheet}
-use Rattle.fields.specs.declared.sheet.Reading.{Reading}
 use Rattle.judging.specs.declared.judge.Stage.{Stage}
 use Rattle.judging.specs.declared.judge.Stage.TheVariants.{Start, Open, Closed}
 use Rattle.fields.specs.declared.fault.Fault.{Fault}
 use Rattle.fields.specs.declared.fault.Fault.TheVariants.{TooLong, Truncated}
-use Rattle.fields.specs.declared.fault.Verdict.{Verdict}
-use Rattle.fields.specs.declared.fault.Verdict.TheVariants.{Accepted, Refused}
 use Rattle.fields.specs.Format.{ours, head_kind, job_kind, booking_kind, version_of, kind_of, frame_size, body_of}
 use Rattle.fields.specs.Format.{head_of, job_of, booking_of}
-use Rattle.fields.specs.Tests.{Test, first_fault, none_had, hyper_edge_verdict}
+use Rattle.fields.specs.Tests.{Verdict, Test, first_fault, none_had, hyper_edge_verdict}
 use Rattle.judging.specs.FrameTests.{cut}
 unfoldable pub use Rattle.judging.specs.FrameTests.{frame_faults}
 
@@ -90,13 +87,13 @@ after g kind body =
     (cond (eqb kind booking_kind) (after_booking g (booking_of body)) (after_end g)))
 
 abbrev pub judged : Verdict → Contents → Read
-judged Accepted c = accepted c
-judged (Refused f) c = refused f
+judged (Ok _) c = accepted c
+judged (Err f) c = refused f
 
 -- "or its frames are over and none was an end frame (place: the sheet's length)"; then 12.
 abbrev pub end_verdict : Stage → ℕ → Contents → Verdict
-end_verdict Start at c = Refused (Truncated at)
-end_verdict Open at c = Refused (Truncated at)
+end_verdict Start at c = Err (Truncated at)
+end_verdict Open at c = Err (Truncated at)
 end_verdict Closed at c = hyper_edge_verdict c.head c.jobs
 
 abbrev pub ending : Progress → ℕ → Read
@@ -116,8 +113,8 @@ read_from (suc k) rest at g =
                   | false ↦ read_from k (drop (frame_size rest) rest) (at + frame_size rest) g
                   | true ↦
                       elim (first_fault (faults_at g at rest)) [
-                        | Refused f ↦ refused f
-                        | Accepted ↦
+                        | Err f ↦ refused f
+                        | Ok _ ↦
                             read_from k (drop (frame_size rest) rest) (at + frame_size rest)
                             (after g (kind_of rest) (body_of rest))
                       ]
@@ -143,11 +140,6 @@ sheet_of c =
       allowed = padded (map (λ j. j.allowed) c.jobs);
     }
 
--- After a fault the sheet is empty.
-unfoldable pub stored : Read → Reading
-stored (accepted c) = record { verdict = Accepted; sheet = sheet_of c }
-stored (refused f) = record { verdict = Refused f; sheet = sheet_of no_contents }
-
-abbrev pub reading_of : Verdict → Sheet → Reading
-reading_of Accepted sheet = record { verdict = Accepted; sheet = sheet }
-reading_of (Refused f) sheet = stored (refused f)
+unfoldable pub stored : Read → Result Sheet Fault
+stored (accepted c) = Ok (sheet_of c)
+stored (refused f) = Err f

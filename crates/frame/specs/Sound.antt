@@ -8,11 +8,10 @@
 -- sound-bookings, job_sound and sound-job, writer_verdict-sound and sound-writer_verdict. What is read is sound:
 -- AcceptedLaws accepted_sound. The tests 1 to 6 are about bytes, and a sound sheet says nothing of them; but if its
 -- benches allowed fit 64 bits, it is what its own bytes are read as: RoundTrip write-read.
-use Rattle.std.specs.Prelude.{ℕ, ◌*◌, ◌^◌, ◌≤◌, ◌<◌, List, true, ◌≡◌, length}
+use Rattle.std.specs.Prelude.{ℕ, ◌*◌, ◌^◌, ◌≤◌, ◌<◌, List, true, ◌≡◌, length, Ok}
 use Rattle.fields.specs.declared.sheet.Head.{Head}
 use Rattle.fields.specs.declared.sheet.Job.{Job}
 use Rattle.fields.specs.Contents.{Contents, booked_at}
-use Rattle.fields.specs.declared.fault.Verdict.TheVariants.{Accepted}
 use Rattle.fields.specs.Format.{allows}
 use Rattle.fields.specs.Tests.{job_at, hyper_edge_verdict}
 
@@ -42,4 +41,4 @@ pub record SoundSheet (c : Contents) : Type 0 where
   pub bookings : SoundBookings c.head.benches c.booked
   pub jobs : (i : ℕ) → i < length c.jobs → SoundJob c.head.benches i (job_at c.jobs i)
   pub at_most_512_jobs : length c.jobs ≤ 512
-  pub no_heavy_hyper_edge : hyper_edge_verdict c.head c.jobs ≡ Accepted
+  pub no_heavy_hyper_edge : hyper_edge_verdict c.head c.jobs ≡ Ok tt

@@ -10,15 +10,13 @@
 --     writer_verdict c        these, then 9 to 12, with job numbers as places
 --     write_sheet c room      the length, or the fault, for an output of room bytes
 --     output r c out          the whole output afterwards
-use Rattle.std.specs.Prelude.{ℕ, suc, max, cond, List, [], ◌∷◌, ◌++◌, length, drop, leb}
+use Rattle.std.specs.Prelude.{ℕ, suc, max, cond, List, [], ◌∷◌, ◌++◌, length, drop, leb, Result, Ok, Err}
 use Rattle.fields.specs.declared.sheet.Head.{Head}
 use Rattle.fields.specs.declared.sheet.Job.{Job}
 use Rattle.fields.specs.Contents.{Contents, every_bench}
+use Rattle.fields.specs.declared.fault.Fault.{Fault}
 use Rattle.fields.specs.declared.fault.Fault.TheVariants.{Table}
-use Rattle.fields.specs.declared.fault.Verdict.{Verdict}
-use Rattle.fields.specs.declared.fault.Verdict.TheVariants.{Accepted, Refused}
-use Rattle.frame.specs.declared.written.Written.{Written}
-use Rattle.frame.specs.declared.written.Written.TheVariants.{Length, Refusal}
+use Rattle.fields.specs.Tests.{Verdict}
 use Rattle.fields.specs.Format.{bookings, sheet_bytes}
 use Rattle.fields.specs.Tests.{first_fault, head_faults, booked_faults, job_faults, job_table, hyper_edge_verdict}
 
@@ -34,11 +32,11 @@ abbrev pub as_read : Contents → Contents
 as_read c = record { head = c.head; booked = every_bench c.booked; jobs = c.jobs }
 
 abbrev pub and_then : Verdict → Verdict → Verdict
-and_then Accepted w = w
-and_then (Refused f) w = Refused f
+and_then (Ok _) w = w
+and_then (Err f) w = Err f
 
 unfoldable pub jobs_verdict : ℕ → ℕ → List Job → Verdict
-jobs_verdict m n [] = Accepted
+jobs_verdict m n [] = Ok tt
 jobs_verdict m n (j ∷ js) = and_then (first_fault (job_faults m n j n)) (jobs_verdict m (suc n) js)
 
 -- "it tries 14 between faults 8 and 9, lowest bench first"
@@ -52,13 +50,13 @@ writer_verdict c =
     (and_then (jobs_verdict c.head.benches 0 c.jobs) (hyper_edge_verdict c.head c.jobs))
 
 -- "and by 13 where its output does not fit. … It returns the length written"
-abbrev pub fitted : ℕ → ℕ → Written
-fitted n room = cond (leb n room) (Length n) (Refusal (Table 0))
+abbrev pub fitted : ℕ → ℕ → Result ℕ Fault
+fitted n room = cond (leb n room) (Ok n) (Err (Table 0))
 
-unfoldable pub write_sheet : Contents → ℕ → Written
-write_sheet c room = elim (writer_verdict c) [ Accepted ↦ fitted (length (sheet_bytes c)) room | Refused f ↦ Refusal f ]
+unfoldable pub write_sheet : Contents → ℕ → Result ℕ Fault
+write_sheet c room = elim (writer_verdict c) [ Ok _ ↦ fitted (length (sheet_bytes c)) room | Err f ↦ Err f ]
 
 -- "later bytes keep their contents. Its output keeps its contents after a fault."
-unfoldable pub output : Written → Contents → List ℕ → List ℕ
-output (Length n) c out = sheet_bytes c ++ drop n out
-output (Refusal f) c out = out
+unfoldable pub output : Result ℕ Fault → Contents → List ℕ → List ℕ
+output (Ok n) c out = sheet_bytes c ++ drop n out
+output (Err f) c out = out

@@ -1,10 +1,13 @@
-// The front of an input, into a buffer.
+// The front of an input, into a buffer; and the sheet that an input is.
 #![tactic(auto)]
 
 ghost use Rattle.std.specs.Prelude.{◌≡◌, ◌≤◌, IfOk, IfSome, OnErr, length, take};
 ghost use Rattle.std.specs.Io.KnownBytes.{Consumes};
 ghost use Rattle.input.specs.Input.{ConsumesSome};
 
+mod sheet;
+
+pub use sheet::read_sheet;
 use std::io;
 use std::io::Read;
 

@@ -11,6 +11,8 @@ use lib.ListN.{length, take, drop}
 use lib.Dec.{ltb}
 use borrow.Author.Tests.{lt-ltb, le-ltb, eq-eqb, ne_eqb}
 use Rattle.bools.proofs.BoolLaws.{or_right, or-false}
+use Rattle.std.specs.Prelude.{Result, Ok, Err}
+use Rattle.fields.specs.declared.fault.Fault.{Fault}
 use Rattle.fields.specs.declared.fault.Fault.TheVariants.{Truncated}
 use Rattle.judging.specs.declared.judge.Stage.{Stage}
 use Rattle.judging.specs.declared.judge.Frame.{Frame}
@@ -25,12 +27,12 @@ pub record Header (rest : List ℕ) (version kind size : ℕ) : Type 0 where
   pub size_is : size ≡ length_of rest
 
 module _ (stage : Stage) (m n : ℕ) (had : ℕ → Bool) (at : ℕ) (rest : List ℕ) where
-  at_cut : cut rest ≡ true → frame.Faulty (Truncated at) ≡ frame_at stage m n had at rest
+  at_cut : cut rest ≡ true → Err (Truncated at) ≡ frame_at stage m n had at rest
   unfolding frame_at
   at_cut c = rw c
 
   module _ (version kind size : ℕ) (h : Header rest version kind size) where
-    pub at_short : length rest < 3 + size → frame.Faulty (Truncated at) ≡ frame_at stage m n had at rest
+    pub at_short : length rest < 3 + size → Err (Truncated at) ≡ frame_at stage m n had at rest
     at_short l =
         at_cut (or_right (ltb (length rest) 3) (lt-ltb (length rest) (frame_size rest) (omega (arith, h.size_is))))
 
@@ -39,11 +41,11 @@ module _ (stage : Stage) (m n : ℕ) (had : ℕ → Bool) (at : ℕ) (rest : Lis
       at_whole =
           or-false (le-ltb (length rest) 3 (omega arith)) (le-ltb (length rest) (frame_size rest) (omega (arith, h.size_is)))
 
-      pub at_foreign : (version ≡ 1 → ⊥) → frame.Foreign ≡ frame_at stage m n had at rest
+      pub at_foreign : (version ≡ 1 → ⊥) → Ok frame.Foreign ≡ frame_at stage m n had at rest
       unfolding frame_at
       at_foreign v = rw (at_whole, ne_eqb (version_of rest) ours (λ e. v (h.version_is ∙ e)))
 
-      pub at-ours : version ≡ 1 → (x : Frame) → x ≡ frame_of stage m n had at kind (take (3 + size - 3) (drop 3 rest))
+      pub at-ours : version ≡ 1 → (x : Result Frame Fault) → x ≡ frame_of stage m n had at kind (take (3 + size - 3) (drop 3 rest))
           → x ≡ frame_at stage m n had at rest
       unfolding frame_at
       at-ours v x e =

@@ -7,8 +7,8 @@ use Rattle.std.specs.Prelude.{ℕ, Bool, true, cond, not, ◌&&◌, ◌||◌, Li
 use Rattle.judging.specs.declared.judge.Stage.{Stage}
 use Rattle.judging.specs.declared.judge.Stage.TheVariants.{Start, Open, Closed}
 use Rattle.fields.specs.declared.fault.Fault.TheVariants.{UnknownKind, Misplaced, WrongLength, SpareBit}
-use Rattle.fields.specs.Format.{head_kind, job_kind, end_kind, booking_kind, header_size, frame_size, body_length, spare_of}
-use Rattle.fields.specs.Format.{head_of, job_of, booking_of}
+use Rattle.fields.specs.Format.{head_kind, job_kind, end_kind, booking_kind, header_size, frame_size, body_length}
+use Rattle.fields.specs.Format.{spare_of, head_of, job_of, booking_of}
 use Rattle.fields.specs.Tests.{Test, head_faults, booking_faults, job_faults}
 
 -- "2. The sheet ends inside a frame of any version (place: that frame)"

@@ -5,7 +5,7 @@ ghost use Rattle.fields.specs.Format.{head_kind, job_kind, end_kind, booking_kin
 ghost use Rattle.fields.specs.Tests.{none_had};
 ghost use Rattle.judging.specs.Steps.{frame_of, frame_at};
 
-use fields::{Booking, Fault, Head, Job, Verdict};
+use fields::{Booking, Fault, Head, Job};
 use unpacking::FrameHeader;
 
 // Which frames may come: the head; bookings, jobs or the end; or none of version 1.
@@ -19,7 +19,6 @@ pub enum Stage {
 // What a frame turns out to be.
 #[derive(Drop)]
 pub enum Frame {
-    Faulty(Fault),
     Foreign,
     Head(Head),
     Booking(Booking),
@@ -37,17 +36,24 @@ pub fn frame_size(rest: &[u8]) -> usize
 
 // Faults 2 to 11, 14 and 15 of the frame at the front of `rest`, or what it holds. It begins at byte `at` of the sheet;
 // a head with so many benches, n jobs and bookings for the benches of the set `had` have been read.
-pub fn frame_at(rest: &[u8], at: usize, stage: Stage, benches: u64, n: usize, had: usize) -> Frame
+pub fn frame_at(
+    rest: &[u8],
+    at: usize,
+    stage: Stage,
+    benches: u64,
+    n: usize,
+    had: usize,
+) -> Result<Frame, Fault>
     ensures { result ≡ frame_at stage benches n (is_set 64 had) at rest.now }
 {
     let header = FrameHeader::read(rest);
     let start = FrameHeader::SIZE;
     let end = start + header.length;
     if rest.len() < end {
-        return Frame::Faulty(Fault::Truncated(at));
+        return Err(Fault::Truncated(at));
     }
     if header.version != FrameHeader::VERSION {
-        return Frame::Foreign;
+        return Ok(Frame::Foreign);
     }
     judge(&rest[start..end], at, header.kind, stage, benches, n, had)
 }
@@ -61,7 +67,7 @@ fn judge(
     benches: u64,
     n: usize,
     had: usize,
-) -> Frame
+) -> Result<Frame, Fault>
     ensures { result ≡ frame_of stage benches n (is_set 64 had) at kind body.now }
 {
     match kind {
@@ -69,78 +75,79 @@ fn judge(
         FrameHeader::JOB => judge_job(body, at, stage, benches, n),
         FrameHeader::END => judge_end(body, at, stage),
         FrameHeader::BOOKING => judge_booking(body, at, stage, benches, n, had),
-        _ => Frame::Faulty(Fault::UnknownKind(at)),
+        _ => Err(Fault::UnknownKind(at)),
     }
 }
 
-fn judge_head(body: &[u8], at: usize, stage: Stage) -> Frame
+fn judge_head(body: &[u8], at: usize, stage: Stage) -> Result<Frame, Fault>
     ensures { result ≡ frame_of stage 0 0 none_had at head_kind body.now }
 {
     let Stage::Start = stage else {
-        return Frame::Faulty(Fault::Misplaced(at));
+        return Err(Fault::Misplaced(at));
     };
     if body.len() != FrameHeader::HEAD_LENGTH {
-        return Frame::Faulty(Fault::WrongLength(at));
+        return Err(Fault::WrongLength(at));
     }
     if unpacking::head_spare(body) != 0 {
-        return Frame::Faulty(Fault::SpareBit(at));
+        return Err(Fault::SpareBit(at));
     }
     let h = unpacking::read_head(body);
-    match checks::check_head(h, at) {
-        Verdict::Refused(f) => Frame::Faulty(f),
-        Verdict::Accepted => Frame::Head(h),
-    }
+    checks::check_head(h, at)?;
+    Ok(Frame::Head(h))
 }
 
-fn judge_job(body: &[u8], at: usize, stage: Stage, benches: u64, n: usize) -> Frame
+fn judge_job(body: &[u8], at: usize, stage: Stage, benches: u64, n: usize) -> Result<Frame, Fault>
     ensures { result ≡ frame_of stage benches n none_had at job_kind body.now }
 {
     let Stage::Open = stage else {
-        return Frame::Faulty(Fault::Misplaced(at));
+        return Err(Fault::Misplaced(at));
     };
     if body.len() != FrameHeader::JOB_LENGTH {
-        return Frame::Faulty(Fault::WrongLength(at));
+        return Err(Fault::WrongLength(at));
     }
     if unpacking::job_spare(body) != 0 {
-        return Frame::Faulty(Fault::SpareBit(at));
+        return Err(Fault::SpareBit(at));
     }
     let j = unpacking::read_job(body);
-    match checks::check_job(benches, n, j, at) {
-        Verdict::Refused(f) => Frame::Faulty(f),
-        Verdict::Accepted => Frame::Job(j),
-    }
+    checks::check_job(benches, n, j, at)?;
+    Ok(Frame::Job(j))
 }
 
-fn judge_end(body: &[u8], at: usize, stage: Stage) -> Frame
+fn judge_end(body: &[u8], at: usize, stage: Stage) -> Result<Frame, Fault>
     ensures { result ≡ frame_of stage 0 0 none_had at end_kind body.now }
 {
     let Stage::Open = stage else {
-        return Frame::Faulty(Fault::Misplaced(at));
+        return Err(Fault::Misplaced(at));
     };
     if body.len() != 0 {
-        return Frame::Faulty(Fault::WrongLength(at));
+        return Err(Fault::WrongLength(at));
     }
-    Frame::End
+    Ok(Frame::End)
 }
 
-fn judge_booking(body: &[u8], at: usize, stage: Stage, benches: u64, n: usize, had: usize) -> Frame
+fn judge_booking(
+    body: &[u8],
+    at: usize,
+    stage: Stage,
+    benches: u64,
+    n: usize,
+    had: usize,
+) -> Result<Frame, Fault>
     ensures { result ≡ frame_of stage benches n (is_set 64 had) at booking_kind body.now }
 {
     let Stage::Open = stage else {
-        return Frame::Faulty(Fault::Misplaced(at));
+        return Err(Fault::Misplaced(at));
     };
     if 0 < n {
-        return Frame::Faulty(Fault::Misplaced(at));
+        return Err(Fault::Misplaced(at));
     }
     if body.len() != FrameHeader::BOOKING_LENGTH {
-        return Frame::Faulty(Fault::WrongLength(at));
+        return Err(Fault::WrongLength(at));
     }
     if unpacking::booking_spare(body) != 0 {
-        return Frame::Faulty(Fault::SpareBit(at));
+        return Err(Fault::SpareBit(at));
     }
     let b = unpacking::read_booking(body);
-    match checks::check_booking(benches, had, b, at) {
-        Verdict::Refused(f) => Frame::Faulty(f),
-        Verdict::Accepted => Frame::Booking(b),
-    }
+    checks::check_booking(benches, had, b, at)?;
+    Ok(Frame::Booking(b))
 }

@@ -45,11 +45,9 @@ pub fn jobs(out: &mut [u8], at: usize, places: &[u64]) -> usize
     ensures { Puts out.old at (job_lines (length places.now) places.now)
         out.new result }
 {
-    let mut end = buffer::within(at, out.len());
-    let mut j = 0;
-    while j < places.len() {
-        end = pair(out, end, j as u64, places[j]);
-        j += 1;
+    let mut end = out.len().min(at);
+    for (j, place) in places.iter().enumerate() {
+        end = pair(out, end, j as u64, *place);
     }
     end
 }
@@ -59,13 +57,11 @@ pub fn benches(out: &mut [u8], at: usize, set: u64) -> usize
     ensures { Puts out.old at (spaced (map digits (members 64 (is_set 64 set))))
         out.new result }
 {
-    let mut end = buffer::within(at, out.len());
-    let mut b: u64 = 0;
-    while b < 64 {
+    let mut end = out.len().min(at);
+    for b in 0..64 {
         if (set >> (63 - b)) % 2 == 1 {
             end = word(out, end, b);
         }
-        b += 1;
     }
     end
 }

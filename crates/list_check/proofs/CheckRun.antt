@@ -7,23 +7,21 @@
 --     refused_is, accepted_is       the answer for the bytes
 use Prim.Native.Nat.{ℕ, ◌+◌, ◌-◌, ◌*◌, ◌≤◌, ◌<◌, ◌^◌}
 use mathlib.Core.Path.{◌≡◌, sym, ap, ap₂, ◌∙◌}
-use mathlib.Core.Bool.{Bool, true, false, not}
+use mathlib.Core.Bool.{Bool, true, false}
 use mathlib.Core.List.{List}
 use native.Mathlib.Omega.{arith}
 use native.Mathlib.Nat.{mul-le-mul, le_refl}
 use lib.ListN.{length, get_or, replicate, length-replicate}
 use lib.Dec.{leb}
-use Rattle.bools.proofs.BoolLaws.{bool_ext, tests, not-true, not-false, and_intro, and-false_left, and-false_right}
-use Rattle.sums.specs.Sum.{largest}
+use Rattle.bools.proofs.BoolLaws.{bool_ext, tests, and_intro, and-false_left, and-false_right}
 use Rattle.sums.specs.Search.{all}
 use Rattle.sums.proofs.SearchLaws.{all_intro, all_elim}
 use Rattle.sums.proofs.LargestLaws.{largest_bound, largest-le, largest-at, largest_cong, fullest_cong}
 use Rattle.fields.specs.declared.sheet.Head.{Head}
 use Rattle.fields.specs.declared.sheet.Sheet.{Sheet}
-use Rattle.fields.specs.declared.sheet.Reading.{Reading}
+use Rattle.std.specs.Prelude.{Result, Ok, Err}
 use Rattle.fields.specs.declared.fault.Fault.{Fault}
 use Rattle.fields.specs.declared.fault.Fault.TheVariants.{PlaceCount}
-use Rattle.fields.specs.declared.fault.Verdict.TheVariants.{Accepted, Refused}
 use Rattle.fields.specs.Contents.{Contents}
 use Rattle.frame.specs.Reading.{read_sheet, stored}
 use Rattle.frame.specs.Sound.{SoundSheet}
@@ -162,17 +160,17 @@ module _ (c : Contents) (benches : ℕ) (booked : List ℕ) (jobs : ℕ) (minute
 -- ── the bytes ──
 
 module _ (s list : List ℕ) where
-  pub refused_is : {x : Reading} {f : Fault} → x ≡ stored (read_sheet s) → x.verdict ≡ Refused f
+  pub refused_is : {x : Result Sheet Fault} {f : Fault} → x ≡ stored (read_sheet s) → x ≡ Err f
       → (Faulty f ≡ check_list s list) × ListClaim s list (Faulty f)
   refused_is {x} {f} e a = with_claim s list (sym (check_refused s list f (verdict_refused (read_sheet s) e a)))
 
-  pub accepted_is : (x : Reading) {r : ListAnswer} → x ≡ stored (read_sheet s) → x.verdict ≡ Accepted
-      → ((c : Contents) → x.sheet.head ≡ c.head
-      → Tables c x.sheet.head.benches x.sheet.booked x.sheet.count x.sheet.minutes x.sheet.allowed
+  pub accepted_is : {x : Result Sheet Fault} (sheet : Sheet) {r : ListAnswer} → x ≡ stored (read_sheet s) → x ≡ Ok sheet
+      → ((c : Contents) → sheet.head ≡ c.head
+      → Tables c sheet.head.benches sheet.booked sheet.count sheet.minutes sheet.allowed
       → r ≡ listed_of (day_of c) list)
       → (r ≡ check_list s list) × ListClaim s list r
-  accepted_is x e a told =
-      let (c, read, same) = verdict_accepted (read_sheet s) x e a in
+  accepted_is sheet e a told =
+      let (c, read, same) = verdict_accepted (read_sheet s) e a in
       with_claim s list
-      (told c (ap (λ (y : Sheet). y.head) same) (tables_of s c x.sheet read same)
+      (told c (ap (λ (y : Sheet). y.head) same) (tables_of s c sheet read same)
       ∙ sym (check_accepted s list c read))

@@ -8,7 +8,7 @@ ghost use Rattle.list_check.specs.ListCheck.{listed_of, check_list};
 ghost use Rattle.list_check.specs.ListClaim.{ListClaim};
 
 use answers::{ListAnswer, ListPassed};
-use frame::{Fault, Head, Verdict};
+use frame::{Fault, Head};
 use loads::BenchSum;
 
 // Whether a load is within the bound: 3q × load ≤ (5q + p) × T.
@@ -18,17 +18,17 @@ fn within(h: Head, load: usize) -> bool
 {
     let q = h.q as usize;
     let scale = arrays::times(3, q);
-    let share = arrays::plus(arrays::times(5, q), h.p as usize);
+    let share = arrays::times(5, q).saturating_add(h.p as usize);
     arrays::times(scale, load) <= arrays::times(share, h.target as usize)
 }
 
 // The largest load of the list, what is booked with it, and the lowest bench that has it.
-fn largest_load<'a>(
+fn largest_load(
     benches: usize,
     jobs: usize,
-    booked: &'a [u64],
-    minutes: &'a [u64],
-    list: &'a [u64],
+    booked: &[u64],
+    minutes: &[u64],
+    list: &[u64],
 ) -> BenchSum
     ensures { (c : Contents) → (allowed : List ℕ)
         → Tables c benches booked.now jobs minutes.now allowed
@@ -38,18 +38,18 @@ fn largest_load<'a>(
         } }
 {
     let mut load = [0usize; 64];
-    arrays::narrow(benches, booked, &mut load);
+    arrays::to_numbers(benches, booked, &mut load);
     lists::sum_list(jobs, benches, minutes, list, &mut load)
 }
 
 // The answer for the jobs of a sheet.
-fn check_places<'a>(
+fn check_places(
     h: Head,
     jobs: usize,
-    booked: &'a [u64],
-    minutes: &'a [u64],
-    allowed: &'a [u64],
-    list: &'a [u64],
+    booked: &[u64],
+    minutes: &[u64],
+    allowed: &[u64],
+    list: &[u64],
 ) -> ListAnswer
     ensures { (c : Contents) → h ≡ c.head
         → Tables c h.benches booked.now jobs minutes.now allowed.now
@@ -71,24 +71,19 @@ fn check_places<'a>(
 }
 
 // Whether each job of a sheet is on an allowed bench, and no load exceeds the bound for the sheet's target.
-pub fn check_list<'a>(s: &'a [u8], list: &'a [u64]) -> ListAnswer
+pub fn check_list(s: &[u8], list: &[u64]) -> ListAnswer
     ensures equation { result ≡ check_list s.now list.now }
     ensures claim { ListClaim s.now list.now result }
 {
-    let reading = reading::read(s);
-    let verdict = reading.verdict;
-    match verdict {
-        Verdict::Refused(f) => ListAnswer::Fault(f),
-        Verdict::Accepted => {
-            let sheet = reading.sheet;
-            check_places(
-                sheet.head,
-                sheet.count,
-                &sheet.booked,
-                &sheet.minutes,
-                &sheet.allowed,
-                list,
-            )
-        }
+    match reading::read(s) {
+        Err(f) => ListAnswer::Fault(f),
+        Ok(sheet) => check_places(
+            sheet.head,
+            sheet.count,
+            &sheet.booked,
+            &sheet.minutes,
+            &sheet.allowed,
+            list,
+        ),
     }
 }

@@ -1,36 +1,21 @@
 // The check of a list of places, from bytes to bytes.
-ghost use Rattle.std.specs.Prelude.{◌≡◌, [], ◌∷◌};
+ghost use Rattle.std.specs.Prelude.{◌≡◌};
 ghost use Rattle.frame.specs.Reading.{read_sheet};
-ghost use Rattle.tables.specs.Tables.{numbers_of, room_of, put_fitting};
+ghost use Rattle.tables.specs.Tables.{numbers_of, room_of};
 ghost use Rattle.list_promise.specs.ListDoor.{short_fault, door_list, ListCalled};
 ghost use Rattle.list_promise.specs.ListDoorClaim.{ListDoorClaim};
 
 use answers::ListAnswer;
-use frame::{Fault, Verdict};
-
-// The words of the two answers.
-const PASSED: u64 = 1;
-
-const NOT_PASSED: u64 = 0;
+use frame::Fault;
 
 // The fault where there is no room for the answer: the sheet's own, or else 13.
 pub fn short_fault(sheet: &[u8]) -> Fault
     ensures { result ≡ short_fault (read_sheet sheet.now) }
 {
-    let reading = reading::read(sheet);
-    let verdict = reading.verdict;
-    match verdict {
-        Verdict::Refused(f) => f,
-        Verdict::Accepted => Fault::Table(0),
+    match reading::read(sheet) {
+        Ok(_) => Fault::Table(0),
+        Err(f) => f,
     }
-}
-
-// Two numbers, to the front of a table, as many as it has room for.
-fn put_two(first: u64, second: u64, answer: &mut [u8])
-    ensures { answer.new ≡ put_fitting (first ∷ second ∷ []) answer.old }
-{
-    let values = [first, second];
-    tables::put_front(&values, answer);
 }
 
 // Checks a list of places: the answer's word, and its two numbers.
@@ -49,12 +34,12 @@ pub fn check_plan(sheet: &[u8], places: &[u8], answer: &mut [u8]) -> u64
     let n = entries::load(places, &mut list);
     match list_check::check_list(sheet, &list[..n]) {
         ListAnswer::Passed(p) => {
-            put_two(p.largest, p.fullest, answer);
-            PASSED
+            tables::put_front(&[p.largest, p.fullest], answer);
+            tables::PASSED
         }
         ListAnswer::NotPassed => {
-            put_two(0, 0, answer);
-            NOT_PASSED
+            tables::put_front(&[tables::NOTHING; 2], answer);
+            tables::NOT_PASSED
         }
         ListAnswer::Fault(f) => tables::fault_word(f),
     }

@@ -11,10 +11,10 @@ use mathlib.Core.List.{List}
 use native.Mathlib.Omega.{arith}
 use lib.ListN.{take}
 use borrow.Author.Tests.{lt-ltb, le-ltb}
-use Rattle.fields.specs.declared.sheet.Reading.{Reading}
 use Rattle.fields.specs.declared.fault.Fault.{Fault}
 use Rattle.fields.specs.declared.fault.Fault.TheVariants.{Table}
-use Rattle.fields.specs.declared.fault.Verdict.TheVariants.{Accepted, Refused}
+use Rattle.std.specs.Prelude.{Result, Ok, Err}
+use Rattle.fields.specs.declared.sheet.Sheet.{Sheet}
 use Rattle.fields.specs.Contents.{Contents}
 use Rattle.frame.specs.Reading.{Read, accepted, refused, read_sheet, stored}
 use Rattle.frame.proofs.AcceptedLaws.{accepted_sound}
@@ -61,14 +61,14 @@ module _ (s list : List ℕ) (na : ℕ) where
     | inr (c, e) ↦ door_read c e room ∙ sym (check_accepted s list c e)
   ]
 
-module _ (s : List ℕ) (x : Reading) (e : x ≡ stored (read_sheet s)) where
-  pub short_refused : {f : Fault} → x.verdict ≡ Refused f → f ≡ short_fault (read_sheet s)
+module _ (s : List ℕ) {x : Result Sheet Fault} (e : x ≡ stored (read_sheet s)) where
+  pub short_refused : {f : Fault} → x ≡ Err f → f ≡ short_fault (read_sheet s)
   unfolding short_fault
   short_refused a = sym (ap short_fault (verdict_refused (read_sheet s) e a))
 
-  pub short_accepted : x.verdict ≡ Accepted → Table 0 ≡ short_fault (read_sheet s)
+  pub short_accepted : {sheet : Sheet} → x ≡ Ok sheet → Table 0 ≡ short_fault (read_sheet s)
   unfolding short_fault
-  short_accepted a = let (c, read, same) = verdict_accepted (read_sheet s) x e a in sym (ap short_fault read)
+  short_accepted a = let (c, read, same) = verdict_accepted (read_sheet s) e a in sym (ap short_fault read)
 
 -- ── the first 513 entries ──
 

@@ -1,14 +1,15 @@
 -- A list of places, entry by entry.
---     all-fails_here, all_more, all-holds     a search for an index that fails: found, not yet, not at all
+--     all_over            a call of `all` over the numbers below n answers whether f holds of each
 --     list_summed         the loads with the minutes of a list, from the tables filled with both
-use Prim.Native.Nat.{ℕ, ◌+◌, ◌≤◌, ◌<◌}
-use mathlib.Core.Path.{◌≡◌, sym, ap, ◌∙◌}
+use Prim.Native.Nat.{ℕ, ◌≤◌, ◌<◌}
+use mathlib.Core.Path.{◌≡◌, sym, ap, subst, ◌∙◌}
 use mathlib.Core.Bool.{Bool, true, false}
-use mathlib.Core.Logic.{inl, inr}
 use mathlib.Core.List.{List}
 use native.Mathlib.Omega.{arith}
 use lib.ListN.{length, get_or, replicate, length-replicate}
-use Rattle.bools.proofs.OrderLaws.{last_or_below}
+use Rattle.std.specs.Bool.{MatchBool}
+use Rattle.std.specs.List.{range_with_len, AllWithin, HoldsAt}
+use Rattle.std.proofs.lemmas.List.FromFn.{length-range_with_len, get_or-range_with_len}
 use Rattle.sums.specs.Search.{all}
 use Rattle.sums.proofs.SearchLaws.{all_intro, all-fails}
 use Rattle.sums.proofs.SumLaws.{sum_cong}
@@ -18,21 +19,23 @@ use Rattle.loads.specs.Loads.{minutes_on, bench_loads}
 use Rattle.loads.proofs.LoadLaws.{bench_load}
 use Rattle.lists.specs.Lists.{load_in, Summed}
 
--- ── a search for an index that fails ──
+-- ── a call of `all` over the numbers below n ──
 
-pub all_more : (f : ℕ → Bool) (r : ℕ) {t : Bool} → ((i : ℕ) → i < r → f i ≡ true) → t ≡ f r → t ≡ true
-    → (i : ℕ) → i < r + 1 → f i ≡ true
-all_more f r before e p i l = elim (last_or_below {i = i} {n = r} (omega arith)) [
-  | inl same ↦ rw same (sym e ∙ p)
-  | inr below ↦ before i below
-]
+-- The number at place i.
+place : (n i : ℕ) → i < n → get_or (range_with_len 0 n) i 0 ≡ i
+place n i l = omega (arith, get_or-range_with_len 0 n i 0 l)
 
-module _ (n : ℕ) (f : ℕ → Bool) (r : ℕ) where
-  pub all-fails_here : {t : Bool} → r < n → t ≡ f r → t ≡ false → false ≡ all n f
-  all-fails_here h e p = sym (all-fails n f r h (sym e ∙ p))
-
-  pub all-holds : n ≤ r → ((i : ℕ) → i < r → f i ≡ true) → true ≡ all n f
-  all-holds h before = sym (all_intro n f (λ i l. before i (omega arith)))
+pub all_over : (n : ℕ) (f : ℕ → Bool) (r : Bool)
+    → MatchBool r (AllWithin (λ j. f j ≡ true) (range_with_len 0 n) 0 (length (range_with_len 0 n)))
+    ((k : ℕ) × (k < length (range_with_len 0 n)) × HoldsAt (λ j. f j ≡ false) (range_with_len 0 n) k)
+    → r ≡ all n f
+all_over n f true w =
+    sym (all_intro n f (λ j l.
+    let within : j < length (range_with_len 0 n) = omega (arith, length-range_with_len 0 n) in
+    subst (λ (k : ℕ). f k ≡ true) (place n j l) (w j 0 (omega arith) within)))
+all_over n f false (k, l, w) =
+    let below : k < n = omega (arith, length-range_with_len 0 n) in
+    sym (all-fails n f k below (subst (λ (j : ℕ). f j ≡ false) (place n k below) (w 0)))
 
 -- ── loads ──
 

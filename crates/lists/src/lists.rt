@@ -7,35 +7,28 @@ ghost use Rattle.lists.specs.Lists.{fits_at, Summed};
 use loads::BenchSum;
 
 // Whether job j's bench in the list is one of its set.
-fn fit<'a>(allowed: &'a [u64], list: &'a [u64], j: usize) -> bool
+fn fit(allowed: &[u64], list: &[u64], j: usize) -> bool
     ensures { result ≡ fits_at allowed.now list.now j }
 {
-    let set = arrays::entry(allowed, j) as usize;
-    let v = arrays::entry(list, j) as usize;
+    let set = arrays::at(allowed, j) as usize;
+    let v = arrays::at(list, j) as usize;
     sets::has(set, v)
 }
 
 // Whether each job's bench in the list is one of its set.
-pub fn fit_all<'a>(jobs: usize, allowed: &'a [u64], list: &'a [u64]) -> bool
+pub fn fit_all(jobs: usize, allowed: &[u64], list: &[u64]) -> bool
     ensures { result ≡ all jobs (fits_at allowed.now list.now) }
 {
-    let mut j = 0;
-    while j < jobs {
-        if !fit(allowed, list, j) {
-            return false;
-        }
-        j += 1;
-    }
-    true
+    (0..jobs).all(|j| fit(allowed, list, j))
 }
 
 // Adds to entry v of `load` the minutes of the jobs that the list puts on bench v; then the largest entry of the
 // benches, and the first bench that has it.
-pub fn sum_list<'a>(
+pub fn sum_list(
     jobs: usize,
     benches: usize,
-    minutes: &'a [u64],
-    list: &'a [u64],
+    minutes: &[u64],
+    list: &[u64],
     load: &mut [usize],
 ) -> BenchSum
     ensures loads { jobs ≤ 512
@@ -44,7 +37,7 @@ pub fn sum_list<'a>(
 {
     let mut amount = [0usize; 512];
     let mut place = [0usize; 512];
-    arrays::narrow(jobs, minutes, &mut amount);
-    arrays::narrow(jobs, list, &mut place);
+    arrays::to_numbers(jobs, minutes, &mut amount);
+    arrays::to_numbers(jobs, list, &mut place);
     loads::sum_benches(jobs, benches, &amount, &place, load)
 }

@@ -1,5 +1,4 @@
 -- The loads of benches, summed job by job.
---     added_left, added_here        the two ways in which a job is added
 --     after_none, after_more        before the first job, and after one job more
 --     length-after                  a table of loads keeps its length
 --     load_after                    a load that fits is what stood there and the amounts of the jobs on its bench
@@ -7,7 +6,7 @@
 --     bench_load                    where no job is left, the amounts are the minutes
 use Prim.Native.Nat.{ℕ, zero, suc, ◌+◌, ◌<◌, ◌^◌}
 use mathlib.Core.Path.{◌≡◌, refl, sym, ap, ap₂, subst, ◌∙◌}
-use mathlib.Core.Bool.{Bool, true, false, cond}
+use mathlib.Core.Bool.{Bool, false, cond}
 use mathlib.Core.List.{List, []}
 use native.Mathlib.Omega.{arith}
 use lib.ListN.{length, get_or, set, length-set}
@@ -24,17 +23,6 @@ use Rattle.loads.specs.Loads.{minutes_on, amount_on, added_at, loads_after, benc
 
 module _ (amount : List ℕ) (left : List Bool) (place : List ℕ) where
   -- ── one job ──
-
-  pub added_left : (own : List ℕ) (j : ℕ) {t : Bool} → t ≡ get_or left j false → t ≡ true
-      → own ≡ added_at amount left place own j
-  added_left own j e p = let l : get_or left j false ≡ true = sym e ∙ p in rw l
-
-  pub added_here : (own own' : List ℕ) (j : ℕ) {v x w sum : ℕ} {t : Bool} → t ≡ get_or left j false → t ≡ false
-      → v ≡ get_or place j 0 → x ≡ get_or own v 0 → w ≡ get_or amount j 0 → sum ≡ plus_of x w → own' ≡ set own v sum
-      → own' ≡ added_at amount left place own j
-  added_here own own' j e p at x w s o =
-      let l : get_or left j false ≡ false = sym e ∙ p in
-      rw l (o ∙ cc)
 
   length-added : (own : List ℕ) (j : ℕ) → length (added_at amount left place own j) ≡ length own
   length-added own j = elim (split (get_or left j false)) [

@@ -19,7 +19,8 @@ amount_on amount left place v j = on (not (get_or left j false) && eqb (get_or p
 -- The loads after job j is added.
 abbrev pub added_at : List ℕ → List Bool → List ℕ → List ℕ → ℕ → List ℕ
 added_at amount left place own j =
-    cond (get_or left j false) own (set own (get_or place j 0) (plus_of (get_or own (get_or place j 0) 0) (get_or amount j 0)))
+    cond (get_or left j false) own
+    (set own (get_or place j 0) (plus_of (get_or own (get_or place j 0) 0) (get_or amount j 0)))
 
 -- Job after job. A load stops at the greatest number of 64 bits.
 unfoldable pub loads_after : ℕ → List ℕ → List Bool → List ℕ → List ℕ → List ℕ

@@ -33,21 +33,19 @@ pub fn fullest(benches: usize, load: &[usize]) -> BenchSum
         largest: 0,
         fullest: 0,
     };
-    let mut v = 0;
-    while v < benches {
+    for v in 0..benches {
         sum = with_bench(sum, v, arrays::at(load, v));
-        v += 1;
     }
     sum
 }
 
 // Adds to entry v of `load` the minutes of the jobs on bench v; then the largest entry of the benches, and the first
 // bench that has it.
-pub fn sum_benches<'a>(
+pub fn sum_benches(
     jobs: usize,
     benches: usize,
-    minutes: &'a [usize],
-    place: &'a [usize],
+    minutes: &[usize],
+    place: &[usize],
     load: &mut [usize],
 ) -> BenchSum
     ensures loads { load.new

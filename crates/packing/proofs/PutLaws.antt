@@ -1,7 +1,7 @@
 -- What the functions that put frames do to their output. A law's premises are what the calls before it ensure.
 --     written out at s end    out with its bytes from at up to end replaced by s
 --     written_after           a second write where the first one ends: the two are one write of both strings
---     put_byte, put_all       a turn of the loop that puts the k bytes of v stores the next of them; after k turns they all stand there
+--     number_put              the last k of the eight bytes of v stored are its k bytes
 --     frame_put-room, frame_put-none  a frame put where there is room for it, and where there is none
 --     NarrowHead h            each number of the head h fits its field
 --     cut_head-fits, cut_booking-fits, cut_job-fits   numbers that fit their fields are not cut
@@ -13,19 +13,19 @@
 --     job_put                 a header and the two parts of a job's body are the job's frame
 --     high_fits               the first eight bytes of a job's body are a number below 2 ^ 64
 --     end_put                 a header is the end's frame
-use Prim.Native.Nat.{ℕ, ◌+◌, ◌-◌, ◌*◌, ◌/◌, ◌%◌, ◌^◌, ◌≤◌, ◌<◌}
-use native.Mathlib.Nat.{add-sub_of_le, mod-eq_of_lt}
-use native.Mathlib.Numerals.{add-one}
+use Prim.Native.Nat.{ℕ, zero, suc, ◌+◌, ◌-◌, ◌*◌, ◌/◌, ◌%◌, ◌^◌, ◌≤◌, ◌<◌}
+use native.Mathlib.Nat.{zero-add, suc-add, add-sub_of_le, div-one, mod-eq_of_lt}
 use native.Mathlib.Omega.{arith}
 use mathlib.Core.Path.{◌≡◌, sym, ap, ◌∙◌}
 use mathlib.Core.List.{List, [], ◌∷◌, ◌++◌, append_assoc, append-nil}
-use lib.ListN.{length, take, drop, set, length-append, length-take, length-drop, drop_of_length-le}
-use lib.Seq.{length-take-le, take_all, take_at, drop_at, drop-drop, paste, paste-suc}
+use lib.ListN.{length, take, drop, length-append, length-take, length-drop, drop_of_length-le}
+use lib.Seq.{length-take-le, take_all, take_at, drop_at, drop-drop}
+use borrow.Rule.Slice.PartMut.{put_mid, Post-is}
+use Rattle.std.specs.Int.{bytes_high_first}
 use borrow.Author.Tests.{le-leb, lt-leb}
 use Rattle.bits.specs.Bits.{bytes_of}
 use Rattle.bits.specs.Layout.{joined, packed}
-use Rattle.bits.proofs.BitsLaws.{pow_256}
-use Rattle.bits.proofs.BytesLaws.{length-bytes_of, get_or-bytes_of, bytes_of-append}
+use Rattle.bits.proofs.BytesLaws.{length-bytes_of, bytes_of-append}
 use Rattle.fields.specs.declared.sheet.Booking.{Booking}
 use Rattle.fields.specs.declared.sheet.Head.{Head}
 use Rattle.fields.specs.declared.sheet.Job.{Job}
@@ -59,14 +59,25 @@ written_after out at a b mid end h e l =
 
 -- ── the bytes of a number ──
 
-pub put_byte : (out : List ℕ) (at k v i : ℕ) → i < k → at + k ≤ length out
-    → set (paste out at (bytes_of k v) i) (at + i) (v / 2 ^ (8 * (k - 1 - i)) % 256) ≡ paste out at (bytes_of k v) (i + 1)
-put_byte out at k v i l h =
-    rw (← pow_256 (k - 1 - i), ← get_or-bytes_of k v i l, add-one i)
-    (paste-suc out at (bytes_of k v) i 0 (omega arith) (omega (arith, length-bytes_of k v)))
+all_bytes : (v : ℕ) → bytes_high_first 8 v ≡ bytes_of 8 v
+unfolding bytes_of
+all_bytes v = rw div-one
 
-pub put_all : (out : List ℕ) (at k v i : ℕ) → i ≡ k → paste out at (bytes_of k v) i ≡ written out at (bytes_of k v) (at + k)
-put_all out at k v i e = rw (e, take_all k (bytes_of k v) (omega (arith, length-bytes_of k v)))
+low_bytes : (n k v : ℕ) → drop n (bytes_of (n + k) v) ≡ bytes_of k v
+unfolding bytes_of
+low_bytes zero k v = rw zero-add
+low_bytes (suc n) k v = rw suc-add (low_bytes n k v)
+
+-- The last k of the eight bytes of v, stored at byte at.
+pub number_put : (out : List ℕ) (at k v : ℕ) (bytes part : List ℕ) → k ≤ 8 → bytes ≡ bytes_high_first 8 v
+    → part ≡ take (8 - (8 - k)) (drop (8 - k) bytes) → put_mid at (at + k - at) out part ≡ written out at (bytes_of k v) (at + k)
+number_put out at k v bytes part few e p =
+    let eight : 8 ≡ 8 - k + k = omega arith in
+    let low : drop (8 - k) bytes ≡ bytes_of k v =
+    ap (drop (8 - k)) (e ∙ all_bytes v ∙ ap (λ (n : ℕ). bytes_of n v) eight) ∙ low_bytes (8 - k) k v in
+    let all : part ≡ bytes_of k v =
+    p ∙ ap (take (8 - (8 - k))) low ∙ take_all (8 - (8 - k)) (bytes_of k v) (omega (arith, length-bytes_of k v)) in
+    rw (all, Post-is at (at + k) out (omega arith)) (sym (append_assoc (take at out) (bytes_of k v) (drop (at + k) out)))
 
 -- ── a frame where there is room, and where there is none ──
 

@@ -82,10 +82,5 @@ fn put(out: &mut [u8], at: usize, k: usize, v: u64)
     requires { (k ≤ 8) × (at + k ≤ length out.old) }
     ensures { out.new ≡ take at out.old ++ bytes_of k v ++ drop (at + k) out.old }
 {
-    let mut i = 0;
-    while i < k {
-        let shift = 8 * (k - 1 - i);
-        out[at + i] = ((v >> shift) % 256) as u8;
-        i += 1;
-    }
+    out[at..at + k].copy_from_slice(&v.to_be_bytes()[8 - k..]);
 }

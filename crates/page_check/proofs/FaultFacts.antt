@@ -24,7 +24,7 @@ use Rattle.sums.proofs.SearchLaws.{any_intro, any_elim, any_false, least-found, 
 use Rattle.sums.proofs.SearchLaws.{least-before, least_bound, least-holds}
 use Rattle.fields.specs.declared.fault.Fault.{Fault}
 use Rattle.fields.specs.declared.fault.Fault.TheVariants.{SetBench, SharedBench}
-use Rattle.fields.specs.declared.fault.Verdict.TheVariants.{Accepted, Refused}
+use Rattle.std.specs.Prelude.{Ok, Err}
 use Rattle.set_check.specs.SetCheck.{foreign_in}
 use Rattle.set_check.proofs.CheckRun.{head_only}
 use Rattle.page_faults.specs.PageFaults.{set_at, unfit, overlap, shares_earlier, set_verdict, verdict_at, is_fault}
@@ -109,11 +109,11 @@ module _ (benches : ℕ) (page : List ℕ) where
   abbrev faulty : ℕ → Bool
   faulty i = is_fault (verdict_at benches page i)
 
-  pub verdict_17 : (i : ℕ) → ImproperSet benches (on_page page i) → verdict_at benches page i ≡ Refused (SetBench i)
+  pub verdict_17 : (i : ℕ) → ImproperSet benches (on_page page i) → verdict_at benches page i ≡ Err (SetBench i)
   verdict_17 i bad = rw (improper-unfit benches (set_at page i) bad) refl
 
   pub verdict_18 : (i : ℕ) → ProperSet benches (on_page page i) → SharesEarlier page i
-      → verdict_at benches page i ≡ Refused (SharedBench i)
+      → verdict_at benches page i ≡ Err (SharedBench i)
   verdict_18 i good shared = rw (proper_fit benches (set_at page i) good, shares_found page i shared) refl
 
   pub faultless_none : (n : ℕ) → Faultless benches page n → (i : ℕ) → i < n → faulty i ≡ false
@@ -140,26 +140,26 @@ module _ (benches : ℕ) (page : List ℕ) where
       }
 
   pub page_fault : (i : ℕ) → i < length page → Faultless benches page i → {f : Fault}
-      → verdict_at benches page i ≡ Refused f → page_verdict benches page ≡ Refused f
+      → verdict_at benches page i ≡ Err f → page_verdict benches page ≡ Err f
   unfolding first_faulty page_verdict
   page_fault i l F e =
       let first : first_faulty benches page ≡ i =
       least-found (length page) faulty i l (ap is_fault e) (faultless_none i F) in
       rw (first, lt-ltb i (length page) l) e
 
-  pub page_none : Faultless benches page (length page) → page_verdict benches page ≡ Accepted
+  pub page_none : Faultless benches page (length page) → page_verdict benches page ≡ Ok tt
   unfolding first_faulty page_verdict
   page_none F =
       let none : first_faulty benches page ≡ length page =
       least-none (length page) faulty (faultless_none (length page) F) in
       rw (none, le-ltb (length page) (length page) (omega arith)) refl
 
-  pub none_page : page_verdict benches page ≡ Accepted → Faultless benches page (length page)
+  pub none_page : page_verdict benches page ≡ Ok tt → Faultless benches page (length page)
   unfolding first_faulty page_verdict
   none_page e = elim (lt-or-le (first_faulty benches page) (length page)) [
     | inl l ↦ clash
         (least-holds (length page) faulty l)
-        (ap is_fault (sym (cond-true (verdict_at benches page (first_faulty benches page)) Accepted
+        (ap is_fault (sym (cond-true (verdict_at benches page (first_faulty benches page)) (Ok tt)
         (lt-ltb (first_faulty benches page) (length page) l)) ∙ e))
     | inr l ↦ none_faultless (length page) (λ i below. least-before (length page) faulty i (omega arith))
   ]

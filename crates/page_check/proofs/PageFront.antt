@@ -19,8 +19,8 @@ use Rattle.sums.specs.Sum.{count}
 use Rattle.sums.specs.Search.{least}
 use Rattle.sums.proofs.CountLaws.{count-all, pigeonhole}
 use Rattle.sums.proofs.SearchLaws.{any_intro, any_cong, any-least, least-holds, least-before, least-found}
-use Rattle.fields.specs.declared.fault.Verdict.{Verdict}
-use Rattle.fields.specs.declared.fault.Verdict.TheVariants.{Accepted, Refused}
+use Rattle.fields.specs.Tests.{Verdict}
+use Rattle.std.specs.Prelude.{Ok, Err}
 use Rattle.frame.specs.Reading.{read_sheet}
 use Rattle.frame.proofs.Stored.{read_cases}
 use Rattle.day.specs.Day.{Day, day_of}
@@ -121,8 +121,8 @@ module _ (benches : ℕ) (page : List ℕ) where
 
 -- Behind a fault nothing matters.
 after_fault : (v w : Verdict) (x y : PageAnswer) → v ≡ w → is_fault w ≡ true → after_faults v x ≡ after_faults w y
-after_fault v Accepted x y e p = clash p refl
-after_fault v (Refused f) x y e p = rw e refl
+after_fault v (Ok _) x y e p = clash p refl
+after_fault v (Err f) x y e p = rw e refl
 
 answer_enough : (d : Day) (page : List ℕ) → page_answer d (take 65 page) ≡ page_answer d page
 answer_enough d page = elim (lt-or-le (length page) 65) [

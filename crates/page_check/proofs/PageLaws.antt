@@ -19,8 +19,8 @@ use Rattle.bits.specs.Bits.{is_set}
 use Rattle.sums.proofs.SearchLaws.{least-holds, least-before}
 use Rattle.sums.proofs.CountLaws.{count-pos_elim}
 use Rattle.fields.specs.declared.fault.Fault.{Fault}
-use Rattle.fields.specs.declared.fault.Verdict.{Verdict}
-use Rattle.fields.specs.declared.fault.Verdict.TheVariants.{Accepted, Refused}
+use Rattle.fields.specs.Tests.{Verdict}
+use Rattle.std.specs.Prelude.{Ok, Err}
 use Rattle.fields.specs.Contents.{Contents}
 use Rattle.frame.specs.Reading.{accepted, refused, read_sheet}
 use Rattle.frame.proofs.AcceptedLaws.{accepted_sound}
@@ -62,7 +62,7 @@ module _ (s page : List ℕ) where
     day_ok : AcceptedDay d
     day_ok = accepted_day c (accepted_sound s c read)
 
-    pub fault_is : {f : Fault} → page_verdict d.benches page ≡ Refused f → check_page s page ≡ Faulty f
+    pub fault_is : {f : Fault} → page_verdict d.benches page ≡ Err f → check_page s page ≡ Faulty f
     fault_is e = answer_is ∙ rw e refl
 
     abbrev is_long : Bool
@@ -79,7 +79,7 @@ module _ (s page : List ℕ) where
     Says Passed = NoFault × EachFits d × ((i : ℕ) → i < length page → Blocking d (on_page page i))
     Says (Long l) = NoFault × SoundLong d l.job
     Says (NotPassed i) = NoFault × EachFits d × FirstOpen d page i
-    Says (Faulty f) = (v : Fault) × (page_verdict d.benches page ≡ Refused v)
+    Says (Faulty f) = (v : Fault) × (page_verdict d.benches page ≡ Err v)
 
     -- ── judged ──
 
@@ -114,13 +114,13 @@ module _ (s page : List ℕ) where
     says_by : (v : Verdict) (l o : Bool) → v ≡ page_verdict d.benches page → l ≡ is_long → o ≡ is_open
         → Says (after_faults v
         (cond l (Long (record { job = long_job d })) (cond o (NotPassed (first_open d page)) Passed)))
-    says_by (Refused f) l o e g h = (f, sym e)
-    says_by Accepted true o e g h = (none_page d.benches page (sym e), long_found d (sym g))
-    says_by Accepted false true e g h =
+    says_by (Err f) l o e g h = (f, sym e)
+    says_by (Ok _) true o e g h = (none_page d.benches page (sym e), long_found d (sym g))
+    says_by (Ok _) false true e g h =
         let fits = none_long d (sym g) in
         let first = first_open_lem fits (ltb-true (first_open d page) (length page) (sym h)) in
         (none_page d.benches page (sym e), fits, first)
-    says_by Accepted false false e g h =
+    says_by (Ok _) false false e g h =
         let fits = none_long d (sym g) in
         let far = ltb-false (first_open d page) (length page) (sym h) in
         (none_page d.benches page (sym e), fits, λ i l. all_before fits i (omega (arith, far)))
@@ -161,15 +161,8 @@ module _ (s page : List ℕ) where
 
     module _ (F : Faultless d.benches page (length page)) where
       -- There is no fault of the page.
-      no_fault : (v : Fault) → page_verdict d.benches page ≡ Refused v → ⊥
-      no_fault v e = verdicts-differ (sym (page_none d.benches page F) ∙ e)
-        where
-          is-accepted : Verdict → ℕ
-          is-accepted Accepted = 1
-          is-accepted (Refused f) = 0
-
-          verdicts-differ : {f : Fault} → Accepted ≡ Refused f → ⊥
-          verdicts-differ e = let z : ◌≡◌ {A = ℕ} 1 0 = ap is-accepted e in omega arith
+      no_fault : (v : Fault) → page_verdict d.benches page ≡ Err v → ⊥
+      no_fault v e = let none = page_none d.benches page F in cc
 
       one_of : (r : PageAnswer) → Says r → OneOfThree r
       one_of Passed x = it_passed

@@ -10,9 +10,9 @@
 --     answer_open, answer_passed      and the page is judged
 --     refused_is, accepted_is         the answer for the bytes
 use Prim.Native.Nat.{ℕ, zero, suc, ◌+◌, ◌≤◌, ◌<◌, ◌^◌}
-use mathlib.Core.Path.{◌≡◌, refl, sym, ap, subst, ◌∙◌}
+use mathlib.Core.Path.{◌≡◌, refl, sym, ap, ◌∙◌}
 use mathlib.Core.Bool.{Bool, true, false, not, cond}
-use mathlib.Core.Logic.{◌⊎◌, inl, inr}
+use mathlib.Core.Logic.{inl, inr}
 use mathlib.Core.List.{List}
 use native.Mathlib.Omega.{arith}
 use native.Mathlib.Numerals.{unary_clauses}
@@ -28,10 +28,12 @@ use Rattle.bits.proofs.SetBits.{is_set-zero}
 use Rattle.sums.specs.Search.{any, least}
 use Rattle.sums.proofs.SearchLaws.{any_false, least-found, least-none}
 use Rattle.fields.specs.Contents.{Contents}
-use Rattle.fields.specs.declared.sheet.Reading.{Reading}
+use Rattle.fields.specs.declared.sheet.Sheet.{Sheet}
 use Rattle.fields.specs.declared.fault.Fault.{Fault}
-use Rattle.fields.specs.declared.fault.Verdict.{Verdict}
-use Rattle.fields.specs.declared.fault.Verdict.TheVariants.{Accepted, Refused}
+use Rattle.fields.specs.Tests.{Verdict}
+use Rattle.std.specs.Prelude.{Result, Ok, Err, Option, Some, None}
+use Rattle.rocks.specs.RockArrays.{first}
+use Rattle.rocks.proofs.FirstLaws.{first-some, first-none}
 use Rattle.frame.specs.Reading.{accepted, read_sheet, stored, sheet_of}
 use Rattle.frame.proofs.Stored.{verdict_refused, verdict_accepted}
 use Rattle.day.specs.Day.{Day, day_of, long_job}
@@ -45,11 +47,11 @@ use Rattle.placements.specs.LeastWeight.{blocks}
 use Rattle.placing.specs.declared.classes.Bay.{Bay}
 use Rattle.weighing.specs.Weights.{Weighs, OfTheDay}
 use Rattle.set_check.specs.SetCheck.{foreign_in}
-use Rattle.set_check.proofs.CheckRun.{head_only}
+use Rattle.set_check.proofs.CheckRun.{head_only, found_some, found_none}
 use Rattle.page_faults.specs.PageFaults.{set_at, unfit}
 use Rattle.page_faults.specs.PageFaults.{page_verdict}
 use Rattle.page_check.proofs.FaultFacts.{proper_fit, none_page}
-use Rattle.page_check.specs.PageCheck.{NoneUnfit, first_open, after_faults, first_answer, page_answer, check_page}
+use Rattle.page_check.specs.PageCheck.{NoneUnfit, first_open, open_set, after_faults, first_answer, page_answer, check_page}
 
 -- ── one set ──
 
@@ -105,17 +107,20 @@ module _ (d : Day) (page : List ℕ) where
       | inr before ↦ P k before
     ])
 
-    pub open_found : i < length page → {t : Bool} → t ≡ blocking_at i → t ≡ false → i ≡ first_open d page
+    pub open_found : i < length page → {t : Bool} → t ≡ blocking_at i → t ≡ false → Some i ≡ open_set d page
     unfolding first_open
     open_found l e p =
-        sym (least-found (length page) (λ k. not (blocking_at k)) i l (ap not (sym e ∙ p))
-        (λ k before. not_intro_false (P k before)))
+        let first : first_open d page ≡ i =
+        least-found (length page) (λ k. not (blocking_at k)) i l (ap not (sym e ∙ p))
+        (λ k before. not_intro_false (P k before)) in
+        rw (first, lt-ltb i (length page) l) refl
 
-    pub all_blocking : length page ≤ i → length page ≡ first_open d page
+    pub all_blocking : length page ≤ i → None ≡ open_set d page
     unfolding first_open
     all_blocking l =
-        sym (least-none (length page) (λ k. not (blocking_at k))
-        (λ k below. not_intro_false (P k (omega arith))))
+        let none : first_open d page ≡ length page =
+        least-none (length page) (λ k. not (blocking_at k)) (λ k below. not_intro_false (P k (omega arith))) in
+        rw (none, le-ltb (length page) (length page) (omega arith)) refl
 
 -- ── before a set is judged ──
 
@@ -124,23 +129,26 @@ module _ (d : Day) (page : List ℕ) {benches : ℕ} (same : benches ≡ d.bench
   verdict_is : verdict ≡ page_verdict d.benches page
   verdict_is = found ∙ ap (λ (n : ℕ). page_verdict n page) same
 
-  pub by_fault : {f : Fault} → verdict ≡ Refused f → Faulty f ≡ first_answer d page
+  pub by_fault : {f : Fault} → verdict ≡ Err f → Faulty f ≡ first_answer d page
   by_fault e = rw (sym verdict_is ∙ e) refl
 
-  module _ (none : verdict ≡ Accepted) (jobs : ℕ) (minutes allowed : List ℕ) (F : Fields d jobs minutes allowed)
-      {long target : ℕ} (here : target ≡ d.target) (f : long ≡ least jobs (λ j. ltb target (get_or minutes j 0))) where
-    long_is : long ≡ long_job d
+  module _ (none : verdict ≡ Ok tt) (jobs : ℕ) (minutes allowed : List ℕ) (F : Fields d jobs minutes allowed)
+      {long : Option ℕ} {target : ℕ} (here : target ≡ d.target)
+      (f : long ≡ first jobs (λ j. ltb target (get_or minutes j 0))) where
+    long_is : least jobs (λ j. ltb target (get_or minutes j 0)) ≡ long_job d
     long_is =
-        f ∙ ap (λ (t : ℕ). least jobs (λ j. ltb t (get_or minutes j 0))) here ∙ long_job_is d jobs minutes allowed F
+        ap (λ (t : ℕ). least jobs (λ j. ltb t (get_or minutes j 0))) here ∙ long_job_is d jobs minutes allowed F
 
-    pub by_long : long < jobs → Long (record { job = long }) ≡ first_answer d page
-    by_long l =
-        let there : long_job d < d.jobs = omega (arith, long_is, F.jobs_are) in
-        rw (sym verdict_is ∙ none, long_is, lt-ltb (long_job d) d.jobs there) refl
+    pub by_long : {j : ℕ} → long ≡ Some j → Long (record { job = j }) ≡ first_answer d page
+    by_long p =
+        let (is, below) = first-some jobs (λ j. ltb target (get_or minutes j 0)) f p in
+        let there : long_job d < d.jobs = omega (arith, is, below, long_is, F.jobs_are) in
+        rw (sym verdict_is ∙ none, is, long_is, lt-ltb (long_job d) d.jobs there) refl
 
-    pub by_none : jobs ≤ long → Passed ≡ first_answer d page
-    by_none l =
-        let there : d.jobs ≤ long_job d = omega (arith, long_is, F.jobs_are) in
+    pub by_none : long ≡ None → Passed ≡ first_answer d page
+    by_none p =
+        let above = first-none jobs (λ j. ltb target (get_or minutes j 0)) f p in
+        let there : d.jobs ≤ long_job d = omega (arith, above, long_is, F.jobs_are) in
         rw (sym verdict_is ∙ none, le-ltb (long_job d) d.jobs there) refl
 
 -- ── whether the page is judged ──
@@ -151,15 +159,15 @@ tag r = tag_of the_type r
 early_by : (v : Verdict) (l : Bool) (j : LongAnswer) (rest r : PageAnswer)
     → r ≡ after_faults v (cond l (Long j) Passed) → (r ≡ Passed → ⊥)
     → r ≡ after_faults v (cond l (Long j) rest)
-early_by (Refused f) l j rest r e n = e
-early_by Accepted true j rest r e n = e
-early_by Accepted false j rest r e n = absurd (n e)
+early_by (Err f) l j rest r e n = e
+early_by (Ok _) true j rest r e n = e
+early_by (Ok _) false j rest r e n = absurd (n e)
 
 judged_by : (v : Verdict) (l : Bool) (j : LongAnswer) → after_faults v (cond l (Long j) Passed) ≡ Passed
-    → (v ≡ Accepted) × (l ≡ false)
-judged_by (Refused f) l j e = let z : ◌≡◌ {A = ℕ} 3 0 = ap tag e in absurd (omega arith)
-judged_by Accepted true j e = let z : ◌≡◌ {A = ℕ} 1 0 = ap tag e in absurd (omega arith)
-judged_by Accepted false j e = (refl, refl)
+    → (v ≡ Ok tt) × (l ≡ false)
+judged_by (Err f) l j e = absurd (cc)
+judged_by (Ok _) true j e = absurd (cc)
+judged_by (Ok _) false j e = (refl, refl)
 
 module _ (d : Day) (page : List ℕ) where
   abbrev judgement : PageAnswer
@@ -170,7 +178,7 @@ module _ (d : Day) (page : List ℕ) where
       early_by (page_verdict d.benches page) (ltb (long_job d) d.jobs) (record { job = long_job d }) judgement r e n
 
   module _ (open-yet : Passed ≡ first_answer d page) where
-    pub nothing_found : (page_verdict d.benches page ≡ Accepted) × (ltb (long_job d) d.jobs ≡ false)
+    pub nothing_found : (page_verdict d.benches page ≡ Ok tt) × (ltb (long_job d) d.jobs ≡ false)
     nothing_found =
         judged_by (page_verdict d.benches page) (ltb (long_job d) d.jobs) (record { job = long_job d })
         (sym open-yet)
@@ -183,27 +191,26 @@ module _ (d : Day) (page : List ℕ) where
     judged_is : page_answer d page ≡ judgement
     judged_is = let (v, l) = nothing_found in rw (v, l) refl
 
-    pub answer_open : {at : ℕ} → at ≡ first_open d page → at < length page → NotPassed at ≡ page_answer d page
-    answer_open e l =
-        rw (e, judged_is, lt-ltb (first_open d page) (length page) (subst (λ (n : ℕ). n < length page) e l)) refl
+    pub answer_open : {x : Option ℕ} {i : ℕ} → x ≡ open_set d page → x ≡ Some i → NotPassed i ≡ page_answer d page
+    answer_open e p =
+        let (is, below) = found_some (first_open d page) (length page) (sym e ∙ p) in rw (is, judged_is, below) refl
 
-    pub answer_passed : {at : ℕ} → at ≡ first_open d page → length page ≤ at → Passed ≡ page_answer d page
-    answer_passed e l =
-        rw (judged_is, le-ltb (first_open d page) (length page) (subst (λ (n : ℕ). length page ≤ n) e l)) refl
+    pub answer_passed : {x : Option ℕ} → x ≡ open_set d page → x ≡ None → Passed ≡ page_answer d page
+    answer_passed e p = rw (judged_is, found_none (first_open d page) (length page) (sym e ∙ p)) refl
 
 -- ── the bytes ──
 
 module _ (s page : List ℕ) where
-  pub refused_is : {x : Reading} {f : Fault} → x ≡ stored (read_sheet s) → x.verdict ≡ Refused f
+  pub refused_is : {x : Result Sheet Fault} {f : Fault} → x ≡ stored (read_sheet s) → x ≡ Err f
       → Faulty f ≡ check_page s page
   unfolding check_page
   refused_is e a = rw (verdict_refused (read_sheet s) e a, check_page)
 
-  pub accepted_is : (x : Reading) {r : PageAnswer} → x ≡ stored (read_sheet s) → x.verdict ≡ Accepted
-      → ((bytes : List ℕ) → (c : Contents) → read_sheet bytes ≡ accepted c → x.sheet ≡ sheet_of c
+  pub accepted_is : {x : Result Sheet Fault} (sheet : Sheet) {r : PageAnswer} → x ≡ stored (read_sheet s) → x ≡ Ok sheet
+      → ((bytes : List ℕ) → (c : Contents) → read_sheet bytes ≡ accepted c → sheet ≡ sheet_of c
       → r ≡ page_answer (day_of c) page)
       → r ≡ check_page s page
   unfolding check_page
-  accepted_is x e a told =
-      let (c, read, same) = verdict_accepted (read_sheet s) x e a in
+  accepted_is sheet e a told =
+      let (c, read, same) = verdict_accepted (read_sheet s) e a in
       rw (read, check_page) (told s c read same)

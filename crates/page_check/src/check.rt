@@ -8,81 +8,68 @@ ghost use Rattle.start.specs.StartArrays.{Fields};
 ghost use Rattle.placements.specs.LeastWeight.{blocks};
 ghost use Rattle.weighing.specs.Weights.{Weighs};
 ghost use Rattle.page_faults.specs.PageFaults.{unfit};
-ghost use Rattle.page_check.specs.PageCheck.{NoneUnfit, first_open, first_answer, page_answer, check_page};
+ghost use Rattle.page_check.specs.PageCheck.{NoneUnfit, open_set, first_answer, page_answer, check_page};
 ghost use Rattle.page_check.specs.PageClaim.{PageClaim};
 
 use answers::{LongAnswer, PageAnswer};
-use frame::{Sheet, Verdict};
+use frame::Sheet;
 use placing::Bay;
 
 // Whether a set, which has a bench and none but the day's, blocks the day.
-fn set_blocks<'a>(
+fn set_blocks(
     bay: Bay,
     set: usize,
     jobs: usize,
-    minutes: &'a [usize],
-    allowed: &'a [usize],
-    booked: &'a [usize],
+    minutes: &[usize],
+    allowed: &[usize],
+    booked: &[usize],
 ) -> bool
     ensures { (d : Day)
         → Weighs d bay jobs minutes.now allowed.now booked.now
         → unfit d.benches set ≡ false → result ≡ blocks d (is_set 64 set) }
 {
-    let named = Bay {
-        benches: bay.benches,
-        p: bay.p,
-        q: bay.q,
-        target: bay.target,
-        set,
-    };
-    weighing::blocks(named, jobs, minutes, allowed, booked)
+    weighing::blocks(Bay { set, ..bay }, jobs, minutes, allowed, booked)
 }
 
-// The first set of the page that does not block the day, and the number of sets where each does.
-fn first_open<'a>(
+// The first set of the page that does not block the day, if there is one.
+fn first_open(
     bay: Bay,
     jobs: usize,
-    minutes: &'a [usize],
-    allowed: &'a [usize],
-    booked: &'a [usize],
-    page: &'a [u64],
-) -> usize
+    minutes: &[usize],
+    allowed: &[usize],
+    booked: &[usize],
+    page: &[u64],
+) -> Option<usize>
     ensures { (d : Day)
         → Weighs d bay jobs minutes.now allowed.now booked.now
-        → NoneUnfit d page.now → result ≡ first_open d page.now }
+        → NoneUnfit d page.now → result ≡ open_set d page.now }
 {
-    let mut i = 0;
-    while i < page.len() {
-        if !set_blocks(bay, page[i] as usize, jobs, minutes, allowed, booked) {
-            return i;
+    for (i, set) in page.iter().enumerate() {
+        if !set_blocks(bay, *set as usize, jobs, minutes, allowed, booked) {
+            return Some(i);
         }
-        i += 1;
     }
-    page.len()
+    None
 }
 
 // What is answered before a set is judged: number 17 or 18, or long. A page on which no set is judged has passed.
-fn first_answer<'a>(
+fn first_answer(
     benches: usize,
     jobs: usize,
     target: usize,
-    minutes: &'a [usize],
-    page: &'a [u64],
+    minutes: &[usize],
+    page: &[u64],
 ) -> PageAnswer
     ensures { (d : Day) → (allowed : List ℕ) → Fields d jobs minutes.now allowed
         → benches ≡ d.benches → target ≡ d.target → result ≡ first_answer d page.now }
 {
-    let verdict = page_faults::page_verdict(benches, page);
-    match verdict {
-        Verdict::Refused(f) => PageAnswer::Fault(f),
-        Verdict::Accepted => {
-            let long = start::long_job(jobs, target, minutes);
-            if long < jobs {
-                return PageAnswer::Long(LongAnswer { job: long as u64 });
-            }
-            PageAnswer::Passed
-        }
+    if let Err(f) = page_faults::page_verdict(benches, page) {
+        return PageAnswer::Fault(f);
     }
+    if let Some(long) = start::long_job(jobs, target, minutes) {
+        return PageAnswer::Long(LongAnswer { job: long as u64 });
+    }
+    PageAnswer::Passed
 }
 
 // The answer for a sheet.
@@ -95,15 +82,15 @@ fn check_sheet(s: Sheet, page: &[u64]) -> PageAnswer
     let benches = h.benches as usize;
     let target = h.target as usize;
     let mut minutes = [0usize; 512];
-    arrays::narrow(jobs, &s.minutes, &mut minutes);
+    arrays::to_numbers(jobs, &s.minutes, &mut minutes);
     let first = first_answer(benches, jobs, target, &minutes, page);
     let PageAnswer::Passed = first else {
         return first;
     };
     let mut allowed = [0usize; 512];
-    arrays::narrow(jobs, &s.allowed, &mut allowed);
+    arrays::to_numbers(jobs, &s.allowed, &mut allowed);
     let mut booked = [0usize; 64];
-    arrays::narrow(benches, &s.booked, &mut booked);
+    arrays::to_numbers(benches, &s.booked, &mut booked);
     let bay = Bay {
         benches,
         p: h.p as usize,
@@ -111,25 +98,19 @@ fn check_sheet(s: Sheet, page: &[u64]) -> PageAnswer
         target,
         set: 0,
     };
-    let at = first_open(bay, jobs, &minutes, &allowed, &booked, page);
-    if at < page.len() {
-        return PageAnswer::NotPassed(at as u64);
+    match first_open(bay, jobs, &minutes, &allowed, &booked, page) {
+        Some(i) => PageAnswer::NotPassed(i as u64),
+        None => PageAnswer::Passed,
     }
-    PageAnswer::Passed
 }
 
 // Whether each set of a page is blocking for a sheet, and no two share a bench.
-pub fn check_page<'a>(s: &'a [u8], page: &'a [u64]) -> PageAnswer
+pub fn check_page(s: &[u8], page: &[u64]) -> PageAnswer
     ensures equation { result ≡ check_page s.now page.now }
     ensures claim { PageClaim s.now page.now result }
 {
-    let reading = reading::read(s);
-    let verdict = reading.verdict;
-    match verdict {
-        Verdict::Refused(f) => PageAnswer::Fault(f),
-        Verdict::Accepted => {
-            let sheet = reading.sheet;
-            check_sheet(sheet, page)
-        }
+    match reading::read(s) {
+        Err(f) => PageAnswer::Fault(f),
+        Ok(sheet) => check_sheet(sheet, page),
     }
 }

@@ -1,17 +1,16 @@
 -- The check of a page through the door, from what the calls ensure: what is returned, and the answer's table after it.
 --     short_called          without room for the answer
 --     empty, room           an array of 65 numbers before a load
---     passed_called, long_called, not_passed_called, fault_called     with room, by the answer
+--     answer_called, fault_called     with room, by the answer
 use Prim.Native.Nat.{ℕ, ◌≤◌, ◌<◌}
 use native.Mathlib.Omega.{arith}
-use mathlib.Core.Path.{◌≡◌, refl, sym, ap, ◌∙◌}
-use mathlib.Core.List.{List}
-use lib.ListN.{length, take, replicate, length-replicate}
+use mathlib.Core.Path.{◌≡◌, sym, ap, ◌∙◌}
+use mathlib.Core.List.{List, [], ◌∷◌}
+use lib.ListN.{length, get_or, take, replicate, length-replicate}
 use Rattle.fields.specs.declared.fault.Fault.{Fault}
 use Rattle.frame.specs.Reading.{read_sheet}
-use Rattle.answers.specs.declared.answer.LongAnswer.{LongAnswer}
 use Rattle.answers.specs.declared.check.PageAnswer.{PageAnswer}
-use Rattle.answers.specs.declared.check.PageAnswer.TheVariants.{Passed, Long, NotPassed, Fault as Faulty}
+use Rattle.answers.specs.declared.check.PageAnswer.TheVariants.{Fault as Faulty}
 use Rattle.page_check.specs.PageCheck.{check_page}
 use Rattle.page_check.proofs.PageFront.{page_enough}
 use Rattle.tables.specs.Tables.{numbers_of, room_of, put_entry, put_numbers}
@@ -34,7 +33,7 @@ module _ (s page numbers : List ℕ) where
   abbrev answer : PageAnswer
   answer = door_page s (numbers_of page) (room_of numbers)
 
-  abbrev Promised : ℕ → List ℕ → Type 0
+  abbrev pub Promised : ℕ → List ℕ → Type 0
   Promised r numbers' = PageCalled answer r numbers numbers' × PageDoorClaim s page numbers r numbers'
 
   called : (a : PageAnswer) {word : ℕ} {numbers' : List ℕ} → a ≡ answer → word ≡ page_word a
@@ -59,16 +58,13 @@ module _ (s page numbers : List ℕ) where
         ea ∙ ap (check_page s) front ∙ page_enough s (numbers_of page)
         ∙ sym (door_checked s (numbers_of page) (room_of numbers) (omega arith))
 
-    pub passed_called : {numbers' : List ℕ} → a ≡ Passed → numbers' ≡ put_entry numbers 0 0 → Promised 1 numbers'
-    passed_called e put = called Passed (sym e ∙ same_answer) refl (put ∙ one_put numbers 0 enough)
-
-    pub long_called : {l : LongAnswer} {numbers' : List ℕ} → a ≡ Long l → numbers' ≡ put_entry numbers 0 l.job
-        → Promised 2 numbers'
-    long_called {l} e put = called (Long l) (sym e ∙ same_answer) refl (put ∙ one_put numbers l.job enough)
-
-    pub not_passed_called : {i : ℕ} {numbers' : List ℕ} → a ≡ NotPassed i → numbers' ≡ put_entry numbers 0 i
-        → Promised 0 numbers'
-    not_passed_called {i} e put = called (NotPassed i) (sym e ∙ same_answer) refl (put ∙ one_put numbers i enough)
+    -- An answer that is no fault: its word, and its number.
+    pub answer_called : (x : PageAnswer) {r : ℕ × ℕ} {numbers' : List ℕ} → a ≡ x → r ≡ (page_word x, get_or (page_numbers x) 0 0)
+        → page_numbers x ≡ get_or (page_numbers x) 0 0 ∷ [] → numbers' ≡ put_entry numbers 0 r.1 → Promised r.0 numbers'
+    answer_called x e both one put =
+        called x (sym e ∙ same_answer) (ap (λ (p : ℕ × ℕ). p.0) both)
+        (put ∙ ap (λ (p : ℕ × ℕ). put_entry numbers 0 p.1) both
+        ∙ one_put numbers (get_or (page_numbers x) 0 0) enough ∙ ap (λ (ns : List ℕ). put_numbers ns numbers) (sym one))
 
     pub fault_called : {f : Fault} {word : ℕ} → a ≡ Faulty f → word ≡ fault_word f → Promised word numbers
     fault_called {f} e w = called (Faulty f) (sym e ∙ same_answer) w (sym (put_nothing numbers))

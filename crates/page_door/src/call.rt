@@ -5,16 +5,6 @@ ghost use Rattle.page_promise.specs.PageDoorClaim.{PageDoorClaim};
 
 use answers::PageAnswer;
 
-// The words of the three answers.
-const PASSED: u64 = 1;
-
-const LONG: u64 = 2;
-
-const NOT_PASSED: u64 = 0;
-
-// The entry of an answer that names no job and no set.
-const NOTHING: u64 = 0;
-
 // Checks a page of sets: the answer's word, and its number.
 pub fn check_page(sheet: &[u8], page: &[u8], answer: &mut [u8]) -> u64
     ensures called { PageCalled
@@ -29,19 +19,12 @@ pub fn check_page(sheet: &[u8], page: &[u8], answer: &mut [u8]) -> u64
     // A page of 65 sets is as wrong as any longer one.
     let mut sets = [0u64; 65];
     let n = entries::load(page, &mut sets);
-    match page_check::check_page(sheet, &sets[..n]) {
-        PageAnswer::Passed => {
-            tables::put(answer, 0, NOTHING);
-            PASSED
-        }
-        PageAnswer::Long(l) => {
-            tables::put(answer, 0, l.job);
-            LONG
-        }
-        PageAnswer::NotPassed(set) => {
-            tables::put(answer, 0, set);
-            NOT_PASSED
-        }
-        PageAnswer::Fault(f) => tables::fault_word(f),
-    }
+    let (word, number) = match page_check::check_page(sheet, &sets[..n]) {
+        PageAnswer::Passed => (tables::PASSED, tables::NOTHING),
+        PageAnswer::Long(l) => (tables::LONG, l.job),
+        PageAnswer::NotPassed(set) => (tables::NOT_PASSED, set),
+        PageAnswer::Fault(f) => return tables::fault_word(f),
+    };
+    tables::put(answer, 0, number);
+    word
 }

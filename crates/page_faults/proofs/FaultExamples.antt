@@ -11,7 +11,7 @@ use mathlib.Core.Path.{◌≡◌, refl}
 use mathlib.Core.List.{[], ◌∷◌}
 use Rattle.bits.specs.Bits.{is_set}
 use Rattle.fields.specs.declared.fault.Fault.TheVariants.{SetBench, SharedBench}
-use Rattle.fields.specs.declared.fault.Verdict.TheVariants.{Accepted, Refused}
+use Rattle.std.specs.Prelude.{Ok, Err}
 use Rattle.set_check.specs.SetCheck.{foreign_in}
 use Rattle.page_faults.specs.PageFaults.{unfit, overlap, shares_earlier, first_faulty, page_verdict}
 
@@ -30,35 +30,35 @@ bench3 = 2 ^ 60
 abbrev bench4 : ℕ
 bench4 = 2 ^ 59
 
-pub none_found : (page_verdict 4 (bench0 ∷ (bench1 + bench3) ∷ []) ≡ Accepted) × (page_verdict 4 [] ≡ Accepted)
+pub none_found : (page_verdict 4 (bench0 ∷ (bench1 + bench3) ∷ []) ≡ Ok tt) × (page_verdict 4 [] ≡ Ok tt)
 unfolding unfit overlap shares_earlier first_faulty page_verdict foreign_in is_set
 none_found = (refl, refl)
 
-pub empty_found : page_verdict 4 (bench0 ∷ 0 ∷ []) ≡ Refused (SetBench 1)
+pub empty_found : page_verdict 4 (bench0 ∷ 0 ∷ []) ≡ Err (SetBench 1)
 unfolding unfit overlap shares_earlier first_faulty page_verdict foreign_in is_set
 empty_found = refl
 
-pub foreign_found : page_verdict 4 (bench0 ∷ bench1 ∷ (bench2 + bench4) ∷ []) ≡ Refused (SetBench 2)
+pub foreign_found : page_verdict 4 (bench0 ∷ bench1 ∷ (bench2 + bench4) ∷ []) ≡ Err (SetBench 2)
 unfolding unfit overlap shares_earlier first_faulty page_verdict foreign_in is_set
 foreign_found = refl
 
-pub shared_later : page_verdict 4 (bench0 ∷ bench1 ∷ bench0 ∷ []) ≡ Refused (SharedBench 2)
+pub shared_later : page_verdict 4 (bench0 ∷ bench1 ∷ bench0 ∷ []) ≡ Err (SharedBench 2)
 unfolding unfit overlap shares_earlier first_faulty page_verdict foreign_in is_set
 shared_later = refl
 
-pub seventeen_first : page_verdict 4 (bench0 ∷ (bench0 + bench4) ∷ []) ≡ Refused (SetBench 1)
+pub seventeen_first : page_verdict 4 (bench0 ∷ (bench0 + bench4) ∷ []) ≡ Err (SetBench 1)
 unfolding unfit overlap shares_earlier first_faulty page_verdict foreign_in is_set
 seventeen_first = refl
 
-pub in_page_order : (page_verdict 4 (bench0 ∷ bench0 ∷ 0 ∷ []) ≡ Refused (SharedBench 1))
-    × (page_verdict 4 (0 ∷ bench0 ∷ bench0 ∷ []) ≡ Refused (SetBench 0))
+pub in_page_order : (page_verdict 4 (bench0 ∷ bench0 ∷ 0 ∷ []) ≡ Err (SharedBench 1))
+    × (page_verdict 4 (0 ∷ bench0 ∷ bench0 ∷ []) ≡ Err (SetBench 0))
 unfolding unfit overlap shares_earlier first_faulty page_verdict foreign_in is_set
 in_page_order = (refl, refl)
 
-pub lowest_bench_unused : page_verdict 4 ((bench1 + bench2) ∷ (bench2 + bench3) ∷ []) ≡ Refused (SharedBench 1)
+pub lowest_bench_unused : page_verdict 4 ((bench1 + bench2) ∷ (bench2 + bench3) ∷ []) ≡ Err (SharedBench 1)
 unfolding unfit overlap shares_earlier first_faulty page_verdict foreign_in is_set
 lowest_bench_unused = refl
 
-pub last_bench : page_verdict 64 (1 ∷ 1 ∷ []) ≡ Refused (SharedBench 1)
+pub last_bench : page_verdict 64 (1 ∷ 1 ∷ []) ≡ Err (SharedBench 1)
 unfolding unfit overlap shares_earlier first_faulty page_verdict foreign_in is_set
 last_bench = refl

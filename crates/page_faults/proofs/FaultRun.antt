@@ -23,9 +23,11 @@ use Rattle.sums.specs.Search.{any}
 use Rattle.sums.proofs.SearchLaws.{any_intro, any_elim, any_cong, any_false, least-found, least-none}
 use Rattle.fields.specs.declared.fault.Fault.{Fault}
 use Rattle.fields.specs.declared.fault.Fault.TheVariants.{SetBench, SharedBench}
-use Rattle.fields.specs.declared.fault.Verdict.{Verdict}
-use Rattle.fields.specs.declared.fault.Verdict.TheVariants.{Accepted, Refused}
-use Rattle.set_check.specs.SetCheck.{foreign_in}
+use Rattle.fields.specs.Tests.{Verdict}
+use Rattle.std.specs.Prelude.{Ok, Err, Option}
+use Rattle.std.specs.Option.{is_some}
+use Rattle.std.specs.Bool.{then_some}
+use Rattle.set_check.specs.SetCheck.{foreign_in, foreign_of}
 use Rattle.page_faults.specs.PageFaults.{set_at, unfit, overlap, shares_earlier, set_verdict, verdict_at, is_fault}
 use Rattle.page_faults.specs.PageFaults.{first_faulty, page_verdict}
 
@@ -38,12 +40,16 @@ unfit-empty benches set e =
     any_false 64 (is_set 64 set) (λ v l. ap (λ (n : ℕ). is_set 64 n v) e ∙ is_set-zero 64 v) in
     rw none refl
 
-pub unfit-foreign : (benches set r : ℕ) → set < 2 ^ 64 → set ≢ 0 → r ≡ foreign_in benches set
-    → ltb r 64 ≡ unfit benches set
+pub unfit-foreign : (benches set : ℕ) {r : Option ℕ} → set < 2 ^ 64 → set ≢ 0 → r ≡ foreign_of benches set
+    → is_some r ≡ unfit benches set
 unfolding unfit
-unfit-foreign benches set r small some e =
+unfit-foreign benches set small some e =
     let there : any 64 (is_set 64 set) ≡ true = any-is_set 64 set small ∙ ap not (ne_eqb set 0 some) in
-    rw (there, e) refl
+    rw (there, e) (found (ltb (foreign_in benches set) 64) (foreign_in benches set))
+  where
+    found : (b : Bool) (n : ℕ) → is_some (then_some b n) ≡ b
+    found true n = refl
+    found false n = refl
 
 pub meets_is : (a b r : ℕ) → r < 2 ^ 64 → ((u : ℕ) → is_set 64 r u ≡ (is_set 64 a u && is_set 64 b u))
     → not (eqb r 0) ≡ overlap a b
@@ -52,13 +58,13 @@ meets_is a b r small both =
     sym (any-is_set 64 r small) ∙ any_cong 64 (is_set 64 r) (λ v. is_set 64 a v && is_set 64 b v) (λ v l. both v)
 
 module _ (at : ℕ) {bad shared is-bad is_shared : Bool} (b : bad ≡ is-bad) (s : shared ≡ is_shared) where
-  pub by_17 : bad ≡ true → Refused (SetBench at) ≡ set_verdict is-bad is_shared at
+  pub by_17 : bad ≡ true → Err (SetBench at) ≡ set_verdict is-bad is_shared at
   by_17 p = rw (sym b ∙ p) refl
 
-  pub by_18 : bad ≡ false → shared ≡ true → Refused (SharedBench at) ≡ set_verdict is-bad is_shared at
+  pub by_18 : bad ≡ false → shared ≡ true → Err (SharedBench at) ≡ set_verdict is-bad is_shared at
   by_18 p q = rw (sym b ∙ p, sym s ∙ q) refl
 
-  pub by_none : bad ≡ false → shared ≡ false → Accepted ≡ set_verdict is-bad is_shared at
+  pub by_none : bad ≡ false → shared ≡ false → Ok tt ≡ set_verdict is-bad is_shared at
   by_none p q = rw (sym b ∙ p, sym s ∙ q) refl
 
 -- ── set by set ──
@@ -102,7 +108,7 @@ module _ (benches : ℕ) (page : List ℕ) where
       found-is : verdict ≡ verdict_at benches page i
       found-is = found ∙ ap (λ (b : Bool). set_verdict (unfit benches (set_at page i)) b i) shared_is
 
-      pub goes_on : verdict ≡ Accepted → {more : ℕ}
+      pub goes_on : verdict ≡ Ok tt → {more : ℕ}
           → ((u : ℕ) → is_set 64 more u ≡ (is_set 64 seen u || is_set 64 (set_at page i) u))
           → Tried benches page more (i + 1)
       goes_on none either =
@@ -114,14 +120,14 @@ module _ (benches : ℕ) (page : List ℕ) where
             ];
           })
 
-      pub stops : i < length page → {f : Fault} → verdict ≡ Refused f → verdict ≡ page_verdict benches page
+      pub stops : i < length page → {f : Fault} → verdict ≡ Err f → verdict ≡ page_verdict benches page
       unfolding first_faulty page_verdict
       stops l fault =
           let first : first_faulty benches page ≡ i =
           least-found (length page) faulty i l (ap is_fault (sym found-is ∙ fault)) T.no_fault in
           found-is ∙ rw (first, lt-ltb i (length page) l) refl
 
-    pub ends : length page ≤ i → Accepted ≡ page_verdict benches page
+    pub ends : length page ≤ i → Ok tt ≡ page_verdict benches page
     unfolding first_faulty page_verdict
     ends l =
         let none : first_faulty benches page ≡ length page =

@@ -9,12 +9,11 @@
 --     is_fault v                a fault was found
 --     first_faulty benches page  the first set with a fault, and the number of sets where there is none
 --     page_verdict benches page  its fault
-use Rattle.std.specs.Prelude.{ℕ, Bool, true, false, cond, not, ◌&&◌, ◌||◌, List, length, get_or, ltb}
+use Rattle.std.specs.Prelude.{ℕ, Bool, true, false, cond, not, ◌&&◌, ◌||◌, List, length, get_or, ltb, Ok, Err}
 use Rattle.bits.specs.Bits.{is_set}
 use Rattle.sums.specs.Search.{any, least}
 use Rattle.fields.specs.declared.fault.Fault.TheVariants.{SetBench, SharedBench}
-use Rattle.fields.specs.declared.fault.Verdict.{Verdict}
-use Rattle.fields.specs.declared.fault.Verdict.TheVariants.{Accepted, Refused}
+use Rattle.fields.specs.Tests.{Verdict}
 use Rattle.set_check.specs.SetCheck.{foreign_in}
 
 abbrev pub set_at : List ℕ → ℕ → ℕ
@@ -33,14 +32,14 @@ shares_earlier page i = any i (λ k. overlap (set_at page k) (set_at page i))
 
 -- "each for 17 and then for number 18 ...; the place of both is the set's number"
 abbrev pub set_verdict : Bool → Bool → ℕ → Verdict
-set_verdict bad shared i = cond bad (Refused (SetBench i)) (cond shared (Refused (SharedBench i)) Accepted)
+set_verdict bad shared i = cond bad (Err (SetBench i)) (cond shared (Err (SharedBench i)) (Ok tt))
 
 abbrev pub verdict_at : ℕ → List ℕ → ℕ → Verdict
 verdict_at benches page i = set_verdict (unfit benches (set_at page i)) (shares_earlier page i) i
 
 abbrev pub is_fault : Verdict → Bool
-is_fault Accepted = false
-is_fault (Refused f) = true
+is_fault (Ok _) = false
+is_fault (Err f) = true
 
 -- "Sets are tried for faults in page order"
 unfoldable pub first_faulty : ℕ → List ℕ → ℕ
@@ -48,4 +47,4 @@ first_faulty benches page = least (length page) (λ i. is_fault (verdict_at benc
 
 unfoldable pub page_verdict : ℕ → List ℕ → Verdict
 page_verdict benches page =
-    cond (ltb (first_faulty benches page) (length page)) (verdict_at benches page (first_faulty benches page)) Accepted
+    cond (ltb (first_faulty benches page) (length page)) (verdict_at benches page (first_faulty benches page)) (Ok tt)

@@ -2,16 +2,13 @@
 ghost use Rattle.std.specs.Prelude.{◌≡◌};
 ghost use Rattle.page_faults.specs.PageFaults.{unfit, overlap, set_verdict, page_verdict};
 
-use fields::{Fault, Verdict};
+use fields::Fault;
 
 // Whether a set is empty or has a bench that the head lacks.
 fn is_unfit(benches: usize, set: usize) -> bool
     ensures { result ≡ unfit benches set }
 {
-    if set == 0 {
-        return true;
-    }
-    set_check::foreign(benches, set) < 64
+    set == 0 || set_check::foreign(benches, set).is_some()
 }
 
 // Whether two sets share a bench.
@@ -22,34 +19,29 @@ fn meets(seen: usize, set: usize) -> bool
 }
 
 // The fault of a set, where `seen` has the benches of the earlier ones.
-fn set_verdict(benches: usize, seen: usize, set: usize, at: usize) -> Verdict
+fn set_verdict(benches: usize, seen: usize, set: usize, at: usize) -> Result<(), Fault>
     ensures { result ≡ set_verdict (unfit benches set) (overlap seen set) at }
 {
     let bad = is_unfit(benches, set);
     let shared = meets(seen, set);
     if bad {
-        return Verdict::Refused(Fault::SetBench(at));
+        return Err(Fault::SetBench(at));
     }
     if shared {
-        return Verdict::Refused(Fault::SharedBench(at));
+        return Err(Fault::SharedBench(at));
     }
-    Verdict::Accepted
+    Ok(())
 }
 
 // The fault of the first set on the page that has one.
-pub fn page_verdict(benches: usize, page: &[u64]) -> Verdict
+pub fn page_verdict(benches: usize, page: &[u64]) -> Result<(), Fault>
     ensures { result ≡ page_verdict benches page.now }
 {
     let mut seen = 0;
-    let mut i = 0;
-    while i < page.len() {
-        let set = page[i] as usize;
-        let verdict = set_verdict(benches, seen, set, i);
-        let Verdict::Accepted = verdict else {
-            return verdict;
-        };
+    for (i, set) in page.iter().enumerate() {
+        let set = *set as usize;
+        set_verdict(benches, seen, set, i)?;
         seen = sets::either(seen, set);
-        i += 1;
     }
-    Verdict::Accepted
+    Ok(())
 }

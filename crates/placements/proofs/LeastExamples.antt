@@ -23,7 +23,7 @@ use Rattle.bits.specs.Bits.{is_set}
 use Rattle.day.specs.Day.{Day}
 use Rattle.day.specs.SmallSheets.{day_with, booked_day, bay, first, second, both, outside}
 use Rattle.algorithm.specs.Rocks.{lowest, highest}
-use Rattle.placements.specs.declared.least.Least.TheVariants.{NoPlacement, Weight}
+use Rattle.std.specs.Prelude.{None, Some}
 use Rattle.placements.specs.Classes.{to_low, placed, put_job, after, least_of}
 use Rattle.placements.specs.LeastWeight.{least_heavy, blocks}
 
@@ -41,11 +41,11 @@ bench2 = 2 ^ 61
 abbrev forced : Day
 forced = day_with (bay 2 4 7 5) (first 5 ∷ both 5 ∷ [])
 
-pub forced-outside : least_heavy forced (is_set 64 bench0) ≡ Weight 5
+pub forced-outside : least_heavy forced (is_set 64 bench0) ≡ Some 5
 unfolding is_set lowest highest to_low placed put_job after least_of
 forced-outside = refl
 
-pub forced-inside : least_heavy forced (is_set 64 bench1) ≡ Weight 5
+pub forced-inside : least_heavy forced (is_set 64 bench1) ≡ Some 5
 unfolding is_set lowest highest to_low placed put_job after least_of
 forced-inside = refl
 
@@ -67,7 +67,7 @@ light_with_a_choice = refl
 
 -- ── a cycle of two ──
 
-pub cycle_least : least_heavy (day_with (bay 2 4 7 5) (both 5 ∷ both 4 ∷ [])) (is_set 64 bench0) ≡ Weight 4
+pub cycle_least : least_heavy (day_with (bay 2 4 7 5) (both 5 ∷ both 4 ∷ [])) (is_set 64 bench0) ≡ Some 4
 unfolding is_set lowest highest to_low placed put_job after least_of
 cycle_least = refl
 
@@ -84,7 +84,7 @@ cycle_open = refl
 abbrev crowded : Day
 crowded = day_with (bay 2 4 7 8) (both 5 ∷ both 5 ∷ both 5 ∷ [])
 
-pub no_placement : least_heavy crowded (is_set 64 bench0) ≡ NoPlacement
+pub no_placement : least_heavy crowded (is_set 64 bench0) ≡ None
 unfolding is_set lowest highest to_low placed put_job after least_of
 no_placement = refl
 
@@ -102,23 +102,23 @@ no_set-blocks = refl
 abbrev tree : Day
 tree = day_with (bay 3 4 7 5) (both 5 ∷ outside 4 ∷ [])
 
-pub tree-middle : least_heavy tree (is_set 64 bench0) ≡ Weight 0
+pub tree-middle : least_heavy tree (is_set 64 bench0) ≡ Some 0
 unfolding is_set lowest highest to_low placed put_job after least_of
 tree-middle = refl
 
-pub tree-leaf : least_heavy tree (is_set 64 bench1) ≡ Weight 0
+pub tree-leaf : least_heavy tree (is_set 64 bench1) ≡ Some 0
 unfolding is_set lowest highest to_low placed put_job after least_of
 tree-leaf = refl
 
-pub tree-two : least_heavy tree (is_set 64 (bench0 + bench1)) ≡ Weight 5
+pub tree-two : least_heavy tree (is_set 64 (bench0 + bench1)) ≡ Some 5
 unfolding is_set lowest highest to_low placed put_job after least_of
 tree-two = refl
 
-pub tree-leaves : least_heavy tree (is_set 64 (bench1 + bench2)) ≡ Weight 4
+pub tree-leaves : least_heavy tree (is_set 64 (bench1 + bench2)) ≡ Some 4
 unfolding is_set lowest highest to_low placed put_job after least_of
 tree-leaves = refl
 
-pub tree_all : least_heavy tree (is_set 64 (bench0 + bench1 + bench2)) ≡ Weight 9
+pub tree_all : least_heavy tree (is_set 64 (bench0 + bench1 + bench2)) ≡ Some 9
 unfolding is_set lowest highest to_low placed put_job after least_of
 tree_all = refl
 

@@ -26,8 +26,7 @@ use Rattle.demand.specs.Demand.{Placement, weight_inside, Blocking}
 use Rattle.algorithm.specs.Rocks.{rock, lowest, highest}
 use Rattle.algorithm.specs.SoundDay.{SoundDay}
 use Rattle.algorithm.proofs.RockLaws.{lowest-below, lowest-allowed, high_below, allowed_end}
-use Rattle.placements.specs.declared.least.Least.{Least}
-use Rattle.placements.specs.declared.least.Least.TheVariants.{NoPlacement, Weight}
+use Rattle.std.specs.Prelude.{Option, None, Some}
 use Rattle.placements.specs.Classes.{Heavies, Tried, stuck, going, after, answer_of, least_of}
 use Rattle.placements.specs.LeastWeight.{heavy_inside, confined_inside, LeastHeavy, NoPlacements, other_end}
 use Rattle.placements.specs.LeastWeight.{heavies_of}
@@ -132,9 +131,9 @@ module _ (d : Day) (sound : SoundDay d) where
         }
 
     -- What the procedure comes to, by its last state.
-    abbrev Found : Least → Type 0
-    Found NoPlacement = NoPlacements d
-    Found (Weight w) = LeastHeavy d set w
+    abbrev Found : Option ℕ → Type 0
+    Found None = NoPlacements d
+    Found (Some w) = LeastHeavy d set w
 
     found_by : (t : Tried) → after g d.jobs ≡ t → Found (answer_of t)
     found_by stuck e =
@@ -145,54 +144,54 @@ module _ (d : Day) (sound : SoundDay d) where
     unfolding least_of
     found = found_by (after g d.jobs) refl
 
-    pub least_is : (w : ℕ) → least_heavy d set ≡ Weight w → LeastHeavy d set w
+    pub least_is : (w : ℕ) → least_heavy d set ≡ Some w → LeastHeavy d set w
     least_is w e = subst Found e found
 
-    pub none_is : least_heavy d set ≡ NoPlacement → NoPlacements d
+    pub none_is : least_heavy d set ≡ None → NoPlacements d
     none_is e = subst Found e found
 
     -- Nothing else is: the facts have one answer.
-    least_only_by : (r : Least) → Found r → (n : ℕ) → LeastHeavy d set n → r ≡ Weight n
-    least_only_by NoPlacement none n L = let (place, P, e) = L.reached in absurd (none place P)
-    least_only_by (Weight w) it n L =
+    least_only_by : (r : Option ℕ) → Found r → (n : ℕ) → LeastHeavy d set n → r ≡ Some n
+    least_only_by None none n L = let (place, P, e) = L.reached in absurd (none place P)
+    least_only_by (Some w) it n L =
         let (place, P, e) = L.reached in
         let (other, Q, f) = it.reached in
         let same : w ≡ n = omega (arith, it.none_below place P, e, L.none_below other Q, f) in
-        ap Weight same
+        ap Some same
 
-    none_only_by : (r : Least) → Found r → NoPlacements d → r ≡ NoPlacement
-    none_only_by NoPlacement it none = refl
-    none_only_by (Weight w) it none = let (place, P, e) = it.reached in absurd (none place P)
+    none_only_by : (r : Option ℕ) → Found r → NoPlacements d → r ≡ None
+    none_only_by None it none = refl
+    none_only_by (Some w) it none = let (place, P, e) = it.reached in absurd (none place P)
 
-    pub least_only : (n : ℕ) → LeastHeavy d set n → least_heavy d set ≡ Weight n
+    pub least_only : (n : ℕ) → LeastHeavy d set n → least_heavy d set ≡ Some n
     least_only n L = least_only_by (least_heavy d set) found n L
 
-    pub none_only : NoPlacements d → least_heavy d set ≡ NoPlacement
+    pub none_only : NoPlacements d → least_heavy d set ≡ None
     none_only none = none_only_by (least_heavy d set) found none
 
     -- No more than all heavy jobs weigh.
-    pub least_small : (w : ℕ) → least_heavy d set ≡ Weight w → w ≤ sum d.jobs (λ j. on (heavy d j) (d.minutes j))
+    pub least_small : (w : ℕ) → least_heavy d set ≡ Some w → w ≤ sum d.jobs (λ j. on (heavy d j) (d.minutes j))
     least_small w e =
         let (place, P, same) = (least_is w e).reached in
         omega (arith, same, spent-is place, spent-most g d.jobs place)
 
     -- ── blocking sets ──
 
-    heavier_by : (r : Least) → Found r → outweighs d set r ≡ true
+    heavier_by : (r : Option ℕ) → Found r → outweighs d set r ≡ true
         → (place : ℕ → ℕ) → Placement d place → count d.benches set * d.target < weight_inside d place set
-    heavier_by NoPlacement none p place P = absurd (none place P)
-    heavier_by (Weight w) it p place P =
+    heavier_by None none p place P = absurd (none place P)
+    heavier_by (Some w) it p place P =
         omega (
           arith,
           ltb-true (count d.benches set * d.target) (confined_inside d set + w) p,
           it.none_below place P,
         )
 
-    outweighs-by : (r : Least) → Found r
+    outweighs-by : (r : Option ℕ) → Found r
         → ((place : ℕ → ℕ) → Placement d place → count d.benches set * d.target < weight_inside d place set)
         → outweighs d set r ≡ true
-    outweighs-by NoPlacement f all = refl
-    outweighs-by (Weight w) it all =
+    outweighs-by None f all = refl
+    outweighs-by (Some w) it all =
         let (place, P, e) = it.reached in
         lt-ltb (count d.benches set * d.target) (confined_inside d set + w) (omega (arith, all place P, e))
 

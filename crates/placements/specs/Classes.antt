@@ -18,8 +18,7 @@
 --     least_of g n       the answer for n jobs
 use Rattle.std.specs.Prelude.{ℕ, zero, suc, ◌+◌, ◌-◌, Bool, true, false, not, cond, ◌&&◌, ◌||◌, eqb, leb}
 use Rattle.sums.specs.Sum.{on}
-use Rattle.placements.specs.declared.least.Least.{Least}
-use Rattle.placements.specs.declared.least.Least.TheVariants.{NoPlacement, Weight}
+use Rattle.std.specs.Prelude.{Option, None, Some}
 
 pub record Heavies : Type 0 where
   pub heavy : ℕ → Bool
@@ -110,9 +109,9 @@ unfoldable pub after : Heavies → ℕ → Tried
 after g zero = going at_start
 after g (suc i) = put_job g (after g i) i
 
-abbrev pub answer_of : Tried → Least
-answer_of stuck = NoPlacement
-answer_of (going s) = Weight s.base
+abbrev pub answer_of : Tried → Option ℕ
+answer_of stuck = None
+answer_of (going s) = Some s.base
 
-unfoldable pub least_of : Heavies → ℕ → Least
+unfoldable pub least_of : Heavies → ℕ → Option ℕ
 least_of g n = answer_of (after g n)

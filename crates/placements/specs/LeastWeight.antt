@@ -11,8 +11,7 @@ use Rattle.sums.specs.Sum.{on, sum, count}
 use Rattle.day.specs.Day.{Day, heavy, light}
 use Rattle.demand.specs.Demand.{Placement, lies_inside}
 use Rattle.algorithm.specs.Rocks.{lowest, highest}
-use Rattle.placements.specs.declared.least.Least.{Least}
-use Rattle.placements.specs.declared.least.Least.TheVariants.{NoPlacement, Weight}
+use Rattle.std.specs.Prelude.{Option, None, Some}
 use Rattle.placements.specs.Classes.{Heavies, least_of}
 
 -- "the heavy jobs placed inside it"
@@ -44,13 +43,13 @@ abbrev pub heavies_of : Day → (ℕ → Bool) → Heavies
 heavies_of d set =
     record { heavy = heavy d; low = lowest d; high = other_end d; weight = d.minutes; inside = set }
 
-abbrev pub least_heavy : Day → (ℕ → Bool) → Least
+abbrev pub least_heavy : Day → (ℕ → Bool) → Option ℕ
 least_heavy d set = least_of (heavies_of d set) d.jobs
 
 -- "weigh more than k × T. Where no placement exists every non-empty set is blocking."
-abbrev pub outweighs : Day → (ℕ → Bool) → Least → Bool
-outweighs d set NoPlacement = true
-outweighs d set (Weight n) = ltb (count d.benches set * d.target) (confined_inside d set + n)
+abbrev pub outweighs : Day → (ℕ → Bool) → Option ℕ → Bool
+outweighs d set None = true
+outweighs d set (Some n) = ltb (count d.benches set * d.target) (confined_inside d set + n)
 
 unfoldable pub blocks : Day → (ℕ → Bool) → Bool
 blocks d set = ltb 0 (count d.benches set) && outweighs d set (least_heavy d set)

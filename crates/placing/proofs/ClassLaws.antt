@@ -1,40 +1,20 @@
 -- Small laws behind the functions over classes.
---     price-inside, price-outside     what a job costs on a bench
---     low_rest, closes_rest     the last of three tests
---     raise_low, raise_high, raise_none     by the label of a bench
 --     Shut, shut_starts, shut_more, shut_ends     the set of shut benches, bench by bench
 --     Join, join_starts, join_more, join_ends     extras and labels where two classes are joined, bench by bench
 use Prim.Native.Nat.{ℕ, ◌+◌, ◌≤◌, ◌<◌, min}
-use mathlib.Core.Path.{◌≡◌, refl, sym, ap, ap₂, ◌∙◌}
-use mathlib.Core.Bool.{Bool, true, false, not, cond, ◌&&◌, ◌||◌}
-use mathlib.Core.Logic.{inl, inr, ◌≢◌}
+use mathlib.Core.Path.{◌≡◌, refl, ap, ap₂, ◌∙◌}
+use mathlib.Core.Bool.{Bool, true, false, ◌&&◌, ◌||◌}
+use mathlib.Core.Logic.{inl, inr}
 use mathlib.Core.List.{List}
 use native.Mathlib.Omega.{arith}
-use lib.Dec.{eqb, leb, ltb}
+use lib.Dec.{eqb}
 use lib.ListN.{length, get_or, set, length-set}
-use borrow.Author.Tests.{eq-eqb, ne_eqb, lt-ltb, le-ltb, leb-true, ltb-true}
-use Rattle.bools.proofs.BoolLaws.{split, or_unit, and-false_left}
-use Rattle.bools.proofs.OrderLaws.{eq-or-ne, lt-or-le}
+use borrow.Author.Tests.{eq-eqb, ne_eqb}
+use Rattle.bools.proofs.OrderLaws.{eq-or-ne}
 use Rattle.bits.specs.Bits.{is_set}
 use Rattle.arrays.specs.Arrays.{plus_of, filled}
 use Rattle.arrays.proofs.FilledLaws.{filled_none, filled_more, filled-end, filled-rest}
-use Rattle.placing.specs.ClassArrays.{price_in, raise_of, relabel_of}
-
-pub low_rest : (a b : Bool) {t c : Bool} → a ≡ false → b ≡ false → t ≡ c → t ≡ (not a && (b || c))
-low_rest a b p q e = rw (p, q) e
-
-pub closes_rest : (a b : Bool) {t c : Bool} → a ≡ false → b ≡ false → t ≡ c → t ≡ ((a || b) || c)
-closes_rest a b p q e = rw (p, q) e
-
-module _ (low high x y label : ℕ) where
-  pub raise_low : label ≡ low → x ≡ raise_of low high x y label
-  raise_low e = rw (eq-eqb label low e) refl
-
-  pub raise_high : label ≢ low → label ≡ high → y ≡ raise_of low high x y label
-  raise_high n e = rw (ne_eqb label low n, eq-eqb label high e) refl
-
-  pub raise_none : label ≢ low → label ≢ high → 0 ≡ raise_of low high x y label
-  raise_none n m = rw (ne_eqb label low n, ne_eqb label high m) refl
+use Rattle.placing.specs.ClassArrays.{raise_of, relabel_of}
 
 -- ── shutting a class ──
 

@@ -4,24 +4,26 @@
 --     modest            the numbers of the classes are small
 --     Running           what the loop keeps: the classes after the jobs passed
 --     running_starts, running_more    it holds at the start, and with one job more
+--     its_tried         what the next job comes to
 --     ends_stuck, ends-least      the answers
-use Prim.Native.Nat.{ℕ, zero, suc, ◌+◌, ◌-◌, ◌*◌, ◌≤◌, ◌<◌, ◌^◌}
-use mathlib.Core.Path.{◌≡◌, refl, sym, ap, ap₂, subst, ◌∙◌}
-use mathlib.Core.Bool.{Bool, true, false, cond, ◌&&◌}
-use mathlib.Core.Logic.{inl, inr, ◌≢◌}
+use Prim.Native.Nat.{ℕ, ◌+◌, ◌-◌, ◌≤◌, ◌<◌, ◌^◌}
+use mathlib.Core.Path.{◌≡◌, refl, sym, ap, subst, ◌∙◌}
+use mathlib.Core.Bool.{true, false}
+use mathlib.Core.Logic.{inl, inr}
 use mathlib.Core.List.{List}
+use Rattle.std.specs.Prelude.{Option, Some, None}
 use native.Mathlib.Omega.{arith}
 use native.Mathlib.Numerals.{unary_clauses}
-use lib.Dec.{eqb, ltb}
+use lib.Dec.{ltb}
 use lib.ListN.{length, get_or, replicate, length-replicate, get_or-replicate}
-use borrow.Author.Tests.{ltb-true, lt-ltb, le-ltb, eq-eqb, eqb-false}
-use Rattle.bools.proofs.BoolLaws.{split, clash, and_intro, and_left, and_right}
+use borrow.Author.Tests.{lt-ltb, le-ltb, eq-eqb}
+use Rattle.bools.proofs.BoolLaws.{split, clash, and_intro, and_right}
 use Rattle.bools.proofs.OrderLaws.{eq-or-ne, lt-or-le}
-use Rattle.sums.specs.Sum.{on, sum, count}
+use Rattle.sums.specs.Sum.{on}
 use Rattle.sums.specs.Search.{least}
-use Rattle.sums.proofs.SumLaws.{on-le, sum_bound, sum-prefix}
+use Rattle.sums.proofs.SumLaws.{on-le, sum_bound}
 use Rattle.sums.proofs.SearchLaws.{least-found}
-use Rattle.sums.proofs.CountLaws.{count-unique, count-pos}
+use Rattle.sums.proofs.CountLaws.{count-unique}
 use Rattle.bits.specs.Bits.{is_set}
 use Rattle.bits.proofs.SetBits.{is_set-zero}
 use Rattle.day.specs.Day.{Day, choices, heavy}
@@ -30,11 +32,8 @@ use Rattle.algorithm.proofs.RockLaws.{lowest-below, lowest-allowed, high_below}
 use Rattle.arrays.specs.Arrays.{filled}
 use Rattle.arrays.proofs.FilledLaws.{length-filled, get_or-filled}
 use Rattle.sets.specs.Sets.{lowest_of, highest_of}
-use Rattle.start.specs.StartArrays.{Fields}
 use Rattle.start.proofs.StartLaws.{lowest-is, highest-is, heavy-is}
-use Rattle.placements.specs.declared.least.Least.{Least}
-use Rattle.placements.specs.declared.least.Least.TheVariants.{NoPlacement, Weight}
-use Rattle.placements.specs.Classes.{Heavies, Classes as Benches, at_start, Tried, stuck, going, put_job, after}
+use Rattle.placements.specs.Classes.{Heavies, Classes as Benches, at_start, Tried, going, put_job, after}
 use Rattle.placements.specs.Classes.{answer_of, least_of}
 use Rattle.placements.specs.LeastWeight.{other_end, heavies_of, least_heavy}
 use Rattle.placements.proofs.ClassFacts.{total, Sound}
@@ -42,7 +41,7 @@ use Rattle.placements.proofs.ClassTheorem.{Meets, all_sound, base_small, stuck-a
 use Rattle.placements.proofs.LeastLaws.{ends_below, other-below, other-later}
 use Rattle.placing.specs.declared.classes.Bay.{Bay}
 use Rattle.placing.specs.declared.classes.Classes.{Classes}
-use Rattle.placing.specs.ClassArrays.{Job, Listed, Modest, Shows, Tries, Holds}
+use Rattle.placing.specs.ClassArrays.{Listed, Modest, Shows, Tries, Holds}
 
 module _ (d : Day) (bay : Bay) (jobs : ℕ) (minutes allowed : List ℕ) (H : Holds d bay jobs minutes allowed) where
   abbrev pub g : Heavies
@@ -159,7 +158,7 @@ module _ (d : Day) (bay : Bay) (jobs : ℕ) (minutes allowed : List ℕ) (H : Ho
 
   pub running_starts : {labels : List ℕ} (k : ℕ) → k ≡ 64
       → labels ≡ filled (length (replicate {A = ℕ} k 0)) (λ v. v) (replicate {A = ℕ} k 0)
-      → Running 0 (record { stuck = false; shut = 0; base = 0 }) labels (replicate {A = ℕ} k 0)
+      → Running 0 (record { shut = 0; base = 0 }) labels (replicate {A = ℕ} k 0)
   unfolding after
   running_starts k w e =
       let few = H.fields.bounded.few_benches in
@@ -168,7 +167,6 @@ module _ (d : Day) (bay : Bay) (jobs : ℕ) (minutes allowed : List ℕ) (H : Ho
         at = at_start;
         come = refl;
         shown = record {
-          not_stuck = refl;
           labels_room = omega (
             arith,
             ap length e,
@@ -191,28 +189,36 @@ module _ (d : Day) (bay : Bay) (jobs : ℕ) (minutes allowed : List ℕ) (H : Ho
   after_more j s e = simp unary_clauses (ap (λ (t : Tried). put_job g t j) e)
 
   module _ (j : ℕ) (c : Classes) (labels extra : List ℕ) (R : Running j c labels extra) (l : j < jobs) where
-    pub its_listed : Listed g j bay (get_or minutes j 0) (get_or allowed j 0)
+    its_listed : Listed g j bay (get_or minutes j 0) (get_or allowed j 0)
     its_listed = listed j (omega (arith, H.fields.jobs_are))
 
-    pub its_modest : Modest bay R.at
+    its_modest : Modest bay R.at
     its_modest = modest j R.at (omega (arith, H.fields.jobs_are)) R.come
 
-    module _ {next : Classes} {labels' extra' : List ℕ}
-        (T : Tries (put_job g (going R.at) j) bay next labels' extra') where
-      pub running_more : next.stuck ≡ false → Running (j + 1) next labels' extra'
-      running_more p =
-          let (s, e, shown) = T.is_going p in
+    -- What holds of every job and all classes holds of this one.
+    pub its_tried : {m a : ℕ} → m ≡ get_or minutes j 0 → a ≡ get_or allowed j 0
+        → {r : Option Classes} {labels' extra' : List ℕ}
+        → ((h : Heavies) → (s : Benches) → (i : ℕ) → Listed h i bay m a → Modest bay s → Shows s bay c labels extra
+        → Tries (put_job h (going s) i) bay r labels' extra')
+        → Tries (put_job g (going R.at) j) bay r labels' extra'
+    its_tried em ea put = put g R.at j (rw (em, ea) its_listed) its_modest R.shown
+
+    module _ {r : Option Classes} {labels' extra' : List ℕ}
+        (T : Tries (put_job g (going R.at) j) bay r labels' extra') where
+      pub running_more : (next : Classes) → r ≡ Some next → Running (j + 1) next labels' extra'
+      running_more next p =
+          let (s, e, shown) = T.is_going next p in
           record { at = s; come = after_more j R.at R.come ∙ e; shown = shown }
 
-      pub ends_stuck : next.stuck ≡ true → NoPlacement ≡ least_heavy d (is_set 64 bay.set)
+      pub ends_stuck : r ≡ None → None ≡ least_heavy d (is_set 64 bay.set)
       unfolding least_of
       ends_stuck p =
           ap answer_of (sym (stuck-after g (j + 1) d.jobs (omega (arith, H.fields.jobs_are))
           (after_more j R.at R.come ∙ T.is_stuck p)))
 
   pub ends-least : (j : ℕ) (c : Classes) (labels extra : List ℕ) → Running j c labels extra → j ≤ jobs → jobs ≤ j
-      → Weight c.base ≡ least_heavy d (is_set 64 bay.set)
+      → Some c.base ≡ least_heavy d (is_set 64 bay.set)
   unfolding least_of
   ends-least j c labels extra R l m =
       let all : j ≡ d.jobs = omega (arith, H.fields.jobs_are) in
-      ap Weight R.shown.base_is ∙ ap answer_of (sym (subst (λ (n : ℕ). after g n ≡ going R.at) all R.come))
+      ap Some R.shown.base_is ∙ ap answer_of (sym (subst (λ (n : ℕ). after g n ≡ going R.at) all R.come))

@@ -6,22 +6,22 @@
 use Prim.Native.Nat.{ℕ, ◌+◌, ◌-◌, ◌≤◌, ◌<◌, ◌^◌}
 use mathlib.Core.Path.{◌≡◌, refl, sym, ap, ap₂, subst, ◌∙◌}
 use mathlib.Core.Bool.{Bool, true, false, not, cond, ◌&&◌, ◌||◌}
+use Rattle.std.specs.Prelude.{Some, None}
 use mathlib.Core.Logic.{inl, inr}
 use mathlib.Core.List.{List}
 use native.Mathlib.Omega.{arith}
 use lib.Dec.{eqb, leb}
 use lib.ListN.{length, get_or}
-use Rattle.bools.proofs.BoolLaws.{split, clash}
+use Rattle.bools.proofs.BoolLaws.{split, and_intro}
 use Rattle.bits.specs.Bits.{is_set}
-use Rattle.sums.specs.Sum.{on}
 use Rattle.arrays.specs.Arrays.{plus_of, filled}
 use Rattle.arrays.proofs.FilledLaws.{length-filled, get_or-filled}
 use Rattle.placements.specs.Classes.{Heavies, Classes as Benches, cost, price_low, price_high, to_low, taken, paid, closes}
-use Rattle.placements.specs.Classes.{raised, relabelled, closed, joined, placed, stuck_at, Tried, stuck, going, put_job}
+use Rattle.placements.specs.Classes.{raised, closed, joined, placed, stuck_at, going, put_job}
 use Rattle.placements.proofs.ClassTheorem.{put_light, put_stuck, put-placed}
 use Rattle.placing.specs.declared.classes.Bay.{Bay}
 use Rattle.placing.specs.declared.classes.Classes.{Classes}
-use Rattle.placing.specs.ClassArrays.{price_in, raise_of, relabel_of, Job, Listed, Modest, Shows, Tries}
+use Rattle.placing.specs.ClassArrays.{price_in, raise_of, relabel_of, Job, Modest, Shows, Tries}
 
 module _ (bay : Bay) (c : Classes) (labels extra : List ℕ) (low high minutes : ℕ) where
   -- Which ends are shut, their prices, which is taken, what is paid, the sum so far, and their labels.
@@ -120,13 +120,12 @@ module _ (bay : Bay) (c : Classes) (labels extra : List ℕ) (low high minutes :
           → label ≡ cond t l h
           → ((v : ℕ) → v < m → v < 64
           → is_set 64 shut v ≡ (is_set 64 c.shut v || eqb (get_or labels v 0) label))
-          → Shows (placed g s i) bay (record { stuck = false; shut = shut; base = base }) labels extra
+          → Shows (placed g s i) bay (record { shut = shut; base = base }) labels extra
       unfolding placed
       closed-shown {label = label} {shut = shut} e p q all =
           let its : label ≡ s.label (taken g s i) = q ∙ rw (t_is, l_is, h_is) (label_by (to_low g s i)) in
-          let now : Shows (closed g s i) bay (record { stuck = false; shut = shut; base = base }) labels extra =
+          let now : Shows (closed g s i) bay (record { shut = shut; base = base }) labels extra =
           record {
-            not_stuck = refl;
             labels_room = shows.labels_room;
             extra_room = shows.extra_room;
             labels_are = shows.labels_are;
@@ -146,7 +145,7 @@ module _ (bay : Bay) (c : Classes) (labels extra : List ℕ) (low high minutes :
             → (m ≤ length labels → m ≤ length extra
             → extra' ≡ filled m (λ v. plus_of (get_or extra v 0) (raise_of l h up down (get_or labels v 0))) extra)
             → (m ≤ length labels → m ≤ length extra → labels' ≡ filled m (λ v. relabel_of l h (get_or labels v 0)) labels)
-            → Shows (placed g s i) bay (record { stuck = false; shut = c.shut; base = base }) labels' extra'
+            → Shows (placed g s i) bay (record { shut = c.shut; base = base }) labels' extra'
         unfolding placed
         joined-shown e p {up = up} {down = down} u d raises labelled =
             let ex = raises shows.labels_room shows.extra_room in
@@ -163,9 +162,8 @@ module _ (bay : Bay) (c : Classes) (labels extra : List ℕ) (low high minutes :
                 | inr k ↦ rw (z, k) (omega arith)
               ]
             ] in
-            let now : Shows (joined g s i) bay (record { stuck = false; shut = c.shut; base = base }) labels' extra' =
+            let now : Shows (joined g s i) bay (record { shut = c.shut; base = base }) labels' extra' =
             record {
-              not_stuck = refl;
               labels_room = omega (
                 arith,
                 shows.labels_room,
@@ -198,34 +196,42 @@ module _ (bay : Bay) (c : Classes) (labels extra : List ℕ) (low high minutes :
 
 module _ (g : Heavies) (s : Benches) (i : ℕ) (bay : Bay) (c : Classes) (labels extra : List ℕ)
     (shows : Shows s bay c labels extra) where
-  module _ (low high minutes : ℕ) (job : Job g i bay low high minutes) (heavy : g.heavy i ≡ true)
-      {a b t : Bool} (low_shut : a ≡ is_set 64 c.shut low) (high_shut : b ≡ is_set 64 c.shut high)
-      (both : t ≡ (a && b)) where
-    stuck_is : t ≡ stuck_at g s i
+  module _ (low high minutes : ℕ) (job : Job g i bay low high minutes) (heavy : g.heavy i ≡ true) where
+    stuck_is : (is_set 64 c.shut low && is_set 64 c.shut high) ≡ stuck_at g s i
     stuck_is =
-        both
-        ∙ ap₂ ◌&&◌ (low_shut ∙ shows.shut_are low job.low_below ∙ ap s.shut job.low_is)
-        (high_shut ∙ shows.shut_are high job.high_below ∙ ap s.shut job.high_is)
+        ap₂ ◌&&◌ (shows.shut_are low job.low_below ∙ ap s.shut job.low_is)
+        (shows.shut_are high job.high_below ∙ ap s.shut job.high_is)
 
-    pub stuck_tried : t ≡ true
-        → Tries (put_job g (going s) i) bay (record { stuck = true; shut = c.shut; base = c.base }) labels extra
-    stuck_tried p =
+    pub stuck_tried : is_set 64 c.shut low ≡ true → is_set 64 c.shut high ≡ true
+        → Tries (put_job g (going s) i) bay None labels extra
+    stuck_tried p q =
         record {
-          is_stuck = λ q. put_stuck g i s heavy (sym stuck_is ∙ p);
-          is_going = λ q. clash {b = true} refl q;
+          is_stuck = λ e. put_stuck g i s heavy (sym stuck_is ∙ and_intro p q);
+          is_going = λ k e. cc;
         }
 
-    pub placed-tried : t ≡ false → {r : Classes} {labels' extra' : List ℕ} → Shows (placed g s i) bay r labels' extra'
-        → Tries (put_job g (going s) i) bay r labels' extra'
-    placed-tried p now =
+    pub placed-tried : (is_set 64 c.shut low && is_set 64 c.shut high) ≡ false
+        → {r : Classes} {labels' extra' : List ℕ} → Shows (placed g s i) bay r labels' extra'
+        → Tries (put_job g (going s) i) bay (Some r) labels' extra'
+    placed-tried p {r} {labels'} {extra'} now =
         record {
-          is_stuck = λ q. clash q now.not_stuck;
-          is_going = λ q. (placed g s i, put-placed g i s heavy (sym stuck_is ∙ p), now);
+          is_stuck = λ q. cc;
+          is_going = λ k q.
+              let same : r ≡ k = cc in (
+                placed g s i,
+                put-placed g i s heavy (sym stuck_is ∙ p),
+                subst (λ (k : Classes). Shows (placed g s i) bay k labels' extra') same now,
+              );
         }
 
-  pub light_tried : g.heavy i ≡ false → Tries (put_job g (going s) i) bay c labels extra
+  pub light_tried : g.heavy i ≡ false → Tries (put_job g (going s) i) bay (Some c) labels extra
   light_tried p =
       record {
-        is_stuck = λ q. clash q shows.not_stuck;
-        is_going = λ q. (s, put_light g i (going s) p, shows);
+        is_stuck = λ q. cc;
+        is_going = λ k q.
+            let same : c ≡ k = cc in (
+              s,
+              put_light g i (going s) p,
+              subst (λ (k : Classes). Shows s bay k labels extra) same shows,
+            );
       }

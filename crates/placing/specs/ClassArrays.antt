@@ -5,9 +5,9 @@
 --     Listed g i bay minutes allowed    so they are where the job is heavy, by its minutes and allowed benches
 --     Modest bay s                  the numbers of the classes s are small
 --     Shows s bay c labels extra    the numbers c and the tables have the classes s
---     Tries t bay c labels extra    they have what the jobs so far come to
+--     Tries t bay r labels extra    the classes r, if any, and the tables have what the jobs so far come to
 --     Holds d bay jobs minutes allowed    the bay and the tables have a day without a long job
-use Rattle.std.specs.Prelude.{ℕ, ◌≤◌, ◌<◌, ◌^◌, ◌≡◌, Bool, true, false, cond, List, eqb, length, get_or}
+use Rattle.std.specs.Prelude.{ℕ, ◌≤◌, ◌<◌, ◌^◌, ◌≡◌, true, cond, List, eqb, length, get_or, Option, Some, None}
 use Rattle.bits.specs.Bits.{is_set}
 use Rattle.day.specs.Day.{Day}
 use Rattle.algorithm.specs.SoundDay.{SoundDay}
@@ -47,7 +47,6 @@ pub record Modest (bay : Bay) (s : Benches) : Type 0 where
   pub base_small : s.base < 2 ^ 30
 
 pub record Shows (s : Benches) (bay : Bay) (c : Classes) (labels extra : List ℕ) : Type 0 where
-  pub not_stuck : c.stuck ≡ false
   pub labels_room : bay.benches ≤ length labels
   pub extra_room : bay.benches ≤ length extra
   pub labels_are : (v : ℕ) → v < bay.benches → get_or labels v 0 ≡ s.label v
@@ -55,9 +54,9 @@ pub record Shows (s : Benches) (bay : Bay) (c : Classes) (labels extra : List �
   pub shut_are : (v : ℕ) → v < bay.benches → is_set 64 c.shut v ≡ s.shut v
   pub base_is : c.base ≡ s.base
 
-pub record Tries (t : Tried) (bay : Bay) (c : Classes) (labels extra : List ℕ) : Type 0 where
-  pub is_stuck : c.stuck ≡ true → t ≡ stuck
-  pub is_going : c.stuck ≡ false → (s : Benches) × (t ≡ going s) × Shows s bay c labels extra
+pub record Tries (t : Tried) (bay : Bay) (r : Option Classes) (labels extra : List ℕ) : Type 0 where
+  pub is_stuck : r ≡ None → t ≡ stuck
+  pub is_going : (c : Classes) → r ≡ Some c → (s : Benches) × (t ≡ going s) × Shows s bay c labels extra
 
 pub record Holds (d : Day) (bay : Bay) (jobs : ℕ) (minutes allowed : List ℕ) : Type 0 where
   pub sound : SoundDay d

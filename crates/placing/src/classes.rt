@@ -18,10 +18,9 @@ pub struct Bay {
     pub set: usize,
 }
 
-// Whether there is no placement; the benches of shut classes; what the cheapest choice costs.
-#[derive(Drop)]
+// The benches of shut classes, and what the cheapest choice costs.
+#[derive(Clone, Copy)]
 pub struct Classes {
-    pub stuck: bool,
     pub shut: usize,
     pub base: usize,
 }
@@ -32,29 +31,17 @@ fn price(extra: &[usize], set: usize, v: usize, minutes: usize) -> usize
 {
     let more = arrays::at(extra, v);
     if sets::has(set, v) {
-        return arrays::plus(more, minutes);
+        more.saturating_add(minutes)
+    } else {
+        more
     }
-    more
 }
 
 // Whether the lower end is the cheaper one of the open ends: which of them are shut, and their prices.
 fn goes_low(a: bool, b: bool, low: usize, high: usize) -> bool
     ensures { result ≡ (not a && (b || leb low high)) }
 {
-    if a {
-        return false;
-    }
-    if b {
-        return true;
-    }
-    low <= high
-}
-
-// Whether both hold.
-fn both(a: bool, b: bool) -> bool
-    ensures { result ≡ (a && b) }
-{
-    if a { b } else { false }
+    !a && (b || low <= high)
 }
 
 // x where c holds, and else y.
@@ -68,13 +55,7 @@ fn pick(c: bool, x: usize, y: usize) -> usize
 fn closes(a: bool, b: bool, low: usize, high: usize) -> bool
     ensures { result ≡ ((a || b) || eqb low high) }
 {
-    if a {
-        return true;
-    }
-    if b {
-        return true;
-    }
-    low == high
+    a || b || low == high
 }
 
 // The set with every bench that has the label.
@@ -83,10 +64,8 @@ fn shut_class(benches: usize, labels: &[usize], label: usize, shut: usize) -> us
         → is_set 64 result v ≡ (is_set 64 shut v || eqb (get_or labels.now v 0) label) }
 {
     let mut all = shut;
-    let mut v = 0;
-    while v < benches {
+    for v in 0..benches {
         all = sets::add(all, v, arrays::at(labels, v) == label);
-        v += 1;
     }
     all
 }
@@ -96,12 +75,12 @@ fn raise(label: usize, low: usize, high: usize, x: usize, y: usize) -> usize
     ensures { result ≡ raise_of low high x y label }
 {
     if label == low {
-        return x;
+        x
+    } else if label == high {
+        y
+    } else {
+        0
     }
-    if label == high {
-        return y;
-    }
-    0
 }
 
 // Raises the extras of both classes, and gives the benches of the one label the other.
@@ -122,14 +101,12 @@ fn join_all(
         → labels.new ≡ filled benches
         (λ v. relabel_of low high (get_or labels.old v 0)) labels.old }
 {
-    let end = arrays::least(benches, arrays::least(labels.len(), extra.len()));
-    let mut v = 0;
-    while v < end {
-        let label = arrays::at(labels, v);
+    let end = benches.min(labels.len().min(extra.len()));
+    for v in 0..end {
+        let label = labels[v];
         let more = raise(label, low, high, x, y);
-        arrays::put(extra, v, arrays::plus(arrays::at(extra, v), more));
-        arrays::put(labels, v, pick(label == high, low, label));
-        v += 1;
+        extra[v] = extra[v].saturating_add(more);
+        labels[v] = pick(label == high, low, label);
     }
 }
 
@@ -137,10 +114,8 @@ fn join_all(
 pub fn number(labels: &mut [usize])
     ensures { labels.new ≡ filled (length labels.old) (λ v. v) labels.old }
 {
-    let mut v = 0;
-    while v < labels.len() {
-        arrays::put(labels, v, v);
-        v += 1;
+    for v in 0..labels.len() {
+        labels[v] = v;
     }
 }
 
@@ -164,20 +139,16 @@ fn place(
     let price_high = price(extra, bay.set, high, minutes);
     let to_low = goes_low(low_shut, high_shut, price_low, price_high);
     let paid = pick(to_low, price_low, price_high);
-    let base = arrays::plus(c.base, paid);
+    let base = c.base.saturating_add(paid);
     let label_low = arrays::at(labels, low);
     let label_high = arrays::at(labels, high);
     if closes(low_shut, high_shut, label_low, label_high) {
         let label = pick(to_low, label_low, label_high);
         let shut = shut_class(bay.benches, labels, label, c.shut);
-        return Classes {
-            stuck: false,
-            shut,
-            base,
-        };
+        return Classes { shut, base };
     }
-    let by_low = arrays::minus(price_high, paid);
-    let by_high = arrays::minus(price_low, paid);
+    let by_low = price_high.saturating_sub(paid);
+    let by_high = price_low.saturating_sub(paid);
     join_all(
         bay.benches,
         label_low,
@@ -187,14 +158,10 @@ fn place(
         labels,
         extra,
     );
-    Classes {
-        stuck: false,
-        shut: c.shut,
-        base,
-    }
+    Classes { shut: c.shut, base }
 }
 
-// The classes after a heavy job with these ends, unless both are shut.
+// The classes after a heavy job with these ends, and none if both are shut: then there is no placement.
 fn put_heavy(
     c: Classes,
     bay: Bay,
@@ -203,22 +170,18 @@ fn put_heavy(
     minutes: usize,
     labels: &mut [usize],
     extra: &mut [usize],
-) -> Classes
+) -> Option<Classes>
     ensures { (g : Heavies) → (s : Benches) → (i : ℕ) → Job g i bay low high minutes → Modest bay s
         → g.heavy i ≡ true → Shows s bay c labels.old extra.old
         → Tries (put_job g (going s) i) bay result labels.new extra.new }
 {
-    if both(sets::has(c.shut, low), sets::has(c.shut, high)) {
-        return Classes {
-            stuck: true,
-            shut: c.shut,
-            base: c.base,
-        };
+    if sets::has(c.shut, low) && sets::has(c.shut, high) {
+        return None;
     }
-    place(c, bay, low, high, minutes, labels, extra)
+    Some(place(c, bay, low, high, minutes, labels, extra))
 }
 
-// The classes after a job of so many minutes that allows these benches.
+// The classes after a job of so many minutes that allows these benches, and none where there is no placement.
 pub fn put_job(
     c: Classes,
     bay: Bay,
@@ -226,7 +189,7 @@ pub fn put_job(
     allowed: usize,
     labels: &mut [usize],
     extra: &mut [usize],
-) -> Classes
+) -> Option<Classes>
     ensures { (g : Heavies) → (s : Benches) → (i : ℕ) → Listed g i bay minutes allowed → Modest bay s
         → Shows s bay c labels.old extra.old
         → Tries (put_job g (going s) i) bay result labels.new extra.new }
@@ -242,5 +205,5 @@ pub fn put_job(
             extra,
         );
     }
-    c
+    Some(c)
 }

@@ -7,23 +7,17 @@ ghost use Rattle.placing.specs.ClassArrays.{Holds};
 
 use crate::classes;
 use crate::classes::{Bay, Classes};
-use placements::Least;
 
-// The least weight that a placement leaves inside the set, or that there is none.
-pub fn least_heavy<'a>(bay: Bay, jobs: usize, minutes: &'a [usize], allowed: &'a [usize]) -> Least
+// The least weight that a placement leaves inside the set, and none where there is no placement.
+pub fn least_heavy(bay: Bay, jobs: usize, minutes: &[usize], allowed: &[usize]) -> Option<usize>
     ensures { (d : Day) → Holds d bay jobs minutes.now allowed.now
         → result ≡ least_heavy d (is_set 64 bay.set) }
 {
     let mut labels = [0usize; 64];
     let mut extra = [0usize; 64];
     classes::number(&mut labels);
-    let mut c = Classes {
-        stuck: false,
-        shut: 0,
-        base: 0,
-    };
-    let mut j = 0;
-    while j < jobs {
+    let mut c = Classes { shut: 0, base: 0 };
+    for j in 0..jobs {
         c = classes::put_job(
             c,
             bay,
@@ -31,11 +25,7 @@ pub fn least_heavy<'a>(bay: Bay, jobs: usize, minutes: &'a [usize], allowed: &'a
             arrays::at(allowed, j),
             &mut labels,
             &mut extra,
-        );
-        if c.stuck {
-            return Least::NoPlacement;
-        }
-        j += 1;
+        )?;
     }
-    Least::Weight(c.base)
+    Some(c.base)
 }

@@ -1,7 +1,6 @@
 -- Planning through the door, from what the planner and the functions that put numbers ensure.
 --     answer_capped         with room for at most 512 places and 64 loads the reply is the same, and fault 13 without
 --                           room for loads
---     jobs_fit, benches_fit         the planner has written at most 512 places and 64 loads
 --     answer_called, fault_called   what is returned, and the tables after it: after one of the three answers; after a
 --                                   fault
 use Prim.Native.Nat.{ℕ, ◌≤◌, min}
@@ -70,12 +69,6 @@ module _ (s places loads numbers : List ℕ) {np nl : ℕ}
 
   loads_count : r.loads ≡ length door.loads
   loads_count = answered.loads_written ∙ ap (λ (a : Reply). length a.loads) reply_is
-
-  pub jobs_fit : r.places ≤ 512
-  jobs_fit = omega (arith, places_count, (places_few s (room_of places) (room_of loads) (room_of numbers)).1)
-
-  pub benches_fit : r.loads ≤ 64
-  benches_fit = omega (arith, loads_count, (loads_few s (room_of places) (room_of loads) (room_of numbers)).1)
 
   -- ── what is returned ──
 

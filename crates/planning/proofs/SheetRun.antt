@@ -20,10 +20,9 @@ use Rattle.bits.specs.Bits.{is_set}
 use Rattle.fields.specs.Contents.{Contents}
 use Rattle.fields.specs.declared.sheet.Head.{Head}
 use Rattle.fields.specs.declared.sheet.Sheet.{Sheet}
-use Rattle.fields.specs.declared.sheet.Reading.{Reading}
+use Rattle.std.specs.Prelude.{Result, Ok, Err}
 use Rattle.fields.specs.declared.fault.Fault.{Fault}
 use Rattle.fields.specs.declared.fault.Fault.TheVariants.{Table}
-use Rattle.fields.specs.declared.fault.Verdict.TheVariants.{Accepted, Refused}
 use Rattle.fields.specs.Tests.{job_at}
 use Rattle.frame.specs.Reading.{accepted, read_sheet, stored, sheet_of}
 use Rattle.frame.specs.Tables.{Tables}
@@ -225,7 +224,7 @@ module _ (s : List ℕ) (c : Contents) (x : Sheet) (read : read_sheet s ≡ acce
         subst (λ (a : Reply). Answered a r places loads places' loads') (sym answers)
 
 module _ (s : List ℕ) (np nl : ℕ) (places loads : List ℕ) where
-  pub refused_answer : {x : Reading} {f : Fault} → x ≡ stored (read_sheet s) → x.verdict ≡ Refused f
+  pub refused_answer : {x : Result Sheet Fault} {f : Fault} → x ≡ stored (read_sheet s) → x ≡ Err f
       → Answered (answer_for s np nl) (refusal f) places loads places loads
   unfolding answer_for
   refused_answer {f = f} e a =
@@ -233,11 +232,11 @@ module _ (s : List ℕ) (np nl : ℕ) (places loads : List ℕ) where
       subst (λ (b : Reply). Answered b (refusal f) places loads places loads) (sym answers)
       (record { answer = refl; places_written = refl; loads_written = refl; new_places = refl; new_loads = refl })
 
-  pub accepted_answer : (x : Reading) {r : Filled} {places' loads' : List ℕ}
-      → x ≡ stored (read_sheet s) → x.verdict ≡ Accepted
-      → ((bytes : List ℕ) → (c : Contents) → read_sheet bytes ≡ accepted c → x.sheet ≡ sheet_of c
+  pub accepted_answer : {x : Result Sheet Fault} {sheet : Sheet} {r : Filled} {places' loads' : List ℕ}
+      → x ≡ stored (read_sheet s) → x ≡ Ok sheet
+      → ((bytes : List ℕ) → (c : Contents) → read_sheet bytes ≡ accepted c → sheet ≡ sheet_of c
       → Answered (answer_for bytes np nl) r places loads places' loads')
       → Answered (answer_for s np nl) r places loads places' loads'
-  accepted_answer x e a told =
-      let (c, read, same) = verdict_accepted (read_sheet s) x e a in
+  accepted_answer e a told =
+      let (c, read, same) = verdict_accepted (read_sheet s) e a in
       told s c read same

@@ -8,7 +8,7 @@ ghost use Rattle.algorithm.specs.Answer.{answer_for};
 use crate::write;
 use answers::{Answer, Filled};
 use deciding::Decision;
-use frame::{Fault, Sheet, Verdict};
+use frame::{Fault, Sheet};
 
 // An answer that leaves both tables as they are.
 fn unwritten(answer: Answer) -> Filled
@@ -38,13 +38,12 @@ fn plan_sheet(s: Sheet, places: &mut [u64], loads: &mut [u64]) -> Filled
     }
     let mut minutes = [0usize; 512];
     let mut allowed = [0usize; 512];
-    arrays::narrow(jobs, &s.minutes, &mut minutes);
-    arrays::narrow(jobs, &s.allowed, &mut allowed);
+    arrays::to_numbers(jobs, &s.minutes, &mut minutes);
+    arrays::to_numbers(jobs, &s.allowed, &mut allowed);
     let mut booked = [0usize; 64];
-    arrays::narrow(benches, &s.booked, &mut booked);
+    arrays::to_numbers(benches, &s.booked, &mut booked);
     let decided = deciding::decide(h, jobs, &minutes, &allowed, booked);
-    let decision = decided.decision;
-    match decision {
+    match decided.decision {
         Decision::Long(a) => unwritten(Answer::Long(a)),
         Decision::None(a) => unwritten(Answer::None(a)),
         Decision::Plan(p) => {
@@ -73,13 +72,8 @@ pub fn plan(s: &[u8], places: &mut [u64], loads: &mut [u64]) -> Filled
         (answer_for s.now (length places.old) (length loads.old)) result
         places.old loads.old places.new loads.new }
 {
-    let reading = reading::read(s);
-    let verdict = reading.verdict;
-    match verdict {
-        Verdict::Refused(f) => unwritten(Answer::Fault(f)),
-        Verdict::Accepted => {
-            let sheet = reading.sheet;
-            plan_sheet(sheet, places, loads)
-        }
+    match reading::read(s) {
+        Err(f) => unwritten(Answer::Fault(f)),
+        Ok(sheet) => plan_sheet(sheet, places, loads),
     }
 }

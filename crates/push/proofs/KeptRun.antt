@@ -1,12 +1,11 @@
 -- What a move changes of the loads and of the benches in reach.
 --     shifted_load         each load after a shift
---     more-on, more_off    the set with the choice of a job on the bench, and as it was
 --     lies_none, lies_more     the benches in reach of no job, and of one job more
 --     lies_all, lies_full      the benches in reach of all jobs: after the last job, and where the set has all that can come
 --     reach_shifted        the sets after a shift
 use Prim.Native.Nat.{ℕ, ◌+◌, ◌-◌, ◌≤◌, ◌<◌, ◌^◌, min}
 use mathlib.Core.Path.{◌≡◌, sym, ap, ap₂, subst, ◌∙◌}
-use mathlib.Core.Logic.{◌≢◌, inl, inr}
+use mathlib.Core.Logic.{inl, inr}
 use mathlib.Core.Bool.{Bool, true, cond, ◌&&◌, ◌||◌}
 use mathlib.Core.List.{List}
 use native.Mathlib.Omega.{arith}
@@ -55,12 +54,6 @@ module _ (own : List ℕ) (u v w : ℕ) where
   ]
 
 -- ── the benches in reach ──
-
-pub more-on : (set : ℕ) {x y u a b : ℕ} → x ≡ y → x ≡ u → a ≡ b → bit_or set a ≡ cond (eqb y u) (bit_or set b) set
-more-on set {x} {y} {u} e p q = rw (eq-eqb y u (sym e ∙ p), q)
-
-pub more_off : (set b : ℕ) {x y u : ℕ} → x ≡ y → x ≢ u → set ≡ cond (eqb y u) (bit_or set b) set
-more_off set b {x} {y} {u} e p = rw (ne_eqb y u (λ q. p (e ∙ q)))
 
 module _ (choice place : List ℕ) (u : ℕ) where
   pub lies_none : (v : ℕ) → is_set 64 0 v ≡ any 0 (lies_at choice place u v)

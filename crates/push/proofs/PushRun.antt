@@ -1,24 +1,27 @@
 -- The arrays follow PUSH.
---     or_first, or_second      a bench with no child, and one with no heavy father
---     opens, opens_not, opens-nowhere, opens-more     the benches to which a job may go, and a job that goes nowhere
+--     opens, opens-nowhere, opens_lowest, opens_past, opens-more     the benches to which a job may go, and a job that goes nowhere
 --     levels_end               after the loop the sets of the levels are those of the board
+--     move_some, move_none     what the first move says, and what its absence says
 --     push_none, push_found    no pair meets PUSH, and the first that does
-use Prim.Native.Nat.{ℕ, zero, suc, ◌+◌, ◌≤◌, ◌<◌}
+use Prim.Native.Nat.{ℕ, zero, suc, ◌+◌, ◌≤◌, ◌<◌, ◌^◌}
 use mathlib.Core.Path.{◌≡◌, refl, sym, ap, ap₂, ◌∙◌}
-use mathlib.Core.Bool.{Bool, true, false, cond, not, ◌&&◌, ◌||◌}
-use mathlib.Core.Logic.{inl, inr}
+use mathlib.Core.Bool.{Bool, true, false, not, ◌&&◌, ◌||◌}
+use mathlib.Core.Logic.{inl, inr, ◌≢◌}
 use mathlib.Core.List.{List}
 use native.Mathlib.Omega.{arith}
 use lib.ListN.{length, get_or, replicate, length-replicate, get_or-replicate, get_or-eq_default}
 use lib.Dec.{eqb, leb, ltb}
 use lib.Bits.{bit_and}
-use borrow.Author.Tests.{eqb-true, eq-eqb, ne_eqb, lt-ltb, le-ltb, leb-true, ltb-true}
-use Rattle.bools.proofs.BoolLaws.{split, tests, and-false_left, and-false_right, or_left, bool_ext, not_intro_true}
+use borrow.Author.Tests.{eqb-true, eq-eqb, ne_eqb, lt-ltb, le-ltb, leb-true, ltb-true, ltb-false}
+use Rattle.std.specs.Prelude.{Option, Some, None}
+use Rattle.std.specs.Bool.{then_some}
+use Rattle.std.proofs.lemmas.Option.{none-some, same_Some}
+use Rattle.bools.proofs.BoolLaws.{split, tests, and-false_left, and-false_right, bool_ext, not_intro_true, and_right}
 use Rattle.bools.proofs.OrderLaws.{last_or_below, lt-or-le}
 use Rattle.sums.specs.Search.{any, all, least}
-use Rattle.sums.proofs.SearchLaws.{any_cong, any_false, any_intro, least-found, least-none}
+use Rattle.sums.proofs.SearchLaws.{any_cong, any_false, any_intro, any-least, least-found, least-none, least-le, least-holds, least-before}
 use Rattle.bits.specs.Bits.{is_set}
-use Rattle.bits.proofs.SetBits.{is_set-zero}
+use Rattle.bits.proofs.SetBits.{is_set-zero, any-is_set}
 use Rattle.rocks.specs.declared.rocks.Limits.{Limits}
 use Rattle.algorithm.specs.Board.{Board, touches, other, towards, load}
 use Rattle.algorithm.specs.Explore.{Explored, round_of, in_conflict, activated, father, child}
@@ -27,11 +30,13 @@ use Rattle.arrays.specs.Arrays.{plus_of}
 use Rattle.rocks.specs.RockArrays.{touches_at, other_at, within_at, father_at, child_at}
 use Rattle.rocks.specs.BoardArrays.{rocks_of, rock_at, Rocks, Owned, Rounds}
 use Rattle.rocks.specs.Shown.{Shown}
-use Rattle.push.specs.PushArrays.{heavy_at, receives_at, receiving, Receivers, Choices}
+use Rattle.push.specs.PushArrays.{heavy_at, receives_at, receiving, Receivers, Choices, first_move}
+use Rattle.push.specs.declared.push.Move.{Move}
 use Rattle.algorithm.proofs.BoardLaws.{other-below}
 use Rattle.rocks.proofs.ScanLaws.{and_assoc, rock_below, board-any}
 use Rattle.arrays.proofs.NumberLaws.{plus_one}
 use Rattle.rocks.proofs.BoardLaws.{other_at_lem, within_same}
+use Rattle.sets.specs.Sets.{lowest_of}
 use Rattle.sets.proofs.SetLaws.{and-is_set}
 use Rattle.push.proofs.ReceiverLaws.{Ends, Levels}
 
@@ -58,12 +63,6 @@ regroup false at eq ac ll lf h = refl
 regroup true at eq true ll lf h = ap (λ (k : Bool). k && (ll && lf)) (h refl) ∙ sym (and_assoc eq ll lf)
 regroup true at eq false ll lf h = and-false_right at refl
 
-pub or_first : {a : Bool} (b : Bool) → a ≡ true → true ≡ (a || b)
-or_first b p = sym (or_left b p)
-
-pub or_second : {a t u : Bool} → t ≡ a → t ≡ true → {b : Bool} → u ≡ b → not u ≡ (not a || not b)
-or_second {a} e p {b} q = let x : a ≡ true = sym e ∙ p in rw x (ap not q)
-
 -- ── a job that goes nowhere ──
 
 -- The benches to which job j may go.
@@ -77,15 +76,78 @@ opens_at choice place level receivers j {p} {l} {m} ep el ea em er =
     let at : l ≡ get_or level (get_or place j 0) 0 = el ∙ ap (λ (k : ℕ). get_or level k 0) ep in
     ap₂ bit_and ea (er ∙ ap (λ (k : ℕ). get_or receivers k 0) (em ∙ ap (λ (k : ℕ). plus_of k 1) at))
 
-pub opens_not : (k s o : ℕ) → o ≡ s → o ≡ 0 → any k (is_set 64 s) ≡ false
-opens_not k s o e z =
-    any_false k (is_set 64 s) (λ v h. ap (λ (x : ℕ). is_set 64 x v) (sym e ∙ z) ∙ is_set-zero 64 v)
+and_true : (t : Bool) → (t && true) ≡ t
+and_true true = refl
+and_true false = refl
 
-pub opens-nowhere : (k v s : ℕ) → k ≤ v → ((u : ℕ) → u < v → is_set 64 s u ≡ false) → any k (is_set 64 s) ≡ false
-opens-nowhere k v s past none = any_false k (is_set 64 s) (λ u l. none u (omega arith))
+-- All benches, as a set.
+abbrev pub AllBenches : ℕ → ℕ → Type 0
+AllBenches benches all = (v : ℕ) → v < 64 → is_set 64 all v ≡ ltb v benches
+
+module _ (k s o all : ℕ) (few : k ≤ 64) (A : AllBenches k all) (same : o ≡ s) where
+  open_at : (u : ℕ) → u < k → is_set 64 (bit_and o all) u ≡ is_set 64 s u
+  open_at u h =
+      let here : is_set 64 all u ≡ true = A u (omega arith) ∙ lt-ltb u k h in
+      and-is_set o all u ∙ ap (λ (t : Bool). is_set 64 o u && t) here ∙ and_true (is_set 64 o u)
+      ∙ ap (λ (x : ℕ). is_set 64 x u) same
+
+  pub opens-nowhere : bit_and o all ≡ 0 → any k (is_set 64 s) ≡ false
+  opens-nowhere none =
+      any_false k (is_set 64 s)
+      (λ u h. sym (open_at u h) ∙ ap (λ (x : ℕ). is_set 64 x u) none ∙ is_set-zero 64 u)
+
+  -- The lowest bench of a set that is not empty.
+  pub opens_lowest : (v : ℕ) → bit_and o all < 2 ^ 64 → bit_and o all ≢ 0 → v ≡ lowest_of (bit_and o all)
+      → (v < k) × ((u : ℕ) → u < v → is_set 64 s u ≡ false) × (is_set 64 s v ≡ true)
+  unfolding lowest_of
+  opens_lowest v fits some e =
+      let p = bit_and o all in
+      let found : any 64 (is_set 64 p) ≡ true = any-is_set 64 p fits ∙ ap not (ne_eqb p 0 some) in
+      let below : v < 64 = omega (arith, e, any-least 64 (is_set 64 p) found) in
+      let here : is_set 64 p v ≡ true = ap (is_set 64 p) e ∙ least-holds 64 (is_set 64 p) (omega (arith, e, below)) in
+      let both : (is_set 64 o v && is_set 64 all v) ≡ true = sym (and-is_set o all v) ∙ here in
+      let inside : v < k = ltb-true v k (sym (A v below) ∙ and_right (is_set 64 o v) (is_set 64 all v) both) in (
+        inside,
+        λ u h. sym (open_at u (omega (arith, inside))) ∙ least-before 64 (is_set 64 p) u (omega (arith, e)),
+        sym (open_at v inside) ∙ here,
+      )
+
+-- Past the end of the choices.
+pub opens_past : (choice place level receivers : List ℕ) (k j : ℕ) → length choice ≤ j
+    → any k (is_set 64 (opens choice place level receivers j)) ≡ false
+opens_past choice place level receivers k j past =
+    any_false k (is_set 64 (opens choice place level receivers j)) (λ u h.
+    let next = plus_of (get_or level (get_or place j 0) 0) 1 in
+    and-is_set (get_or choice j 0) (get_or receivers next 0) u
+    ∙ ap (λ (x : ℕ). is_set 64 x u && is_set 64 (get_or receivers next 0) u) (get_or-eq_default choice 0 past)
+    ∙ ap (λ (t : Bool). t && is_set 64 (get_or receivers next 0) u) (is_set-zero 64 u))
 
 pub opens-more : (f : ℕ → Bool) (j : ℕ) → ((i : ℕ) → i < j → f i ≡ false) → f j ≡ false → (i : ℕ) → i < j + 1 → f i ≡ false
 opens-more f j before e i l = elim (last_or_below {i = i} {n = j} (omega arith)) [ inl same ↦ ap f same ∙ e | inr below ↦ before i below ]
+
+-- ── the first move ──
+
+module _ (b : Board) (x : Explored) where
+  abbrev the_move : Move
+  the_move = record { job = push_job b x; bench = push_bench b x }
+
+  abbrev there_is_one : Bool
+  there_is_one = ltb (push_job b x) b.jobs
+
+  pub move_some : {m : Move} → Some m ≡ first_move b x
+      → (push_job b x < b.jobs) × (m.job ≡ push_job b x) × (m.bench ≡ push_bench b x)
+  move_some {m} e = elim (split there_is_one) [
+    | inl p ↦
+        let same : m ≡ the_move = same_Some m the_move (e ∙ ap (λ (t : Bool). then_some t the_move) p) in
+        (ltb-true (push_job b x) b.jobs p, ap (λ (k : Move). k.job) same, ap (λ (k : Move). k.bench) same)
+    | inr p ↦ absurd (none-some m (sym (e ∙ ap (λ (t : Bool). then_some t the_move) p)))
+  ]
+
+  pub move_none : None ≡ first_move b x → push_job b x ≡ b.jobs
+  move_none e = elim (split there_is_one) [
+    | inl p ↦ absurd (none-some the_move (e ∙ ap (λ (t : Bool). then_some t the_move) p))
+    | inr p ↦ omega (arith, ltb-false (push_job b x) b.jobs p, least-le b.jobs (λ j. any b.benches (can_push b x j)))
+  ]
 
 -- ── of a board ──
 
@@ -229,31 +291,31 @@ module _ (b : Board) (n : Limits) (low high weight : List ℕ) (R : Rocks b n lo
           ap (λ (k : ℕ). any k (is_set 64 (opens choice place level receivers j))) R.benches
           ∙ any_cong b.benches (is_set 64 (opens choice place level receivers j)) (can_push b x j) (λ v l. push_same j v h l)
 
-      pub push_none : (j : ℕ) {v : ℕ} → v ≡ 0 → j ≤ n.jobs → n.jobs ≤ j
-          → ((i : ℕ) → i < j → any n.benches (is_set 64 (opens choice place level receivers i)) ≡ false)
-          → (j ≡ push_job b x) × (v ≡ cond (ltb (push_job b x) b.jobs) (push_bench b x) 0)
-      push_none j {v} z below past before =
-          let e : j ≡ b.jobs = omega (arith, R.jobs) in
-          let job : j ≡ push_job b x =
-          e ∙ sym (least-none b.jobs (λ i. any b.benches (can_push b x i)) (λ i l. sym (any_same i l) ∙ before i (omega arith))) in (
-            job,
-            z ∙ sym (ap (λ (t : Bool). cond t (push_bench b x) 0) (le-ltb (push_job b x) b.jobs (omega (arith, job, e)))),
-          )
+      pub push_none : (j : ℕ) → n.jobs ≤ j
+          → ((i : ℕ) → i < j → any n.benches (is_set 64 (opens choice place level receivers i)) ≡ false) → None ≡ first_move b x
+      push_none j past before =
+          let none : push_job b x ≡ b.jobs =
+          least-none b.jobs (λ i. any b.benches (can_push b x i)) (λ i l. sym (any_same i l) ∙ before i (omega (arith, R.jobs))) in
+          sym (ap (λ (t : Bool). then_some t (the_move b x)) (le-ltb (push_job b x) b.jobs (omega arith)))
 
-      pub push_found : (j v o : ℕ) {t : Bool} → j < n.jobs → v < n.benches → o ≡ opens choice place level receivers j
+      pub push_found : (j v : ℕ) → j < n.jobs → v < n.benches
           → ((i : ℕ) → i < j → any n.benches (is_set 64 (opens choice place level receivers i)) ≡ false)
-          → ((u : ℕ) → u < v → is_set 64 (opens choice place level receivers j) u ≡ false) → t ≡ is_set 64 o v → t ≡ true
-          → (j ≡ push_job b x) × (v ≡ cond (ltb (push_job b x) b.jobs) (push_bench b x) 0)
-      push_found j v o hj hv eo before lower et here =
+          → ((u : ℕ) → u < v → is_set 64 (opens choice place level receivers j) u ≡ false)
+          → is_set 64 (opens choice place level receivers j) v ≡ true
+          → Some (record { job = j; bench = v }) ≡ first_move b x
+      push_found j v hj hv before lower here =
           let h : j < b.jobs = omega (arith, R.jobs) in
           let l : v < b.benches = omega (arith, R.benches) in
-          let push-here : can_push b x j v ≡ true = sym (push_same j v h l) ∙ ap (λ (k : ℕ). is_set 64 k v) (sym eo) ∙ sym et ∙ here in
+          let same : (u : ℕ) → u < b.benches → is_set 64 (opens choice place level receivers j) u ≡ can_push b x j u =
+          λ u k. push_same j u h k in
+          let push-here : can_push b x j v ≡ true = sym (same v l) ∙ here in
           let job : j ≡ push_job b x =
           sym (least-found b.jobs (λ i. any b.benches (can_push b x i)) j h (any_intro b.benches (can_push b x j) v l push-here)
           (λ i k. sym (any_same i (omega arith)) ∙ before i k)) in
           let bench : v ≡ push_bench b x =
-          sym (least-found b.benches (can_push b x j) v l push-here (λ u s. sym (push_same j u h (omega arith)) ∙ lower u s))
-          ∙ ap (λ (i : ℕ). least b.benches (can_push b x i)) job in (
-            job,
-            bench ∙ sym (ap (λ (t : Bool). cond t (push_bench b x) 0) (lt-ltb (push_job b x) b.jobs (omega (arith, job, h)))),
-          )
+          sym (least-found b.benches (can_push b x j) v l push-here
+          (λ u s. sym (same u (omega arith)) ∙ lower u s))
+          ∙ ap (λ (i : ℕ). least b.benches (can_push b x i)) job in
+          let moves : ℕ → ℕ → Option Move = λ i u. Some (record { job = i; bench = u }) in
+          ap₂ moves job bench
+          ∙ sym (ap (λ (t : Bool). then_some t (the_move b x)) (lt-ltb (push_job b x) b.jobs (omega (arith, job))))

@@ -1,9 +1,7 @@
 -- The benches with a child, those with a heavy father, and those that may receive, as sets.
---     Joins, set-with, set-without         a set with a bench where a test holds, and as it was
---     edge_heavy, edge_light, edge_far     the benches with a heavy father after one edge more
---     EndsMore, to_low, to_high, to_none   the marks after one rock more, by where it leads
+--     Joins                                a set with a bench where a test holds
+--     EndsMore, to_low, to_high            the marks after one rock more, by where it leads
 --     Ends, marks_none, marks_more, marks_all     the marks after none, after one turn more of the loop, and after the last
---     receiver_added, receiver_none        the sets of the levels after one bench more
 --     Levels, levels_none, levels_more     the sets of the levels after none, and after one turn more of the loop
 use Prim.Native.Nat.{ℕ, ◌+◌, ◌≤◌, ◌<◌}
 use mathlib.Core.Path.{◌≡◌, refl, sym, ap, ap₂, subst, ◌∙◌}
@@ -13,10 +11,9 @@ use mathlib.Core.List.{List}
 use native.Mathlib.Omega.{arith}
 use native.Mathlib.Numerals.{add-one}
 use lib.Dec.{eqb, ltb}
-use lib.ListN.{length, get_or, set}
-use lib.Seq.{get_or-set_same, get_or-set_other}
+use lib.ListN.{length, get_or}
 use borrow.Author.Tests.{eq-eqb, ne_eqb, eqb-true, lt-ltb, le-ltb}
-use Rattle.bools.proofs.BoolLaws.{split, and_intro, and-false_left, and-false_right, and_unit, or_unit}
+use Rattle.bools.proofs.BoolLaws.{split, and-false_left, and-false_right, and_unit, or_unit}
 use Rattle.bools.proofs.OrderLaws.{eq-or-ne, lt-or-le}
 use Rattle.sums.specs.Search.{any}
 use Rattle.bits.specs.Bits.{is_set}
@@ -30,24 +27,6 @@ use Rattle.push.specs.PushArrays.{heavy_at}
 -- The set has besides the old ones the bench v, where c holds.
 abbrev pub Joins : ℕ → Bool → ℕ → ℕ → Type 0
 Joins old c v new = (u : ℕ) → u < 64 → is_set 64 new u ≡ (is_set 64 old u || (c && eqb u v))
-
-pub set-with : (old v new : ℕ) {c t : Bool} → t ≡ c → t ≡ true → ((u : ℕ) → u < 64 → is_set 64 new u ≡ (is_set 64 old u || eqb u v)) → Joins old c v new
-set-with old v new {c} e p more u h = let x : c ≡ true = sym e ∙ p in more u h ∙ rw x
-
-pub set-without : (old v : ℕ) {c t : Bool} → t ≡ c → t ≡ false → Joins old c v old
-set-without old v {c} e p u h = sym (or_unit (is_set 64 old u) (and-false_left (eqb u v) (sym e ∙ p)))
-
-module _ (limit : ℕ) (own : List ℕ) (old v w : ℕ) {c t : Bool} (e : t ≡ c) where
-  pub edge_heavy : (new : ℕ) {o : ℕ} {x : Bool} → t ≡ true → o ≡ get_or own v 0 → x ≡ ltb limit (o + w) → x ≡ true
-      → ((u : ℕ) → u < 64 → is_set 64 new u ≡ (is_set 64 old u || eqb u v)) → Joins old (c && ltb limit (get_or own v 0 + w)) v new
-  edge_heavy new {o} {x} p eo ex q more =
-      set-with old v new refl (and_intro (sym e ∙ p) (ap (λ (k : ℕ). ltb limit (k + w)) (sym eo) ∙ sym ex ∙ q)) more
-
-  pub edge_light : {o : ℕ} {x : Bool} → o ≡ get_or own v 0 → x ≡ ltb limit (o + w) → x ≡ false → Joins old (c && ltb limit (get_or own v 0 + w)) v old
-  edge_light eo ex q = set-without old v refl (and-false_right c (ap (λ (k : ℕ). ltb limit (k + w)) (sym eo) ∙ sym ex ∙ q))
-
-  pub edge_far : t ≡ false → Joins old (c && ltb limit (get_or own v 0 + w)) v old
-  edge_far p = set-without old v refl (and-false_left (ltb limit (get_or own v 0 + w)) (sym e ∙ p))
 
 -- ── one rock more ──
 
@@ -105,21 +84,6 @@ module _ (P Q : ℕ → Bool) (d lo hi v : ℕ) (small : v < 64) where
         rw (ne_eqb v lo ne, ne_eqb d (plus_of lo 1) ned) (and-false_right (P hi && Q lo) refl ∙ sym (and-false_right (eqb v hi) refl))
   ]
 
-  child_none : d ≢ plus_of lo 1 → d ≢ plus_of hi 1 → is_child ≡ false
-  child_none nl nh = elim (eq-or-ne v lo) [
-    | inl e ↦ rw (eq-eqb v lo e, ne_eqb d (plus_of v 1) (λ q. nl (q ∙ ap (λ (k : ℕ). plus_of k 1) e)))
-    | inr ne ↦ elim (eq-or-ne v hi) [
-      | inl f ↦ rw (ne_eqb v lo ne, eq-eqb v hi f, ne_eqb d (plus_of v 1) (λ q. nh (q ∙ ap (λ (k : ℕ). plus_of k 1) f)))
-      | inr g ↦ rw (ne_eqb v lo ne, ne_eqb v hi g)
-    ]
-  ]
-
-  heavy_none : d ≢ plus_of lo 1 → d ≢ plus_of hi 1 → is_heavy ≡ false
-  heavy_none nl nh = elim (eq-or-ne v lo) [
-    | inl e ↦ rw (eq-eqb v lo e, ne_eqb d (plus_of hi 1) nh)
-    | inr ne ↦ rw (ne_eqb v lo ne, ne_eqb d (plus_of lo 1) nl) (and-false_right (eqb v hi) refl)
-  ]
-
 -- The set has besides the old ones the ends of rock r that P holds of.
 abbrev pub EndsMore : List ℕ → List ℕ → (ℕ → ℕ → Bool) → ℕ → ℕ → ℕ → Type 0
 EndsMore low high P r old new = (v : ℕ) → v < 64 → is_set 64 new v ≡ (is_set 64 old v || (touches_at low high r v && P r v))
@@ -166,14 +130,6 @@ module _ (benches limit : ℕ) (low high weight own dir joined : List ℕ) (chil
             ∙ heavy_high inside weighty (get_or dir r 0) (get_or low r 0) (get_or high r 0) v h not_low at_high),
       )
 
-  pub to_none : {s t : ℕ} → s ≡ plus_of lo 1 → d ≢ s → t ≡ plus_of hi 1 → d ≢ t → Both children heavy
-  to_none es nl et nh =
-      let not_low : get_or dir r 0 ≢ plus_of (get_or low r 0) 1 = λ q. nl (ed ∙ q ∙ sym (es ∙ ap (λ (k : ℕ). plus_of k 1) elo)) in
-      let not-high : get_or dir r 0 ≢ plus_of (get_or high r 0) 1 = λ q. nh (ed ∙ q ∙ sym (et ∙ ap (λ (k : ℕ). plus_of k 1) ehi)) in (
-        λ v h. sym (or_unit (is_set 64 children v) (child_none inside weighty (get_or dir r 0) (get_or low r 0) (get_or high r 0) v h not_low not-high)),
-        λ v h. sym (or_unit (is_set 64 heavy v) (heavy_none inside weighty (get_or dir r 0) (get_or low r 0) (get_or high r 0) v h not_low not-high)),
-      )
-
 -- ── the loop over the rocks ──
 
 module _ (low high : List ℕ) (P : ℕ → ℕ → Bool) where
@@ -190,35 +146,6 @@ module _ (low high : List ℕ) (P : ℕ → ℕ → Bool) where
 
   pub marks_all : (r rocks s : ℕ) → r ≤ rocks → rocks ≤ r → Ends r s → Ends rocks s
   marks_all r rocks s h l E = let e : r ≡ rocks = omega arith in subst (λ (k : ℕ). Ends k s) e E
-
--- ── one bench more ──
-
--- f: the bench may receive.
-module _ (level : List ℕ) (f : ℕ → Bool) (t : List ℕ) (v : ℕ) where
-  pub receiver_added : (new : ℕ) {m old : ℕ} {s : List ℕ} {c : Bool} → c ≡ f v → c ≡ true → m ≡ get_or level v 0 → old ≡ get_or t m 0
-      → ((u : ℕ) → u < 64 → is_set 64 new u ≡ (is_set 64 old u || eqb u v)) → s ≡ set t m new
-      → (l u : ℕ) → l < length t → u < 64
-      → is_set 64 (get_or s l 0) u ≡ (is_set 64 (get_or t l 0) u || (eqb u v && (eqb l (get_or level v 0) && f v)))
-  receiver_added new {m} {old} {s} {c} ec p em eo more es l u h hu =
-      let open-here : f v ≡ true = sym ec ∙ p in
-      elim (eq-or-ne l m) [
-        | inl e ↦
-            let q : eqb l (get_or level v 0) ≡ true = eq-eqb l (get_or level v 0) (e ∙ em) in
-            let becomes : get_or s l 0 ≡ new =
-            ap (λ (k : List ℕ). get_or k l 0) es ∙ ap (λ (k : ℕ). get_or (set t m new) k 0) e ∙ get_or-set_same t m new 0 (subst (λ (k : ℕ). k < length t) e h) in
-            let was : old ≡ get_or t l 0 = eo ∙ ap (λ (k : ℕ). get_or t k 0) (sym e) in
-            ap (λ (k : ℕ). is_set 64 k u) becomes ∙ more u hu
-            ∙ ap₂ (λ (x y : Bool). x || y) (ap (λ (k : ℕ). is_set 64 k u) was) (sym (and_unit (eqb u v) (and_intro q open-here)))
-        | inr ne ↦
-            let q : eqb l (get_or level v 0) ≡ false = ne_eqb l (get_or level v 0) (λ e. ne (e ∙ sym em)) in
-            ap (λ (k : List ℕ). is_set 64 (get_or k l 0) u) es ∙ ap (λ (k : ℕ). is_set 64 k u) (get_or-set_other t m l new 0 ne)
-            ∙ sym (or_unit (is_set 64 (get_or t l 0) u) (and-false_right (eqb u v) (and-false_left (f v) q)))
-      ]
-
-  pub receiver_none : {c : Bool} → c ≡ f v → c ≡ false → (l u : ℕ) → l < length t → u < 64
-      → is_set 64 (get_or t l 0) u ≡ (is_set 64 (get_or t l 0) u || (eqb u v && (eqb l (get_or level v 0) && f v)))
-  receiver_none ec p l u h hu =
-      sym (or_unit (is_set 64 (get_or t l 0) u) (and-false_right (eqb u v) (and-false_right (eqb l (get_or level v 0)) (sym ec ∙ p))))
 
 -- ── the loop over the benches ──
 

@@ -22,7 +22,8 @@ ReachShifted jobs choice place reach u v j reach' =
     → (any jobs (lies_at choice place u x) ≡ true → is_set 64 (get_or reach u 0) x ≡ true)
     → is_set 64 (get_or reach' w 0) x
     ≡ cond (eqb w u) (any jobs (lies_at choice place u x))
-    (cond (eqb w v) (is_set 64 (get_or reach v 0) x || is_set 64 (get_or choice j 0) x) (is_set 64 (get_or reach w 0) x))
+    (cond (eqb w v) (is_set 64 (get_or reach v 0) x || is_set 64 (get_or choice j 0) x)
+    (is_set 64 (get_or reach w 0) x))
 
 -- The choice of each job: the benches that it allows where it is a pebble, and else none.
 abbrev pub Chosen : ℕ → List Bool → List ℕ → List ℕ → Type 0

@@ -9,47 +9,45 @@ ghost use Rattle.push.specs.KeptArrays.{shifted_of, lies_at, ReachShifted};
 fn shift_load(own: &mut [usize], u: usize, v: usize, w: usize)
     ensures { own.new ≡ shifted_of own.old u v w }
 {
-    let less = arrays::minus(arrays::at(own, u), w);
+    let less = arrays::at(own, u).saturating_sub(w);
     arrays::put(own, u, less);
-    let more = arrays::plus(arrays::at(own, v), w);
+    let more = arrays::at(own, v).saturating_add(w);
     arrays::put(own, v, more);
 }
 
 // The set, and where job j is on u also its choice.
-fn reach_more<'a>(choice: &'a [usize], place: &'a [u8], u: usize, j: usize, set: usize) -> usize
+fn reach_more(choice: &[usize], place: &[u8], u: usize, j: usize, set: usize) -> usize
     ensures { result
         ≡ cond (eqb (get_or place.now j 0) u) (bit_or set (get_or choice.now j 0)) set }
 {
-    if arrays::byte(place, j) == u {
-        return set | arrays::at(choice, j);
+    if usize::from(arrays::at(place, j)) == u {
+        set | arrays::at(choice, j)
+    } else {
+        set
     }
-    set
 }
 
 // The benches that the pebbles on u allow, all of which are in the set `full`.
-fn reach_from<'a>(jobs: usize, choice: &'a [usize], place: &'a [u8], u: usize, full: usize) -> usize
+fn reach_from(jobs: usize, choice: &[usize], place: &[u8], u: usize, full: usize) -> usize
     ensures { (v : ℕ) → v < 64
         → (any jobs (lies_at choice.now place.now u v) ≡ true → is_set 64 full v ≡ true)
         → is_set 64 result v ≡ any jobs (lies_at choice.now place.now u v) }
 {
-    let end = arrays::least(jobs, choice.len());
     let mut set = 0;
-    let mut j = 0;
-    while j < end {
+    for j in 0..jobs.min(choice.len()) {
         if set == full {
             return set;
         }
         set = reach_more(choice, place, u, j, set);
-        j += 1;
     }
     set
 }
 
 // Job j, which is now on v, was on u.
-fn shift_reach<'a>(
+fn shift_reach(
     jobs: usize,
-    choice: &'a [usize],
-    place: &'a [u8],
+    choice: &[usize],
+    place: &[u8],
     reach: &mut [usize],
     u: usize,
     v: usize,
@@ -66,11 +64,11 @@ fn shift_reach<'a>(
 
 // Both, after job j left bench u and came to bench v, where it is now: the loads besides the rocks, and the benches in
 // reach of each bench.
-pub fn shift<'a>(
+pub fn shift(
     jobs: usize,
-    amount: &'a [usize],
-    choice: &'a [usize],
-    place: &'a [u8],
+    amount: &[usize],
+    choice: &[usize],
+    place: &[u8],
     own: &mut [usize],
     reach: &mut [usize],
     u: usize,

@@ -1,19 +1,20 @@
 // PUSH (Definition 4.4.3).
-ghost use Rattle.std.specs.Prelude.{◌≡◌, ℕ, ◌+◌, ◌<◌, ◌&&◌, ◌||◌, cond, List, get_or, length, replicate, eqb, ltb};
+ghost use Rattle.std.specs.Prelude.{◌≡◌, ℕ, ◌+◌, ◌<◌, ◌&&◌, ◌||◌, List, get_or, length, replicate, eqb, ltb};
 ghost use Rattle.sums.specs.Search.{any};
 ghost use Rattle.algorithm.specs.Board.{Board};
 ghost use Rattle.algorithm.specs.Explore.{Explored};
-ghost use Rattle.algorithm.specs.Push.{push_job, push_bench};
 ghost use Rattle.rocks.specs.RockArrays.{within_at, touches_at, child_at};
 ghost use Rattle.rocks.specs.BoardArrays.{Owned, Rounds};
+ghost use Rattle.rock_graph.specs.declared.lent.Graph.{Graph};
 ghost use Rattle.rock_graph.specs.Graph.{lows, highs, weights, RockGraph};
 ghost use Rattle.rocks.specs.Shown.{Shown};
 ghost use Rattle.bits.specs.Bits.{is_set};
-ghost use Rattle.push.specs.PushArrays.{heavy_at, receives_at, Receivers, Choices};
+ghost use Rattle.push.specs.PushArrays.{heavy_at, receives_at, Receivers, Choices, first_move};
 
+use rock_graph::Graph;
 use rocks::Limits;
 
-// A job and the bench it goes to; the number of jobs and 0 where there is no move.
+// A job and the bench it goes to.
 #[derive(Drop)]
 pub struct Move {
     pub job: usize,
@@ -28,10 +29,10 @@ pub struct Marks {
 }
 
 // The marks, with those of a rock of weight w that leads from bench t to bench h.
-fn mark_edge<'a>(
+fn mark_edge(
     n: Limits,
-    own: &'a [usize],
-    joined: &'a [usize],
+    own: &[usize],
+    joined: &[usize],
     m: Marks,
     t: usize,
     h: usize,
@@ -56,19 +57,16 @@ fn mark_edge<'a>(
             heavy = sets::with(heavy, t);
         }
     }
-    Marks {
-        children: children,
-        heavy: heavy,
-    }
+    Marks { children, heavy }
 }
 
 // The marks, with those of rock r.
-fn mark_rock<'a>(
+fn mark_rock(
     n: Limits,
-    graph: &'a [usize],
-    own: &'a [usize],
-    dir: &'a [usize],
-    joined: &'a [usize],
+    graph: &Graph,
+    own: &[usize],
+    dir: &[usize],
+    joined: &[usize],
     m: Marks,
     r: usize,
 ) -> Marks
@@ -88,26 +86,20 @@ fn mark_rock<'a>(
         own.now dir.now joined.now r v))) }
 {
     let d = arrays::at(dir, r);
-    let lo = rock_graph::low(graph, r);
-    let hi = rock_graph::high(graph, r);
-    let w = rock_graph::weight(graph, r);
-    if d == arrays::plus(lo, 1) {
+    let lo = graph.low(r);
+    let hi = graph.high(r);
+    let w = graph.weight(r);
+    if d == lo.saturating_add(1) {
         return mark_edge(n, own, joined, m, hi, lo, w);
     }
-    if d == arrays::plus(hi, 1) {
+    if d == hi.saturating_add(1) {
         return mark_edge(n, own, joined, m, lo, hi, w);
     }
     m
 }
 
 // The marks of all rocks: the opposites of leaf b x v and of light_fathers b x v.
-fn mark_all<'a>(
-    n: Limits,
-    graph: &'a [usize],
-    own: &'a [usize],
-    dir: &'a [usize],
-    joined: &'a [usize],
-) -> Marks
+fn mark_all(n: Limits, graph: &Graph, own: &[usize], dir: &[usize], joined: &[usize]) -> Marks
     ensures { ((v : ℕ) → v < 64
         → is_set 64 result.children v
         ≡ any n.rocks
@@ -127,36 +119,27 @@ fn mark_all<'a>(
         children: 0,
         heavy: 0,
     };
-    let mut r = 0;
-    while r < n.rocks {
+    for r in 0..n.rocks {
         m = mark_rock(n, graph, own, dir, joined, m, r);
-        r += 1;
     }
     m
 }
 
 // What can_push b x j v asks of v alone: activated, load within the limit, leaf or light fathers.
-fn receives<'a>(n: Limits, load: &'a [usize], level: &'a [usize], m: Marks, v: usize) -> bool
+fn receives(n: Limits, load: &[usize], level: &[usize], m: Marks, v: usize) -> bool
     ensures { result
         ≡ receives_at n.benches n.limit load.now level.now m.children m.heavy v }
 {
-    if !rocks::within(n.benches, level, v) {
-        return false;
-    }
-    if n.limit < arrays::at(load, v) {
-        return false;
-    }
-    if !sets::has(m.children, v) {
-        return true;
-    }
-    !sets::has(m.heavy, v)
+    rocks::within(n.benches, level, v)
+        && arrays::at(load, v) <= n.limit
+        && (!sets::has(m.children, v) || !sets::has(m.heavy, v))
 }
 
 // Bench v, where it may receive, goes into the set of its level.
-fn add_receiver<'a>(
+fn add_receiver(
     n: Limits,
-    load: &'a [usize],
-    level: &'a [usize],
+    load: &[usize],
+    level: &[usize],
     m: Marks,
     receivers: &mut [usize],
     v: usize,
@@ -177,14 +160,14 @@ fn add_receiver<'a>(
 }
 
 // Entry l: the benches of level l that may receive, as a set.
-pub fn fill_receivers<'a>(
+pub fn fill_receivers(
     n: Limits,
-    graph: &'a [usize],
-    own: &'a [usize],
-    dir: &'a [usize],
-    load: &'a [usize],
-    joined: &'a [usize],
-    level: &'a [usize],
+    graph: &Graph,
+    own: &[usize],
+    dir: &[usize],
+    load: &[usize],
+    joined: &[usize],
+    level: &[usize],
     receivers: &mut [usize],
 )
     ensures { (b : Board) → (x : Explored)
@@ -193,43 +176,36 @@ pub fn fill_receivers<'a>(
         → receivers.old ≡ replicate 66 0 → Receivers b x receivers.new }
 {
     let m = mark_all(n, graph, own, dir, joined);
-    let mut v = 0;
-    while v < n.benches {
+    for v in 0..n.benches {
         add_receiver(n, load, level, m, receivers, v);
-        v += 1;
     }
 }
 
-// push_job b x and push_bench b x: the first job that may go one level up, and its first bench there. The number of jobs
-// and bench 0 where there is no move.
-pub fn first_push<'a>(
+// The first job that may go one level up, and its first bench there.
+pub fn first_push(
     n: Limits,
-    choice: &'a [usize],
-    place: &'a [u8],
-    level: &'a [usize],
-    receivers: &'a [usize],
-) -> Move
-    ensures { (b : Board) → (x : Explored) → (graph : List ℕ) → RockGraph b n graph
+    graph: &Graph,
+    choice: &[usize],
+    place: &[u8],
+    level: &[usize],
+    receivers: &[usize],
+) -> Option<Move>
+    ensures { (b : Board) → (x : Explored) → RockGraph b n graph.now
         → Choices b choice.now place.now → Rounds b x.level level.now
-        → Receivers b x receivers.now
-        → (result.job ≡ push_job b x) × (result.bench ≡ cond (ltb (push_job b x) b.jobs) (push_bench b x) 0) }
+        → Receivers b x receivers.now → result ≡ first_move b x }
 {
-    let mut j = 0;
-    let mut v = 0;
-    'search: while j < n.jobs {
+    // A job past the end of the table may go nowhere.
+    for j in 0..n.jobs.min(choice.len()) {
         // The benches that job j may choose from and that receive, one level above the bench on which it lies.
-        let sender = arrays::at(level, arrays::byte(place, j));
-        let open = arrays::at(choice, j) & arrays::at(receivers, arrays::plus(sender, 1));
+        let sender = arrays::at(level, usize::from(arrays::at(place, j)));
+        let fit = arrays::at(choice, j) & arrays::at(receivers, sender.saturating_add(1));
+        let open = fit & graph.every_bench;
         if open != 0 {
-            while v < n.benches {
-                if sets::has(open, v) {
-                    break 'search;
-                }
-                v += 1;
-            }
+            return Some(Move {
+                job: j,
+                bench: sets::lowest(open),
+            });
         }
-        v = 0;
-        j += 1;
     }
-    Move { job: j, bench: v }
+    None
 }

@@ -2,13 +2,13 @@
 -- before it ensure.
 -- Bytes of the table:
 --     number_put              a number put behind those that stand there
---     head_put                the four numbers of a head, put one behind the other
+--     head_put                the four numbers of a head
 --     job_numbers-append, length-job_numbers  the numbers of jobs
 --     jobs_none, jobs_more    no job makes no numbers; a job's two numbers behind those of the first i
 --     booked_put              64 booked numbers, put into a part of the table that is as long
 --     all_put                 the numbers of the head, then the booked numbers, then those of the jobs
 -- What was read:
---     Stored, stored-accepted     a reading that accepts: what its sheet holds
+--     Stored, stored-accepted     what the sheet holds that a reading gives
 -- What is returned:
 --     Shown                               the two equations of the contract
 --     fault_shown, no_room, all_shown     a fault, a table that is too short, and the numbers
@@ -29,10 +29,9 @@ use Rattle.fields.specs.declared.sheet.Head.{Head}
 use Rattle.fields.specs.declared.sheet.Job.{Job}
 use Rattle.fields.specs.Contents.{Contents}
 use Rattle.fields.specs.declared.sheet.Sheet.{Sheet}
-use Rattle.fields.specs.declared.sheet.Reading.{Reading}
 use Rattle.fields.specs.declared.fault.Fault.{Fault}
 use Rattle.fields.specs.declared.fault.Fault.TheVariants.{Table}
-use Rattle.fields.specs.declared.fault.Verdict.TheVariants.{Accepted, Refused}
+use Rattle.std.specs.Prelude.{Result, Ok, Err}
 use Rattle.fields.specs.Tests.{no_minutes, job_table}
 use Rattle.frame.specs.Reading.{accepted, read_sheet, stored, sheet_of}
 use Rattle.frame.proofs.WriterSteps.{written, written_after}
@@ -60,18 +59,10 @@ start_put : (t : List ℕ) (at : ℕ) → t ≡ written t at (little_all 8 []) a
 unfolding little_all
 start_put t at = rw (append-nil (take at t)) (sym (take-append-drop at t))
 
-pub head_put : (t : List ℕ) (h : Head) {one two three four : List ℕ}
-    → one ≡ written t 0 (little_of 8 h.benches) 8 → two ≡ written one 8 (little_of 8 h.p) 16
-    → three ≡ written two 16 (little_of 8 h.q) 24 → four ≡ written three 24 (little_of 8 h.target) 32
-    → four ≡ little_all 8 (head_numbers h) ++ drop 32 t
-head_put t h p q r s =
-    let a = h.benches in
-    let b = h.p in
-    let c = h.q in
-    let one = number_put t 0 [] a 0 (omega arith) refl (start_put t 0) p in
-    let two = number_put t 0 (a ∷ []) b 1 (omega arith) refl one q in
-    let three = number_put t 0 (a ∷ b ∷ []) c 2 (omega arith) refl two r in
-    number_put t 0 (a ∷ b ∷ c ∷ []) h.target 3 (omega arith) refl three s
+pub head_put : (t : List ℕ) (h : Head) {after : List ℕ} → 32 ≤ length t → after ≡ put_fitting (head_numbers h) t
+    → after ≡ little_all 8 (head_numbers h) ++ drop 32 t
+unfolding put_numbers
+head_put t h room e = e ∙ fitting_all (head_numbers h) t (omega arith)
 
 -- ── the numbers of the jobs ──
 
@@ -174,12 +165,13 @@ pub record Stored (s : List ℕ) (x : Sheet) : Type 0 where
   pub allowed_length : length x.allowed ≡ 512
   pub held : contents_in x ≡ contents
 
-pub stored-accepted : (s : List ℕ) {x : Reading} → x ≡ stored (read_sheet s) → x.verdict ≡ Accepted → Stored s x.sheet
-stored-accepted s {x} e a =
-    let q = verdict_accepted (read_sheet s) x e a in
+pub stored-accepted : (s : List ℕ) {x : Result Sheet Fault} {sheet : Sheet} → x ≡ stored (read_sheet s) → x ≡ Ok sheet
+    → Stored s sheet
+stored-accepted s {x} {sheet} e a =
+    let q = verdict_accepted (read_sheet s) e a in
     let c : Contents = q.0 in
     let few = read_jobs s c q.1 in
-    let same : x.sheet ≡ sheet_of c = q.2 in
+    let same : sheet ≡ sheet_of c = q.2 in
     record {
       contents = c;
       sheet_read = q.1;
@@ -203,7 +195,8 @@ abbrev pub Shown : List ℕ → List ℕ → ℕ → List ℕ → Type 0
 Shown s t r after = (r ≡ read_word (read_sheet s) (length t)) × (after ≡ contents_table (read_sheet s) t)
 
 module _ (s t : List ℕ) where
-  pub fault_shown : {x : Reading} {f : Fault} {r : ℕ} → x ≡ stored (read_sheet s) → x.verdict ≡ Refused f → r ≡ fault_word f → Shown s t r t
+  pub fault_shown : {x : Result Sheet Fault} {f : Fault} {r : ℕ} → x ≡ stored (read_sheet s) → x ≡ Err f
+      → r ≡ fault_word f → Shown s t r t
   unfolding read_word contents_table
   fault_shown e a w = let q = verdict_refused (read_sheet s) e a in (rw q w, rw q)
 

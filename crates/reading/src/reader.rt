@@ -1,17 +1,17 @@
 // Reading: frames in sheet order, each judged by the faults 2 to 11, 14 and 15, then fault 12.
 ghost use Rattle.std.specs.Prelude.{◌≡◌, ℕ, ◌<◌, ◌^◌, List, get_or};
 ghost use Rattle.fields.specs.Tests.{no_minutes, job_table};
-ghost use Rattle.frame.specs.Reading.{Read, read_sheet, stored, sheet_of, no_contents, end_verdict};
+ghost use Rattle.frame.specs.Reading.{read_sheet, stored, sheet_of, no_contents, end_verdict};
 
-use fields::{Fault, Head, Reading, Sheet, Verdict};
+use fields::{Fault, Head, Sheet};
 use judging::{Frame, Stage};
 
 // The first fault of a sheet, or its contents.
-pub fn read(s: &[u8]) -> Reading
+pub fn read(s: &[u8]) -> Result<Sheet, Fault>
     ensures { result ≡ stored (read_sheet s.now) }
 {
     if 65536 < s.len() {
-        return refusal(Fault::TooLong);
+        return Err(Fault::TooLong);
     }
     let mut sheet = empty();
     let mut stage = Stage::Start;
@@ -22,10 +22,7 @@ pub fn read(s: &[u8]) -> Reading
         let n = sheet.count;
         let benches = sheet.head.benches;
         let next = at + judging::frame_size(&s[at..]);
-        match judging::frame_at(&s[at..], at, stage, benches, n, had) {
-            Frame::Faulty(f) => {
-                return refusal(f);
-            }
+        match judging::frame_at(&s[at..], at, stage, benches, n, had)? {
             Frame::Foreign => {}
             Frame::Head(h) => {
                 sheet.head = h;
@@ -50,13 +47,8 @@ pub fn read(s: &[u8]) -> Reading
     }
     let head = sheet.head;
     let count = sheet.count;
-    match finish(stage, at, head, count, &sheet.minutes, &sheet.allowed) {
-        Verdict::Refused(f) => refusal(f),
-        Verdict::Accepted => Reading {
-            verdict: Verdict::Accepted,
-            sheet,
-        },
-    }
+    finish(stage, at, head, count, &sheet.minutes, &sheet.allowed)?;
+    Ok(sheet)
 }
 
 // A sheet with no head, no bookings and no jobs.
@@ -77,31 +69,21 @@ fn empty() -> Sheet
     }
 }
 
-fn refusal(f: Fault) -> Reading
-    ensures { result ≡ stored (Read.refused f) }
-{
-    Reading {
-        verdict: Verdict::Refused(f),
-        sheet: empty(),
-    }
-}
-
 // After the last frame: fault 2 where no end frame came, and fault 12.
-fn finish<'a>(
+fn finish(
     stage: Stage,
     at: usize,
     h: Head,
     count: usize,
-    minutes: &'a [u64],
-    allowed: &'a [u64],
-) -> Verdict
+    minutes: &[u64],
+    allowed: &[u64],
+) -> Result<(), Fault>
     requires { (h.p < 128) × (h.q < 128) × ((n : ℕ) → n < count → get_or minutes.now n no_minutes < 2 ^ 20) }
     ensures { (bs : List ℕ) → result ≡ end_verdict stage at
         (record { head = h; booked = bs; jobs = job_table count minutes.now allowed.now }) }
 {
     match stage {
         Stage::Closed => checks::check_hyper_edges(h, count, minutes, allowed),
-        Stage::Start => Verdict::Refused(Fault::Truncated(at)),
-        Stage::Open => Verdict::Refused(Fault::Truncated(at)),
+        Stage::Start | Stage::Open => Err(Fault::Truncated(at)),
     }
 }

@@ -1,10 +1,7 @@
-// The rocks that are left, as one table that a run lends to all its steps, and tests at one of them.
+// The rocks that are left, as one struct that a run lends to all its steps, and tests at one of them.
 #![tactic(auto)]
 
-mod graph;
+mod lent;
 mod maps;
 
-pub use graph::{
-    child, direct, end_of, every_bench, every_rock, father, fill_graph, high, incident, low,
-    neighbours, neighbours_of, touched, weight,
-};
+pub use lent::Graph;

@@ -8,7 +8,7 @@ ghost use Rattle.rock_graph.specs.Neighbours.{Incident, Neighbours};
 use rocks::Limits;
 
 // The other ends of the rocks of a set, which are at bench v.
-fn others<'a>(low: &'a [usize], high: &'a [usize], set: usize, v: usize) -> usize
+fn others(low: &[usize], high: &[usize], set: usize, v: usize) -> usize
     ensures { (r : ℕ) → r < 64 → is_set 64 set r ≡ true → other_at low.now high.now r v < 64
         → is_set 64 result (other_at low.now high.now r v) ≡ true }
 {
@@ -23,21 +23,14 @@ fn others<'a>(low: &'a [usize], high: &'a [usize], set: usize, v: usize) -> usiz
 }
 
 // Entry v becomes the set of the other ends of the rocks at bench v.
-pub fn fill_neighbours<'a>(
-    low: &'a [usize],
-    high: &'a [usize],
-    incident: &'a [usize],
-    neighbours: &mut [usize],
-)
+pub fn fill_neighbours(low: &[usize], high: &[usize], incident: &[usize], neighbours: &mut [usize])
     ensures { (n : Limits) → Incident n low.now high.now incident.now
         → length neighbours.old ≡ 64
         → Neighbours n low.now high.now neighbours.new }
 {
-    let mut v = 0;
-    while v < 64 {
+    for v in 0..64 {
         let ends = others(low, high, arrays::at(incident, v), v);
         arrays::put(neighbours, v, ends);
-        v += 1;
     }
 }
 
@@ -51,14 +44,12 @@ fn add_rock(incident: &mut [usize], v: usize, r: usize)
 }
 
 // Entry v becomes the set of the rocks at bench v.
-pub fn fill_incident<'a>(n: Limits, low: &'a [usize], high: &'a [usize], incident: &mut [usize])
+pub fn fill_incident(n: Limits, low: &[usize], high: &[usize], incident: &mut [usize])
     ensures { incident.old ≡ replicate 64 0
         → Incident n low.now high.now incident.new }
 {
-    let mut r = 0;
-    while r < n.rocks {
+    for r in 0..n.rocks {
         add_rock(incident, arrays::at(low, r), r);
         add_rock(incident, arrays::at(high, r), r);
-        r += 1;
     }
 }

@@ -28,8 +28,10 @@ use Rattle.algorithm.specs.Rocks.{rock, lowest, highest}
 use Rattle.algorithm.specs.Start.{joined_by, joined, component, rocks_in, crowded, crowded_bench, one_cycle}
 use Rattle.sets.specs.Sets.{choices_of}
 use Rattle.sets.proofs.SetLaws.{choices_below}
+use Rattle.rocks.specs.declared.balancing.Balance.{Balance}
+use Rattle.rocks.specs.declared.balancing.Balance.TheVariants.{Tree}
 use Rattle.rocks.specs.RockArrays.{touches_at, other_at}
-use Rattle.rocks.specs.SpreadArrays.{neutral_rock, inside_at, links_at, linked_at, balance_of, Within, Shows}
+use Rattle.rocks.specs.SpreadArrays.{neutral_rock, inside_at, links_at, linked_at, balance_of, is_cycle, is_crowded, Within, Shows}
 use Rattle.rocks.specs.DayArrays.{day_rocks, day_rock, DayRocks, balance_in, Cycles}
 use Rattle.rocks.proofs.RockLaws.{other_at_low, other_at_high}
 use Rattle.algorithm.proofs.RockLaws.{low_allowed, high_allowed, low_below_high, high_below, allowed_end}
@@ -126,20 +128,20 @@ module _ (d : Day) (n : Limits) (low high : List ℕ) (R : DayRocks d n low high
           (ap (is_set 64 set) (R.lows r h) ∙ shows_entry d.benches (component d v) set X (lowest d (day_rock d r)) (low_below r h)))
           ∙ sym (count-members d.jobs (rock d) (λ j. component d v (lowest d j)) 0)
 
-      pub component-balance : {k : ℕ} → k ≡ balance_of (count n.rocks (inside_at low dir (is_set 64 set))) (choices_of set) → k ≡ balance_in d v
+      pub component-balance : {k : Balance} → k ≡ balance_of (count n.rocks (inside_at low dir (is_set 64 set))) (choices_of set) → k ≡ balance_in d v
       component-balance e =
           e ∙ ap₂ balance_of component-rocks (choices_below set d.benches (component d v) X.room (λ u h. X.entries u))
 
 -- All rocks are neutral, however many there are.
 -- ── balances ──
 
-balance_of_cycle : (a b : ℕ) → eqb (balance_of a b) 1 ≡ eqb a b
+balance_of_cycle : (a b : ℕ) → is_cycle (balance_of a b) ≡ eqb a b
 balance_of_cycle a b = elim (split (ltb a b)) [
   | inl p ↦ let ne : eqb a b ≡ false = ne_eqb a b (λ e. omega tests) in rw (p, ne)
   | inr p ↦ elim (split (eqb a b)) [ inl q ↦ rw (p, q) | inr q ↦ rw (p, q) ]
 ]
 
-balance_of-crowded : (a b : ℕ) → eqb (balance_of a b) 2 ≡ ltb b a
+balance_of-crowded : (a b : ℕ) → is_crowded (balance_of a b) ≡ ltb b a
 balance_of-crowded a b = elim (split (ltb a b)) [
   | inl p ↦ let less : ltb b a ≡ false = le-ltb b a (omega tests) in rw (p, less)
   | inr p ↦ elim (split (eqb a b)) [
@@ -148,19 +150,19 @@ balance_of-crowded a b = elim (split (ltb a b)) [
   ]
 ]
 
-pub balance_cycle : (d : Day) (v : ℕ) → eqb (balance_in d v) 1 ≡ one_cycle d v
+pub balance_cycle : (d : Day) (v : ℕ) → is_cycle (balance_in d v) ≡ one_cycle d v
 unfolding one_cycle
 balance_cycle d v = balance_of_cycle (rocks_in d v) (count d.benches (component d v))
 
-pub balance-crowded : (d : Day) (v : ℕ) → eqb (balance_in d v) 2 ≡ crowded d v
+pub balance-crowded : (d : Day) (v : ℕ) → is_crowded (balance_in d v) ≡ crowded d v
 balance-crowded d v = balance_of-crowded (rocks_in d v) (count d.benches (component d v))
 
-pub cycles_are : (d : Day) (balance : List ℕ) → ((v : ℕ) → v < d.benches → get_or balance v 0 ≡ balance_in d v) → Cycles d balance
-cycles_are d balance is v h = ap (λ (k : ℕ). eqb k 1) (is v h) ∙ balance_cycle d v
+pub cycles_are : (d : Day) (balance : List Balance) → ((v : ℕ) → v < d.benches → get_or balance v Tree ≡ balance_in d v) → Cycles d balance
+cycles_are d balance is v h = ap is_cycle (is v h) ∙ balance_cycle d v
 
-pub crowded-bench_is : (d : Day) (benches : ℕ) (balance : List ℕ) → benches ≡ d.benches → ((v : ℕ) → v < d.benches → get_or balance v 0 ≡ balance_in d v)
-    → least benches (λ v. eqb (get_or balance v 0) 2) ≡ crowded_bench d
+pub crowded-bench_is : (d : Day) (benches : ℕ) (balance : List Balance) → benches ≡ d.benches → ((v : ℕ) → v < d.benches → get_or balance v Tree ≡ balance_in d v)
+    → least benches (λ v. is_crowded (get_or balance v Tree)) ≡ crowded_bench d
 unfolding crowded_bench
 crowded-bench_is d benches balance e is =
-    ap (λ (k : ℕ). least k (λ v. eqb (get_or balance v 0) 2)) e
-    ∙ least_cong d.benches (λ v. eqb (get_or balance v 0) 2) (crowded d) (λ v h. ap (λ (k : ℕ). eqb k 2) (is v h) ∙ balance-crowded d v)
+    ap (λ (k : ℕ). least k (λ v. is_crowded (get_or balance v Tree))) e
+    ∙ least_cong d.benches (λ v. is_crowded (get_or balance v Tree)) (crowded d) (λ v h. ap is_crowded (is v h) ∙ balance-crowded d v)

@@ -1,3 +1,4 @@
+pub mod FirstLaws
 pub mod RockLaws
 pub mod BalanceRun
 pub mod ComponentRun

@@ -15,12 +15,6 @@ use Rattle.bools.proofs.BoolLaws.{or_elim}
 use Rattle.rocks.specs.RockArrays.{lowest_end, touches_at, other_at}
 use Rattle.arrays.specs.Arrays.{lower_of}
 
-pub touches_at_low : (low high : List ℕ) (r v : ℕ) → v ≡ get_or low r 0 → true ≡ touches_at low high r v
-touches_at_low low high r v e = rw (eq-eqb v (get_or low r 0) e)
-
-pub touches_at_high : (low high : List ℕ) (r v : ℕ) → (v ≡ get_or low r 0 → ⊥) → eqb v (get_or high r 0) ≡ touches_at low high r v
-touches_at_high low high r v ne = rw (ne_eqb v (get_or low r 0) ne)
-
 pub other_at_low : (low high : List ℕ) (r v : ℕ) → v ≡ get_or low r 0 → get_or high r 0 ≡ other_at low high r v
 other_at_low low high r v e = rw (eq-eqb v (get_or low r 0) e)
 

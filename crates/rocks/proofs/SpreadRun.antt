@@ -1,6 +1,4 @@
 -- A set follows its closure under the neutral rocks, one rock after another.
---     has_end                      whether an end is in the set
---     differ-in, differ-out, join-not, join_yes    one for each way in which the functions return
 --     widen_none, widen_more       a pass over the rocks, one rock more
 --     linked_elim                  the rock that links two benches
 --     widen_keeps, widen_both, widen_inside     a pass keeps the set, brings in both ends of each neutral rock with an
@@ -10,10 +8,9 @@
 --     Spreading, spread_starts     what the passes keep, and how they begin
 --     spread_goes_on, spread_ends, spread_spent    how they go on, and how they end
 --     reach-shown                  so what spreads from one bench is what it reaches
---     balance_less, balance_same, balance_more     the three balances
-use Prim.Native.Nat.{ℕ, zero, suc, ◌+◌, ◌-◌, ◌≤◌, ◌<◌}
+use Prim.Native.Nat.{ℕ, zero, suc, ◌+◌, ◌≤◌, ◌<◌}
 use mathlib.Core.Path.{◌≡◌, refl, sym, ap, ap₂, subst, ◌∙◌}
-use mathlib.Core.Bool.{Bool, true, false, not, ◌&&◌, ◌||◌}
+use mathlib.Core.Bool.{Bool, true, false, ◌&&◌, ◌||◌}
 use mathlib.Core.Logic.{◌⊎◌, inl, inr, ⊎_elim, ◌≢◌}
 use mathlib.Core.List.{List}
 use native.Mathlib.Omega.{arith}
@@ -21,8 +18,7 @@ use native.Mathlib.Numerals.{add-one}
 use lib.ListN.{get_or}
 use lib.Dec.{eqb, ltb}
 use borrow.Author.Tests.{eq-eqb, ne_eqb, eqb-true, lt-ltb, le-ltb, ltb-true}
-use Rattle.bools.proofs.BoolLaws.{split, clash, and_intro, and_left, and_right, and-false_left, and-false_right, or_left, or_right, or_elim, bool_ext, or_unit}
-use Rattle.bools.proofs.BoolLaws.{or_assoc}
+use Rattle.bools.proofs.BoolLaws.{split, clash, and_intro, and_left, and_right, and-false_left, and-false_right, or_left, or_right, or_elim, bool_ext}
 use Rattle.bools.proofs.OrderLaws.{eq-or-ne, last_or_below, lt-or-le}
 use Rattle.sums.proofs.SearchLaws.{any_intro, any_elim}
 use Rattle.bits.specs.Bits.{is_set}
@@ -30,37 +26,15 @@ use Rattle.bits.proofs.SetBits.{is_set-past, is_set-zero}
 use Rattle.closure.specs.Closure.{iterate, grow, closure, reach}
 use Rattle.closure.proofs.ClosureLaws.{grow_elim, closure-contains, closure-closed, closure-least, closure_cong}
 use Rattle.rocks.specs.RockArrays.{touches_at, other_at}
-use Rattle.rocks.specs.SpreadArrays.{neutral_rock, differ, crosses_at, join_of, widen_of, links_at, linked_at, balance_of, Within, Shows}
+use Rattle.rocks.specs.SpreadArrays.{neutral_rock, differ, crosses_at, join_of, widen_of, links_at, linked_at, Within, Shows}
 use Rattle.rocks.proofs.RockLaws.{other_at_low, other_at_high}
 
-pub has_end : (set : ℕ) {t : Bool} {u v : ℕ} → t ≡ is_set 64 set u → u ≡ v → t ≡ is_set 64 set v
-has_end set {t} {u} {v} e at = e ∙ ap (is_set 64 set) at
-
 -- ── whether exactly one of two holds ──
-
-pub differ-in : {a b x y : Bool} → x ≡ a → x ≡ true → y ≡ b → not y ≡ differ a b
-differ-in {a} {b} {x} {y} e p q = subst (λ (k : Bool). not y ≡ differ k b) (sym p ∙ e) (ap not q)
-
-pub differ-out : {a b x y : Bool} → x ≡ a → x ≡ false → y ≡ b → y ≡ differ a b
-differ-out {a} {b} {x} {y} e p q = subst (λ (k : Bool). y ≡ differ k b) (sym p ∙ e) q
 
 differ-one : (a b : Bool) → differ a b ≡ true → ((a ≡ true) × (b ≡ false)) ⊎ ((a ≡ false) × (b ≡ true))
 differ-one true true e = clash e refl
 differ-one true false e = inl (refl, refl)
 differ-one false b e = inr (refl, e)
-
--- ── one rock ──
-
-module _ (low high dir : List ℕ) (S : ℕ → Bool) (r : ℕ) where
-  pub join-not : {t : Bool} → t ≡ crosses_at low high dir S r → t ≡ false → (v : ℕ) → S v ≡ join_of low high dir S r v
-  join-not e p v = sym (or_unit (S v) (and-false_left (touches_at low high r v) (sym e ∙ p)))
-
-  pub join_yes : {t x y : Bool} {l h : ℕ} → t ≡ crosses_at low high dir S r → t ≡ true → (v : ℕ)
-      → l ≡ get_or low r 0 → x ≡ (S v || eqb v l) → h ≡ get_or high r 0 → y ≡ (x || eqb v h) → y ≡ join_of low high dir S r v
-  join_yes {t} {x} {y} {l} {h} e p v le first he second =
-      second ∙ ap₂ (λ (a : Bool) (k : ℕ). a || eqb v k) (first ∙ ap (λ (k : ℕ). S v || eqb v k) le) he
-      ∙ or_assoc (S v) (eqb v (get_or low r 0)) (eqb v (get_or high r 0))
-      ∙ ap (λ (a : Bool). S v || (a && touches_at low high r v)) (sym p ∙ e)
 
 -- ── one pass ──
 
@@ -232,29 +206,25 @@ module _ (m rocks : ℕ) (low high dir : List ℕ) (ends : Within m rocks low hi
             (λ p. has v (ltb-true v m (and_left (ltb v m) (whole v) p)) (and_right (ltb v m) (whole v) p));
       }
 
-  -- The set is in the closure, and has what as many rounds of growth give as there were passes; k passes are left.
-  pub record Spreading (k set : ℕ) : Type 0 where
+  -- The set is in the closure, and has what as many rounds of growth give as there were passes.
+  pub record Spreading (passes set : ℕ) : Type 0 where
     pub room : m ≤ 64
     pub inside : Inside (is_set 64 set)
     pub holds : (v : ℕ) → v < m → S v ≡ true → is_set 64 set v ≡ true
-    pub passes : ℕ
-    pub all_passes : passes + k ≡ m
     pub grown : (v : ℕ) → v < m → iterate passes (grow m (linked_at rocks low high dir)) S v ≡ true → is_set 64 set v ≡ true
 
-  pub spread_starts : (k set : ℕ) → k ≡ m → Shows m S set → Spreading k set
-  spread_starts k set e X =
+  pub spread_starts : (set : ℕ) → Shows m S set → Spreading 0 set
+  spread_starts set X =
       let has : (v : ℕ) → v < m → S v ≡ true → is_set 64 set v ≡ true = λ v l p. X.entries v ∙ and_intro (lt-ltb v m l) p in
       record {
         room = X.room;
         inside = λ v p. let both : (ltb v m && S v) ≡ true = sym (X.entries v) ∙ p in
             (ltb-true v m (and_left (ltb v m) (S v) both), closure-contains m (linked_at rocks low high dir) S v (and_right (ltb v m) (S v) both));
         holds = has;
-        passes = 0;
-        all_passes = omega arith;
         grown = has;
       }
 
-  module _ (k set wider : ℕ) (X : Spreading k set)
+  module _ (passes set wider : ℕ) (X : Spreading passes set)
       (pass : Within 64 rocks low high → (v : ℕ) → v < 64 → is_set 64 wider v ≡ widen_of low high dir (is_set 64 set) rocks v) where
     in_room : Within 64 rocks low high
     in_room r h = (omega (arith, (ends r h).0, X.room), omega (arith, (ends r h).1, X.room))
@@ -277,15 +247,13 @@ module _ (m rocks : ℕ) (low high dir : List ℕ) (ends : Within m rocks low hi
         let (r, h, n, either) = linked_elim rocks low high dir u v t in
         is_wider v l ∙ widen_both low high dir (is_set 64 set) rocks r u v h n either p
 
-    pub spread_goes_on : 0 < k → Spreading (k - 1) wider
-    spread_goes_on more =
+    pub spread_goes_on : Spreading (passes + 1) wider
+    spread_goes_on =
         record {
           room = X.room;
           inside = pass_inside;
           holds = λ v l p. pass_keeps v l (X.holds v l p);
-          passes = suc X.passes;
-          all_passes = omega (arith, X.all_passes);
-          grown = λ v l p. elim (grow_elim m (linked_at rocks low high dir) (iterate X.passes (grow m (linked_at rocks low high dir)) S) v p) [
+          grown = λ v l p. elim (grow_elim m (linked_at rocks low high dir) (iterate passes (grow m (linked_at rocks low high dir)) S) v (rw add-one at p)) [
             | inl q ↦ pass_keeps v l (X.grown v l q)
             | inr (u, h, q, t) ↦ pass_links u v l (X.grown u h q) t
           ];
@@ -297,10 +265,9 @@ module _ (m rocks : ℕ) (low high dir : List ℕ) (ends : Within m rocks low hi
         (closure-least m (linked_at rocks low high dir) S (λ u. is_set 64 set u ≡ true) X.holds
         (λ u w hu hw q t. ap (λ (x : ℕ). is_set 64 x w) (sym same) ∙ pass_links u w hw q t))
 
-  pub spread_spent : {k set : ℕ} → Spreading k set → k ≤ 0 → Shows m whole set
+  pub spread_spent : {passes set : ℕ} → Spreading passes set → m ≡ passes → Shows m whole set
   unfolding closure
-  spread_spent {k} {set} X none =
-      let all : m ≡ X.passes = omega (arith, X.all_passes) in
+  spread_spent {passes} {set} X all =
       whole-shown set X.room X.inside
       (λ v l p. X.grown v l (subst (λ (i : ℕ). iterate i (grow m (linked_at rocks low high dir)) S v ≡ true) all p))
 
@@ -317,14 +284,3 @@ reach-shown m k rocks low high dir R e few ends same v one set hv alone spreads 
     shows_cong k (closure k (linked_at rocks low high dir) first) (closure k R first) set
     (closure_cong k (linked_at rocks low high dir) R first first same (λ u h. refl))
     (subst (λ (i : ℕ). Shows i (closure i (linked_at rocks low high dir) first) set) e found)
-
--- ── the balance of rocks and benches ──
-
-pub balance_less : {a s : ℕ} (x y : ℕ) → a ≡ x → s ≡ y → a < s → 0 ≡ balance_of x y
-balance_less x y p q l = rw (lt-ltb x y (omega arith))
-
-pub balance_same : {a s : ℕ} (x y : ℕ) → a ≡ x → s ≡ y → s ≤ a → a ≡ s → 1 ≡ balance_of x y
-balance_same x y p q l e = rw (le-ltb x y (omega arith), eq-eqb x y (omega arith))
-
-pub balance_more : {a s : ℕ} (x y : ℕ) → a ≡ x → s ≡ y → s ≤ a → a ≢ s → 2 ≡ balance_of x y
-balance_more x y p q l ne = rw (le-ltb x y (omega arith), ne_eqb x y (omega arith))

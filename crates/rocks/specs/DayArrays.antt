@@ -4,15 +4,17 @@
 --     balance_in d v            the balance of the component of v
 --     BalancesTo d v xs         entry u is the balance of u for u below v, and else that or unknown
 --     Cycles d balance          the benches whose component has one cycle
-use Rattle.std.specs.Prelude.{ℕ, ◌≤◌, ◌<◌, ◌≡◌, List, length, get_or, eqb}
+use Rattle.std.specs.Prelude.{ℕ, ◌≤◌, ◌<◌, ◌≡◌, List, length, get_or}
 use Rattle.sums.specs.Sum.{count}
 use Rattle.sums.specs.Members.{members}
 use Rattle.rocks.specs.declared.rocks.Limits.{Limits}
+use Rattle.rocks.specs.declared.balancing.Balance.{Balance}
+use Rattle.rocks.specs.declared.balancing.Balance.TheVariants.{Tree, Unknown}
 use Rattle.day.specs.Day.{Day}
 use Rattle.algorithm.specs.Rocks.{rock, lowest, highest}
 use Rattle.algorithm.specs.Start.{component, rocks_in, one_cycle}
 use Rattle.algorithm.specs.SoundDay.{SoundDay}
-use Rattle.rocks.specs.SpreadArrays.{cycle_balance, unknown_balance, balance_of}
+use Rattle.rocks.specs.SpreadArrays.{is_cycle, balance_of}
 
 -- Rock r is the one with the r-th lowest job.
 abbrev pub day_rocks : Day → ℕ
@@ -32,15 +34,15 @@ pub record DayRocks (d : Day) (n : Limits) (low high : List ℕ) : Type 0 where
   pub highs : (r : ℕ) → r < day_rocks d → get_or high r 0 ≡ highest d (day_rock d r)
 
 -- Rocks against benches, in the component of v.
-abbrev pub balance_in : Day → ℕ → ℕ
+abbrev pub balance_in : Day → ℕ → Balance
 balance_in d v = balance_of (rocks_in d v) (count d.benches (component d v))
 
 -- Those below v are known.
-pub record BalancesTo (d : Day) (v : ℕ) (xs : List ℕ) : Type 0 where
+pub record BalancesTo (d : Day) (v : ℕ) (xs : List Balance) : Type 0 where
   pub room : d.benches ≤ length xs
-  pub known : (u : ℕ) → u < v → u < d.benches → get_or xs u 0 ≡ balance_in d u
-  pub others : (u : ℕ) → u < d.benches → (get_or xs u 0 ≡ unknown_balance → ⊥) → get_or xs u 0 ≡ balance_in d u
+  pub known : (u : ℕ) → u < v → u < d.benches → get_or xs u Tree ≡ balance_in d u
+  pub others : (u : ℕ) → u < d.benches → (get_or xs u Tree ≡ Unknown → ⊥) → get_or xs u Tree ≡ balance_in d u
 
 -- Entry v says where the component of v has one cycle.
-abbrev pub Cycles : Day → List ℕ → Type 0
-Cycles d balance = (v : ℕ) → v < d.benches → eqb (get_or balance v 0) cycle_balance ≡ one_cycle d v
+abbrev pub Cycles : Day → List Balance → Type 0
+Cycles d balance = (v : ℕ) → v < d.benches → is_cycle (get_or balance v Tree) ≡ one_cycle d v

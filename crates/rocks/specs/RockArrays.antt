@@ -1,11 +1,17 @@
 -- Tests at a rock, in arrays. Rock r is the one with the r-th lowest job; dir has 0 for a neutral rock, and else the
 -- bench that the rock is directed to, plus 1.
+--     first n f                      the least number below n of which f holds, and none where it holds of none
 --     touches_at, other_at           an end of rock r, and its other end
 --     within_at                      the round of a bench is one of the exploration
 --     father_at, child_at            father and child, at an end of rock r
 --     lowest_end m k low high P      the lowest end of the first k rocks that P holds of, and m where there is none
-use Rattle.std.specs.Prelude.{ℕ, zero, suc, Bool, cond, ◌&&◌, ◌||◌, List, get_or, eqb, leb}
+use Rattle.std.specs.Prelude.{ℕ, zero, suc, Bool, cond, ◌&&◌, ◌||◌, List, get_or, eqb, leb, ltb, Option, Some, None}
+use Rattle.sums.specs.Search.{least}
 use Rattle.arrays.specs.Arrays.{plus_of, lower_of}
+
+-- The first number of which f holds.
+unfoldable pub first : ℕ → (ℕ → Bool) → Option ℕ
+first n f = cond (ltb (least n f) n) (Some (least n f)) None
 
 unfoldable pub lowest_end : ℕ → ℕ → List ℕ → List ℕ → (ℕ → ℕ → Bool) → ℕ
 lowest_end m zero low high P = m

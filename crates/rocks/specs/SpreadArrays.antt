@@ -6,13 +6,16 @@
 --     crosses_at low high dir S r  rock r is neutral, with one end in the set and one outside
 --     join_of, widen_of            the set after one rock, and after the first k rocks
 --     links_at, linked_at         two benches joined by rock r, which is neutral; by some neutral rock
---     tree_balance, cycle_balance, crowded_balance, unknown_balance  the four numbers of a balance
+--     is_cycle, is_crowded        the balance is that of one cycle, of a crowded set
 --     balance_of rocks size       a tree where there are fewer rocks than benches, a cycle where as many, else crowded
 --     Within m k low high         the ends of the first k rocks are below m
 --     Shows m S set               the number has the benches below m that are in S, and no other
-use Rattle.std.specs.Prelude.{ℕ, zero, suc, ◌≤◌, ◌<◌, ◌≡◌, Bool, not, cond, ◌&&◌, ◌||◌, List, get_or, eqb, ltb}
+use Rattle.std.specs.Prelude.{ℕ, zero, suc, ◌≤◌, ◌<◌, ◌≡◌, eqb, ltb, Bool, true, false, not, cond, ◌&&◌, ◌||◌}
+use Rattle.std.specs.Prelude.{List, get_or}
 use Rattle.sums.specs.Search.{any}
 use Rattle.bits.specs.Bits.{is_set}
+use Rattle.rocks.specs.declared.balancing.Balance.{Balance}
+use Rattle.rocks.specs.declared.balancing.Balance.TheVariants.{Tree, OneCycle, Crowded, Unknown}
 use Rattle.rocks.specs.RockArrays.{touches_at, other_at}
 
 abbrev pub neutral_rock : List ℕ → ℕ → Bool
@@ -46,21 +49,20 @@ linked_at rocks low high dir u v = any rocks (links_at low high dir u v)
 
 -- ── the balance of rocks and benches ──
 
-abbrev pub tree_balance : ℕ
-tree_balance = 0
+abbrev pub is_cycle : Balance → Bool
+is_cycle Tree = false
+is_cycle OneCycle = true
+is_cycle Crowded = false
+is_cycle Unknown = false
 
-abbrev pub cycle_balance : ℕ
-cycle_balance = 1
+abbrev pub is_crowded : Balance → Bool
+is_crowded Tree = false
+is_crowded OneCycle = false
+is_crowded Crowded = true
+is_crowded Unknown = false
 
-abbrev pub crowded_balance : ℕ
-crowded_balance = 2
-
--- Of a bench that was not looked at yet.
-abbrev pub unknown_balance : ℕ
-unknown_balance = 3
-
-abbrev pub balance_of : ℕ → ℕ → ℕ
-balance_of rocks size = cond (ltb rocks size) tree_balance (cond (eqb rocks size) cycle_balance crowded_balance)
+abbrev pub balance_of : ℕ → ℕ → Balance
+balance_of rocks size = cond (ltb rocks size) Tree (cond (eqb rocks size) OneCycle Crowded)
 
 -- ── arrays and numbers ──
 

@@ -13,17 +13,14 @@ pub struct Limits {
 }
 
 // Whether v is an end of rock r.
-pub fn touches<'a>(low: &'a [usize], high: &'a [usize], r: usize, v: usize) -> bool
+pub fn touches(low: &[usize], high: &[usize], r: usize, v: usize) -> bool
     ensures { result ≡ touches_at low.now high.now r v }
 {
-    if v == arrays::at(low, r) {
-        return true;
-    }
-    v == arrays::at(high, r)
+    v == arrays::at(low, r) || v == arrays::at(high, r)
 }
 
 // The other end.
-pub fn other<'a>(low: &'a [usize], high: &'a [usize], r: usize, v: usize) -> usize
+pub fn other(low: &[usize], high: &[usize], r: usize, v: usize) -> usize
     ensures { result ≡ other_at low.now high.now r v }
 {
     let lo = arrays::at(low, r);

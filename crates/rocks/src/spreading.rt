@@ -1,46 +1,26 @@
 // Sets of benches that neutral rocks join, and their balances.
 ghost use Rattle.std.specs.Prelude.{ℕ, ◌<◌, ◌≡◌, Bool};
 ghost use Rattle.sums.specs.Sum.{count};
-ghost use Rattle.sums.specs.Search.{least};
 ghost use Rattle.closure.specs.Closure.{closure};
 ghost use Rattle.bits.specs.Bits.{is_set};
 ghost use Rattle.sets.specs.Sets.{choices_of};
+ghost use Rattle.rocks.specs.RockArrays.{first};
 ghost use Rattle.rocks.specs.SpreadArrays.{inside_at, crosses_at, join_of, widen_of};
 ghost use Rattle.rocks.specs.SpreadArrays.{linked_at, balance_of, Within, Shows};
 
+use crate::balancing::Balance;
 use crate::rocks::Limits;
 
-// The balance of a set of benches: a tree has fewer rocks than benches, one cycle as many, a crowded set more.
-pub const TREE: usize = 0;
-
-pub const ONE_CYCLE: usize = 1;
-
-pub const CROWDED: usize = 2;
-
-// And of a bench that was not looked at yet.
-pub const UNKNOWN: usize = 3;
-
 // Whether rock r is neutral with one end in the set and one outside.
-fn crosses<'a>(
-    low: &'a [usize],
-    high: &'a [usize],
-    dir: &'a [usize],
-    chosen: usize,
-    r: usize,
-) -> bool
+fn crosses(low: &[usize], high: &[usize], dir: &[usize], chosen: usize, r: usize) -> bool
     ensures { result ≡ crosses_at low.now high.now dir.now (is_set 64 chosen) r }
 {
-    if arrays::at(dir, r) != 0 {
-        return false;
-    }
-    if sets::has(chosen, arrays::at(low, r)) {
-        return !sets::has(chosen, arrays::at(high, r));
-    }
-    sets::has(chosen, arrays::at(high, r))
+    arrays::at(dir, r) == 0
+        && sets::has(chosen, arrays::at(low, r)) != sets::has(chosen, arrays::at(high, r))
 }
 
 // Both ends of rock r join the set where it crosses.
-fn join<'a>(low: &'a [usize], high: &'a [usize], dir: &'a [usize], chosen: usize, r: usize) -> usize
+fn join(low: &[usize], high: &[usize], dir: &[usize], chosen: usize, r: usize) -> usize
     ensures { (v : ℕ) → v < 64 → is_set 64 result v
         ≡ join_of low.now high.now dir.now (is_set 64 chosen) r v }
 {
@@ -52,34 +32,20 @@ fn join<'a>(low: &'a [usize], high: &'a [usize], dir: &'a [usize], chosen: usize
 }
 
 // One rock after the other joins.
-fn widen<'a>(
-    n: Limits,
-    low: &'a [usize],
-    high: &'a [usize],
-    dir: &'a [usize],
-    chosen: usize,
-) -> usize
+fn widen(n: Limits, low: &[usize], high: &[usize], dir: &[usize], chosen: usize) -> usize
     ensures { Within 64 n.rocks low.now high.now → (v : ℕ) → v < 64
         → is_set 64 result v
         ≡ widen_of low.now high.now dir.now (is_set 64 chosen) n.rocks v }
 {
     let mut set = chosen;
-    let mut r = 0;
-    while r < n.rocks {
+    for r in 0..n.rocks {
         set = join(low, high, dir, set, r);
-        r += 1;
     }
     set
 }
 
 // The closure of the set under the neutral rocks.
-pub fn spread<'a>(
-    n: Limits,
-    low: &'a [usize],
-    high: &'a [usize],
-    dir: &'a [usize],
-    chosen: usize,
-) -> usize
+pub fn spread(n: Limits, low: &[usize], high: &[usize], dir: &[usize], chosen: usize) -> usize
     ensures { (S : ℕ → Bool) → Within n.benches n.rocks low.now high.now
         → Shows n.benches S chosen
         → Shows n.benches
@@ -87,57 +53,45 @@ pub fn spread<'a>(
         result }
 {
     let mut set = chosen;
-    let mut turns = n.benches;
-    while 0 < turns {
+    for _ in 0..n.benches {
         let wider = widen(n, low, high, dir, set);
         if wider == set {
             return set;
         }
         set = wider;
-        turns -= 1;
     }
     set
 }
 
 // Whether rock r is neutral with its lower end in the set.
-fn inside<'a>(low: &'a [usize], dir: &'a [usize], chosen: usize, r: usize) -> bool
+fn inside(low: &[usize], dir: &[usize], chosen: usize, r: usize) -> bool
     ensures { result ≡ inside_at low.now dir.now (is_set 64 chosen) r }
 {
-    if arrays::at(dir, r) != 0 {
-        return false;
-    }
-    sets::has(chosen, arrays::at(low, r))
+    arrays::at(dir, r) == 0 && sets::has(chosen, arrays::at(low, r))
 }
 
 // How many rocks are inside.
-fn rocks_in<'a>(n: Limits, low: &'a [usize], dir: &'a [usize], chosen: usize) -> usize
+fn rocks_in(n: Limits, low: &[usize], dir: &[usize], chosen: usize) -> usize
     ensures { result ≡ count n.rocks (inside_at low.now dir.now (is_set 64 chosen)) }
 {
     let mut k = 0;
-    let mut r = 0;
-    while r < n.rocks {
-        k = arrays::more(k, inside(low, dir, chosen, r));
-        r += 1;
+    for r in 0..n.rocks {
+        if inside(low, dir, chosen, r) {
+            k += 1;
+        }
     }
     k
 }
 
-// The first rock that is inside.
-pub fn first_inside<'a>(n: Limits, low: &'a [usize], dir: &'a [usize], chosen: usize) -> usize
-    ensures { result ≡ least n.rocks (inside_at low.now dir.now (is_set 64 chosen)) }
+// The first rock that is inside, if there is one.
+pub fn first_inside(n: Limits, low: &[usize], dir: &[usize], chosen: usize) -> Option<usize>
+    ensures { result ≡ first n.rocks (inside_at low.now dir.now (is_set 64 chosen)) }
 {
-    let mut r = 0;
-    while r < n.rocks {
-        if inside(low, dir, chosen, r) {
-            return r;
-        }
-        r += 1;
-    }
-    r
+    (0..n.rocks).find(|&r| inside(low, dir, chosen, r))
 }
 
-// The balance of the set: is_tree, one_cycle or crowded.
-pub fn balance<'a>(n: Limits, low: &'a [usize], dir: &'a [usize], chosen: usize) -> usize
+// The balance of the set.
+pub fn set_balance(n: Limits, low: &[usize], dir: &[usize], chosen: usize) -> Balance
     ensures { result
         ≡ balance_of (count n.rocks (inside_at low.now dir.now (is_set 64 chosen)))
         (choices_of chosen) }
@@ -145,10 +99,10 @@ pub fn balance<'a>(n: Limits, low: &'a [usize], dir: &'a [usize], chosen: usize)
     let rocks = rocks_in(n, low, dir, chosen);
     let size = sets::choices(chosen);
     if rocks < size {
-        return TREE;
+        Balance::Tree
+    } else if rocks == size {
+        Balance::OneCycle
+    } else {
+        Balance::Crowded
     }
-    if rocks == size {
-        return ONE_CYCLE;
-    }
-    CROWDED
 }

@@ -21,6 +21,7 @@ use Rattle.algorithm.specs.Start.{State}
 use Rattle.algorithm.specs.SoundDay.{SoundDay, Uncrowded}
 use Rattle.algorithm.specs.Run.{board_of, own_minutes}
 use Rattle.rocks.specs.BoardArrays.{rocks_of, rock_at, Rocks, Owned, Pebbles}
+use Rattle.rock_graph.specs.declared.lent.Graph.{Graph}
 use Rattle.rock_graph.specs.Graph.{lows, highs, weights as weights_in, Tabled}
 use Rattle.loads.specs.Loads.{amount_on}
 use Rattle.run.specs.Held.{is_left, left_job, Ready, Held}
@@ -143,7 +144,7 @@ module _ (d : Day) (n : Limits) (low high weights amount : List ℕ) (pebbles : 
             (λ j h. rw (H.lefts j h, H.places j h, R.amounts j h))
 
 -- The table that is made of the rocks holds them too.
-pub ready_table : (d : Day) (n : Limits) (low high weights amount : List ℕ) (pebbles : List Bool) (allowed graph : List ℕ)
+pub ready_table : (d : Day) (n : Limits) (low high weights amount : List ℕ) (pebbles : List Bool) (allowed : List ℕ) (graph : Graph)
     → Ready d n low high weights amount pebbles allowed → Tabled n low high weights graph
     → Ready d n (lows graph) (highs graph) (weights_in graph) amount pebbles allowed
 ready_table d n low high weights amount pebbles allowed graph R T =

@@ -2,12 +2,13 @@
 --     start-below               every job starts on a bench of the day
 --     placed_copied             a copy of the places of all jobs shows the same state
 --     chosen                    the table of the choices
-use Prim.Native.Nat.{ℕ, ◌≤◌, ◌<◌}
+use Prim.Native.Nat.{ℕ, ◌%◌, ◌≤◌, ◌<◌}
 use mathlib.Core.Path.{◌≡◌, sym, ap, subst, ◌∙◌}
 use mathlib.Core.Bool.{Bool, false, cond}
 use mathlib.Core.Logic.{inl, inr}
 use mathlib.Core.List.{List}
 use native.Mathlib.Omega.{arith}
+use native.Mathlib.Nat.{mod-eq_of_lt}
 use lib.ListN.{length, get_or, replicate, length-replicate}
 use Rattle.bools.proofs.BoolLaws.{split}
 use Rattle.day.specs.Day.{Day}
@@ -34,12 +35,15 @@ start-below d sound j h =
       ]
     ]
 
-module _ (jobs : ℕ) (place place₀ : List ℕ) (room : jobs ≤ length place₀) {place' : List ℕ} (e : place' ≡ filled jobs (λ i. get_or place i 0) place₀) where
+module _ (jobs : ℕ) (place place₀ : List ℕ) (room : jobs ≤ length place₀)
+    (small : (j : ℕ) → j < jobs → get_or place j 0 < 256) {place' : List ℕ}
+    (e : place' ≡ filled jobs (λ i. get_or place i 0 % 256) place₀) where
   copied_room : length place' ≡ length place₀
-  copied_room = ap length e ∙ length-filled (λ i. get_or place i 0) jobs place₀
+  copied_room = ap length e ∙ length-filled (λ i. get_or place i 0 % 256) jobs place₀
 
   copied_entry : (j : ℕ) → j < jobs → get_or place' j 0 ≡ get_or place j 0
-  copied_entry j h = ap (λ (xs : List ℕ). get_or xs j 0) e ∙ get_or-filled (λ i. get_or place i 0) jobs place₀ j 0 h (omega arith)
+  copied_entry j h = ap (λ (xs : List ℕ). get_or xs j 0) e
+      ∙ get_or-filled (λ i. get_or place i 0 % 256) jobs place₀ j 0 h (omega arith) ∙ mod-eq_of_lt (small j h)
 
   pub placed_copied : (d : Day) (s : State) (left : List Bool) → jobs ≡ d.jobs → Placed d s left place → Placed d s left place'
   placed_copied d s left all P =

@@ -23,6 +23,7 @@ use Rattle.algorithm.specs.Run.{board_of}
 use Rattle.algorithm.proofs.RockGraph.{uncrowded_test}
 use Rattle.loads.specs.Loads.{amount_on}
 use Rattle.rocks.specs.declared.rocks.Limits.{Limits}
+use Rattle.rocks.specs.declared.balancing.Balance.{Balance}
 use Rattle.rocks.specs.BoardArrays.{Owned, Pebbles}
 use Rattle.start.specs.StartArrays.{Fields, Placed}
 use Rattle.run.specs.Held.{is_left, left_job, Begins, Ready, Held}
@@ -41,7 +42,8 @@ begins_light d jobs minutes allowed F v =
     let all-jobs : sum d.jobs (weight d) ≤ d.jobs * (381 * 1048576) = sum_bound d.jobs (381 * 1048576) (weight d) each in
     omega (arith, all-jobs, mul-le-mul F.bounded.few_jobs (le_refl (381 * 1048576)), mul-le-mul scale_small booked-small)
 
-module _ (d : Day) (n : Limits) (minutes allowed amount job low high balance burden : List ℕ) (rocks pebbles : List Bool)
+module _ (d : Day) (n : Limits) (minutes allowed amount job low high : List ℕ) (balance : List Balance)
+    (burden : List ℕ) (rocks pebbles : List Bool)
     (B : Begins d n minutes allowed amount job low high balance burden rocks pebbles) where
   uncrowded : Uncrowded d
   uncrowded = uncrowded_test d B.sparse_day.sparse

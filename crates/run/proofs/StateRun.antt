@@ -6,7 +6,7 @@
 --     Turning                         what the loop of the turns keeps; how it goes on, and how it ends
 use Prim.Native.Nat.{ℕ, suc, ◌+◌, ◌-◌, ◌*◌, ◌%◌, ◌≤◌, ◌<◌, ◌^◌}
 use mathlib.Core.Path.{◌≡◌, refl, sym, ap, subst, ◌∙◌}
-use mathlib.Core.Bool.{Bool, true, false, cond, ◌&&◌}
+use mathlib.Core.Bool.{Bool, true, false, ◌&&◌}
 use mathlib.Core.Logic.{inl, inr, ◌≢◌}
 use mathlib.Core.List.{List}
 use native.Mathlib.Omega.{arith}
@@ -19,7 +19,7 @@ use Rattle.bools.proofs.BoolLaws.{split, clash, and_intro, and_left, and_right, 
 use Rattle.bools.proofs.OrderLaws.{eq-or-ne}
 use Rattle.sums.specs.Sum.{count}
 use Rattle.sums.specs.Search.{any}
-use Rattle.sums.proofs.SearchLaws.{any_intro, any_elim, any_false, any-least, least-holds, least-le}
+use Rattle.sums.proofs.SearchLaws.{any_intro, any_elim, any_false, any-least, least-holds}
 use Rattle.sums.proofs.CountLaws.{count-le}
 use Rattle.bits.specs.Bits.{is_set}
 use Rattle.bits.proofs.SetBits.{is_set-zero, any-is_set}
@@ -35,7 +35,12 @@ use Rattle.algorithm.specs.States.{Reached, by_move}
 use Rattle.arrays.specs.Arrays.{plus_of}
 use Rattle.rocks.specs.BoardArrays.{Owned, Rounds}
 use Rattle.explore.specs.ExploreArrays.{Reaches}
-use Rattle.push.specs.PushArrays.{Receivers, Choices}
+use Rattle.push.specs.PushArrays.{Receivers, Choices, first_move}
+use Rattle.push.specs.declared.push.Move.{Move}
+use Rattle.push.proofs.PushRun.{move_none}
+use Rattle.std.specs.Prelude.{Option, Some, None}
+use Rattle.std.proofs.lemmas.Option.{none-some, same_Some}
+use Rattle.rock_graph.specs.declared.lent.Graph.{Graph}
 use Rattle.rock_graph.specs.Graph.{lows, highs, weights, Mapped, RockGraph}
 use Rattle.push.specs.KeptArrays.{shifted_of, ReachShifted, Chosen}
 use Rattle.rocks.specs.Shown.{Shown, ShowsActive}
@@ -67,7 +72,7 @@ module _ (b : Board) (x : Explored) (few : b.benches ≤ 64) (set : ℕ) (A : Sh
 -- ── an exploration, and what a push finds ──
 
 -- The rocks of the day, as a table.
-module _ (d : Day) (n : Limits) (graph amount : List ℕ) (pebbles : List Bool) (allowed : List ℕ)
+module _ (d : Day) (n : Limits) (graph : Graph) (amount : List ℕ) (pebbles : List Bool) (allowed : List ℕ)
     (R : Ready d n (lows graph) (highs graph) (weights graph) amount pebbles allowed) (M : Mapped n graph) where
   held_graph : (m : ℕ) (s : State) (place : List ℕ) → Held d m s (start d).left place → RockGraph (board_of d s) n graph
   held_graph m s place H =
@@ -100,30 +105,23 @@ module _ (d : Day) (n : Limits) (graph amount : List ℕ) (pebbles : List Bool) 
         record { shown = X.0; active = X.1; active_fits = fits },
       )
 
-  -- The first pair, from what the two functions of the search promise.
+  -- The first move, from what the two functions of the search promise.
   pub push_found_at : (m : ℕ) (s : State) (kept : Kept) (place own reach dir load joined level : List ℕ)
-      → Holds d m s kept place own reach → Explores d s kept dir load joined level → (choice : List ℕ) → Chosen
-      n.jobs pebbles allowed choice
-      → (receivers : List ℕ) {job bench : ℕ}
-      → (RockGraph (board_of d s) n graph → Owned (board_of d s) own → Shown (board_of d s)
-      (explored d s) dir load joined level
+      → Holds d m s kept place own reach → Explores d s kept dir load joined level
+      → (choice : List ℕ) → Chosen n.jobs pebbles allowed choice → (receivers : List ℕ) {found : Option Move}
+      → (RockGraph (board_of d s) n graph → Owned (board_of d s) own
+      → Shown (board_of d s) (explored d s) dir load joined level
       → replicate {A = ℕ} 66 0 ≡ replicate {A = ℕ} 66 0 → Receivers (board_of d s) (explored d s) receivers)
-      → ((graph' : List ℕ) → RockGraph (board_of d s) n graph' → Choices (board_of d s) choice place
+      → (RockGraph (board_of d s) n graph → Choices (board_of d s) choice place
       → Rounds (board_of d s) (explored d s).level level → Receivers (board_of d s) (explored d s) receivers
-      → (job ≡ push_job (board_of d s) (explored d s))
-      × (bench ≡ cond (ltb (push_job (board_of d s) (explored d s)) d.jobs) (push_bench (board_of d s) (explored d s)) 0))
-      → (job ≡ push_job (board_of d s) (explored d s)) × (job < d.jobs → bench ≡ push_bench (board_of d s) (explored d s))
+      → found ≡ first_move (board_of d s) (explored d s))
+      → found ≡ first_move (board_of d s) (explored d s)
   push_found_at m s kept place own reach dir load joined level H X choice C receivers receive find =
       let G = held_graph m s place H.held in
-      let found = find graph G (held_choices d n (lows graph) (highs graph)
-      (weights graph) amount pebbles allowed R m s (start d).left place H.held choice C)
-      X.shown.level (receive G H.owned X.shown refl) in (
-        found.0,
-        λ h.
-            found.1
-            ∙ ap (λ (t : Bool). cond t (push_bench (board_of d s) (explored d s)) 0)
-            (lt-ltb (push_job (board_of d s) (explored d s)) d.jobs (omega (arith, found.0, h))),
-      )
+      find G
+      (held_choices d n (lows graph) (highs graph) (weights graph) amount pebbles allowed R m s (start d).left place H.held
+      choice C)
+      X.shown.level (receive G H.owned X.shown refl)
 
 module _ (d : Day) (n : Limits) (low high weights amount : List ℕ) (pebbles : List Bool) (allowed : List ℕ)
     (R : Ready d n low high weights amount pebbles allowed) where
@@ -146,13 +144,13 @@ module _ (d : Day) (n : Limits) (low high weights amount : List ℕ) (pebbles : 
   pub push_moves : (choice : List ℕ) → Chosen n.jobs pebbles allowed choice
       → (m : ℕ) (s : State) (before after : Kept) (place own reach place' own' reach' : List ℕ)
       → Holds d m s before place own reach
-      → (job bench : ℕ) → job ≡ push_job (board_of d s) (explored d s)
-      → (job < d.jobs → bench ≡ push_bench (board_of d s) (explored d s)) → job < n.jobs
+      → (job bench : ℕ) → push_job (board_of d s) (explored d s) < d.jobs
+      → job ≡ push_job (board_of d s) (explored d s) → bench ≡ push_bench (board_of d s) (explored d s)
       → place' ≡ set place job (bench % 256) → after.moves ≡ plus_of before.moves 1
       → {u : ℕ} → u ≡ get_or place job 0 → own' ≡ shifted_of own u bench (get_or amount job 0)
       → length reach' ≡ length reach → ReachShifted n.jobs choice place' reach u bench job reach'
-      → after.active ≡ before.active → Pushed d m s before place own reach after place' own' reach'
-  push_moves choice C m s before after place own reach place' own' reach' K job bench ej eb below p₀ q {u} eu eo₁
+      → after.active ≡ before.active → Pushed d m s before place own reach (Some after) place' own' reach'
+  push_moves choice C m s before after place own reach place' own' reach' K job bench found ej bench-is p₀ q {u} eu eo₁
       sized S₁ unchanged =
       let left = (start d).left in
       let H = K.held in
@@ -160,10 +158,8 @@ module _ (d : Day) (n : Limits) (low high weights amount : List ℕ) (pebbles : 
       let x = explored d s in
       let j = push_job b x in
       let v = push_bench b x in
-      let h : job < d.jobs = omega (arith, R.jobs, below) in
-      let found : j < d.jobs = omega (arith, ej, h) in
+      let h : job < d.jobs = omega (arith, ej, found) in
       let can = can_move_lem s found in
-      let bench-is = eb h in
       let some = least-holds d.jobs (λ i. any d.benches (can_push b x i)) found in
       let benched : v < d.benches = any-least d.benches (can_push b x j) some in
       let p : place' ≡ set place job bench =
@@ -196,7 +192,7 @@ module _ (d : Day) (n : Limits) (low high weights amount : List ℕ) (pebbles : 
       let S : ReachShifted n.jobs choice place' reach (get_or place job 0) bench job reach' =
       subst (λ (k : ℕ). ReachShifted n.jobs choice place' reach k bench job reach') eu S₁ in
       let at-bench : bench < d.benches = omega (arith, bench-is, benched) in
-      a_move can
+      a_move after refl can
       (record {
         held = H₁;
         made = q ∙ ap (λ (k : ℕ). plus_of k 1) K.made ∙ plus_one m (omega (arith, few_moves m s H.reached));
@@ -216,12 +212,10 @@ module _ (d : Day) (n : Limits) (low high weights amount : List ℕ) (pebbles : 
           length-set (set xs u (get_or xs u 0 - w)) v (plus_of (get_or (set xs u
           (get_or xs u 0 - w)) v 0) w) ∙ length-set xs u (get_or xs u 0 - w)
 
-  pub push_stays : (m : ℕ) (s : State) (kept : Kept) (place own reach : List ℕ) → (job : ℕ) → job ≡ push_job
-      (board_of d s) (explored d s) → n.jobs ≤ job
-      → Pushed d m s kept place own reach kept place own reach
-  push_stays m s kept place own reach job e far =
-      no_move (let low : push_job (board_of d s) (explored d s) ≤ d.jobs = least-le d.jobs (λ j. any d.benches (can_push (board_of d s) (explored d s) j)) in
-      omega (arith, R.jobs, e, low)) refl refl refl refl
+  pub push_stays : (m : ℕ) (s : State) (kept : Kept) (place own reach : List ℕ)
+      → None ≡ first_move (board_of d s) (explored d s) → {after : Option Kept} → after ≡ None
+      → Pushed d m s kept place own reach after place own reach
+  push_stays m s kept place own reach none there = no_move there (move_none (board_of d s) (explored d s) none) refl refl refl
 
   -- ── the turns ──
 
@@ -279,34 +273,31 @@ module _ (d : Day) (n : Limits) (low high weights amount : List ℕ) (pebbles : 
           calm_shown (board_of d T.state) (explored d T.state) R.few_benches after.active O.1.active none in
           stop (and-false_left (ltb (push_job (board_of d T.state) (explored d T.state)) d.jobs) still)
 
-      module _ {last : Kept} {place' own' reach' : List ℕ} (P : Pushed d T.moves
+      module _ {last : Option Kept} {place' own' reach' : List ℕ} (P : Pushed d T.moves
           T.state after place own reach last place' own' reach') where
-        pub turning_stuck : last.moves ≡ after.moves → Last d last place' dir
-        turning_stuck same = stuck P same
+        pub turning_stuck : last ≡ None → Last d after place' dir
+        turning_stuck nothing = stuck P
           where
-            stuck : Pushed d T.moves T.state after place own reach last place' own' reach'
-                → last.moves ≡ after.moves → Last d last place' dir
-            stuck (a_move can H unchanged) same = absurd (omega (arith, H.made, O.0.made))
-            stuck (no_move none e ep eo er) same =
-                subst (λ (x : Kept). Last d x place' dir) (sym e)
-                (subst (λ (xs : List ℕ). Last d after xs dir) (sym ep)
+            stuck : Pushed d T.moves T.state after place own reach last place' own' reach' → Last d after place' dir
+            stuck (a_move next some can H unchanged) = absurd (none-some next (sym nothing ∙ some))
+            stuck (no_move there none ep eo er) =
+                subst (λ (xs : List ℕ). Last d after xs dir) (sym ep)
                 (stop (and-false_right (congested d T.state) (le-ltb (push_job (board_of d T.state) (explored d
-                T.state)) d.jobs (omega (arith, none))))))
+                T.state)) d.jobs (omega (arith, none)))))
 
-        pub turning_next : last.moves ≢ after.moves → 0 < k → Turning (k - 1) last place' own' reach'
-        turning_next ne more = next P ne
+        pub turning_next : (next : Kept) {l : ℕ} → last ≡ Some next → k ≡ l + 1 → Turning l next place' own' reach'
+        turning_next next {l} is more = go P
           where
-            next : Pushed d T.moves T.state after place own reach last place' own' reach'
-                → last.moves ≢ after.moves
-                → Turning (k - 1) last place' own' reach'
-            next (a_move can H unchanged) ne =
+            go : Pushed d T.moves T.state after place own reach last place' own' reach' → Turning l next place' own' reach'
+            go (a_move kept₁ some can H unchanged) =
                 let few = (reached-run d R.sound R.uncrowded H.held.reached).of_budget in
-                let e : k - 1 ≡ suc (k - 1 - 1) = omega (arith, few, T.in_all) in
+                let e : k - 1 ≡ suc (l - 1) = omega (arith, few, T.in_all) in
                 record {
                   moves = suc T.moves;
                   state = next_state d T.state;
-                  holds = H;
+                  holds = subst (λ (x : Kept). Holds d (suc T.moves) (next_state d T.state) x place' own' reach')
+                      (same_Some kept₁ next (sym some ∙ is)) H;
                   in_all = omega (arith, T.in_all);
-                  same = T.same ∙ ap (λ (i : ℕ). turns i d T.state T.moves) e ∙ turns_move d T.state T.moves (k - 1 - 1) can;
+                  same = T.same ∙ ap (λ (i : ℕ). turns i d T.state T.moves) e ∙ turns_move d T.state T.moves (l - 1) can;
                 }
-            next (no_move none e ep eo er) ne = absurd (ne (ap (λ (x : Kept). x.moves) e))
+            go (no_move there none ep eo er) = absurd (none-some next (sym there ∙ is))

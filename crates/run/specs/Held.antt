@@ -11,7 +11,8 @@
 --     Holds d m s k ..          so do the program's state k and its tables, with the loads and the benches in reach
 --     Explores d s k ..         the last exploration was that of s
 --     Pushed, Last              what a push makes of a state; the state at which the turns end
-use Rattle.std.specs.Prelude.{ℕ, suc, ◌+◌, ◌*◌, ◌≤◌, ◌<◌, ◌^◌, ◌≡◌, Bool, true, false, List, length, get_or, replicate, ltb}
+use Rattle.std.specs.Prelude.{ℕ, suc, ◌+◌, ◌*◌, ◌≤◌, ◌<◌, ◌^◌, ◌≡◌, Bool, true, false}
+use Rattle.std.specs.Prelude.{List, length, get_or, replicate, ltb, Option, Some, None}
 use Rattle.bits.specs.Bits.{is_set}
 use Rattle.sums.specs.Sum.{sum, count}
 use Rattle.sums.specs.Members.{members}
@@ -23,6 +24,7 @@ use Rattle.algorithm.specs.Run.{board_of, explored, can_move, next_state, answer
 use Rattle.algorithm.specs.States.{Reached}
 use Rattle.algorithm.specs.Push.{push_job}
 use Rattle.rocks.specs.declared.rocks.Limits.{Limits}
+use Rattle.rocks.specs.declared.balancing.Balance.{Balance}
 use Rattle.rocks.specs.BoardArrays.{Owned, Directed}
 use Rattle.rocks.specs.DayArrays.{DayRocks, Cycles}
 use Rattle.rocks.specs.Shown.{Shown, ShowsActive}
@@ -40,7 +42,8 @@ left_job d r = get_or (members d.jobs (is_left d)) r 0
 -- ── tables of a day ──
 
 -- A day without a long job or a crowded component: all its rocks, and its limits.
-pub record Sparse (d : Day) (n : Limits) (job low high balance : List ℕ) (rocks : List Bool) : Type 0 where
+pub record Sparse (d : Day) (n : Limits) (job low high : List ℕ) (balance : List Balance) (rocks : List Bool)
+    : Type 0 where
   pub day_rocks : DayRocks d n low high
   pub rock_jobs : JobsOf d job
   pub cycles : Cycles d balance
@@ -52,8 +55,8 @@ pub record Sparse (d : Day) (n : Limits) (job low high balance : List ℕ) (rock
   pub sparse : ltb (crowded_bench d) d.benches ≡ false
 
 -- Such a day with its pebbles, and with weights multiplied by 3q.
-pub record Begins (d : Day) (n : Limits) (minutes allowed amount job low high balance burden : List ℕ)
-    (rocks pebbles : List Bool) : Type 0 where
+pub record Begins (d : Day) (n : Limits) (minutes allowed amount job low high : List ℕ) (balance : List Balance)
+    (burden : List ℕ) (rocks pebbles : List Bool) : Type 0 where
   pub fields : Fields d n.jobs minutes allowed
   pub sparse_day : Sparse d n job low high balance rocks
   pub pebbly : (j : ℕ) → j < d.jobs → get_or pebbles j false ≡ pebble d j
@@ -111,11 +114,12 @@ pub record Explores (d : Day) (s : State) (k : Kept) (dir load joined level : Li
 
 -- What a push makes of the program's state and of its tables: the next state with one move more and the same activated
 -- benches, or nothing where there is no move.
-pub data Pushed (d : Day) (m : ℕ) (s : State) (before : Kept) (place own reach : List ℕ) (after : Kept)
+pub data Pushed (d : Day) (m : ℕ) (s : State) (before : Kept) (place own reach : List ℕ) (after : Option Kept)
     (place' own' reach' : List ℕ) : Type 0 where
-  a_move : can_move d s ≡ true → Holds d (suc m) (next_state d s) after place' own' reach'
-      → after.active ≡ before.active → Pushed d m s before place own reach after place' own' reach'
-  no_move : push_job (board_of d s) (explored d s) ≡ d.jobs → after ≡ before → place' ≡ place → own' ≡ own
+  a_move : (next : Kept) → after ≡ Some next → can_move d s ≡ true
+      → Holds d (suc m) (next_state d s) next place' own' reach' → next.active ≡ before.active
+      → Pushed d m s before place own reach after place' own' reach'
+  no_move : after ≡ None → push_job (board_of d s) (explored d s) ≡ d.jobs → place' ≡ place → own' ≡ own
       → reach' ≡ reach → Pushed d m s before place own reach after place' own' reach'
 
 -- The program's state at which the turns of the run end, with the places of the jobs and the directions of the rocks.

@@ -8,7 +8,9 @@ ghost use Rattle.push.specs.KeptArrays.{Chosen};
 ghost use Rattle.start.specs.StartArrays.{Placed};
 ghost use Rattle.run.specs.Held.{Begins, Room, Ready, Holds, Explores, Pushed};
 
-use rocks::Limits;
+use arrays::Number;
+use rock_graph::Graph;
+use rocks::{Balance, Limits};
 
 // The moves made, and the benches that the last exploration activated; before the first one there is none. The tables
 // of the state stay where they are, and each method is lent those that it reads or changes:
@@ -25,15 +27,15 @@ pub struct State {
 impl State {
     // start d: every job on its lowest bench, and rocks hanging off a cycle peeled. `left` has the rocks, and then
     // those that are left; `own` the booked load of each bench.
-    pub fn start<'a>(
+    pub fn start(
         n: Limits,
-        pebble: &'a [bool],
-        allowed: &'a [usize],
-        amount: &'a [usize],
-        job: &'a [usize],
-        low: &'a [usize],
-        high: &'a [usize],
-        balance: &'a [usize],
+        pebble: &[bool],
+        allowed: &[usize],
+        amount: &[usize],
+        job: &[usize],
+        low: &[usize],
+        high: &[usize],
+        balance: &[Balance],
         left: &mut [bool],
         place: &mut [u8],
         own: &mut [usize],
@@ -52,7 +54,7 @@ impl State {
         start::peel(n, job, low, high, balance, left, &mut lowest);
         loads::own_loads(n.jobs, amount, left, &lowest, own);
         explore::fill_reach(n, pebble, allowed, &lowest, reach);
-        arrays::to_bytes(n.jobs, &lowest, place);
+        arrays::from_numbers(n.jobs, &lowest, place);
         State {
             moves: 0,
             active: 0,
@@ -60,12 +62,12 @@ impl State {
     }
 
     // explored d s, from nothing.
-    pub fn orient<'a>(
+    pub fn orient(
         mut self,
         n: Limits,
-        graph: &'a [usize],
-        own: &'a [usize],
-        reach: &'a [usize],
+        graph: &Graph,
+        own: &[usize],
+        reach: &[usize],
         dir: &mut [usize],
         load: &mut [usize],
         joined: &mut [usize],
@@ -86,21 +88,21 @@ impl State {
         self
     }
 
-    // next_state d s and one move more where push_job finds a job; else as it was.
-    pub fn push<'a>(
+    // next_state d s and one move more where push_job finds a job, and else nothing.
+    pub fn push(
         mut self,
         n: Limits,
-        graph: &'a [usize],
-        amount: &'a [usize],
-        choice: &'a [usize],
-        dir: &'a [usize],
-        load: &'a [usize],
-        joined: &'a [usize],
-        level: &'a [usize],
+        graph: &Graph,
+        amount: &[usize],
+        choice: &[usize],
+        dir: &[usize],
+        load: &[usize],
+        joined: &[usize],
+        level: &[usize],
         place: &mut [u8],
         own: &mut [usize],
         reach: &mut [usize],
-    ) -> State
+    ) -> Option<State>
         ensures { (d : Day) → (m : ℕ) → (s : RunState) → (pebble : List Bool) → (allowed : List ℕ)
             → Ready d n (lows graph.now) (highs graph.now) (weights graph.now)
             amount.now pebble allowed
@@ -112,17 +114,13 @@ impl State {
     {
         let mut receivers = [0usize; 66];
         push::fill_receivers(n, graph, own, dir, load, joined, level, &mut receivers);
-        let m = push::first_push(n, choice, place, level, &receivers);
-        let job = m.job;
-        let bench = m.bench;
-        if job < n.jobs {
-            let before = arrays::byte(place, job);
-            arrays::put_byte(place, job, bench);
-            push::shift(
-                n.jobs, amount, choice, place, own, reach, before, bench, job,
-            );
-            self.moves = arrays::plus(self.moves, 1);
-        }
-        self
+        let m = push::first_push(n, graph, choice, place, level, &receivers)?;
+        let before = usize::from(arrays::at(place, m.job));
+        arrays::put(place, m.job, u8::of(m.bench));
+        push::shift(
+            n.jobs, amount, choice, place, own, reach, before, m.bench, m.job,
+        );
+        self.moves = self.moves.saturating_add(1);
+        Some(self)
     }
 }

@@ -5,13 +5,12 @@
 --     half-small           the middle of the bounds is a target of a sheet
 --     told_is              what a decision says of its target
 --     after_plan_lem, after_refusal_lem  what is kept after a run of the middle
---     lowered_narrower, raised_narrower      the bounds have come together
 --     search_ends          what is found where the bounds have met
 use Prim.Native.Nat.{ℕ, suc, ◌+◌, ◌-◌, ◌^◌, ◌≤◌, ◌<◌}
 use native.Mathlib.Omega.{arith}
 use native.Mathlib.Numerals.{unary_clauses}
 use mathlib.Core.Path.{◌≡◌, refl, sym, ap, subst, ◌∙◌}
-use mathlib.Core.Bool.{Bool, true, false}
+use mathlib.Core.Bool.{true, false}
 use mathlib.Core.List.{List, [], ◌∷◌}
 use lib.ListN.{length, get_or}
 use Rattle.bools.proofs.BoolLaws.{clash}
@@ -28,11 +27,12 @@ use Rattle.algorithm.specs.Best.{best_target}
 use Rattle.algorithm.proofs.BestLaws.{seek-plan, seek-refusal, seek-enough, tried_more, few_runs}
 use Rattle.arrays.specs.Arrays.{plus_of}
 use Rattle.decisions.specs.declared.decision.Decision.{Decision}
-use Rattle.decisions.specs.declared.decision.Decision.TheVariants.{Plan, Long, None}
+use Rattle.decisions.specs.declared.decision.Decision.TheVariants.{Plan, Long, None as Refused}
 use Rattle.decisions.specs.declared.decision.Decided.{Decided}
 use Rattle.decisions.specs.Decision.{decision_of, Lent, Decides}
 use Rattle.searching.specs.declared.kept.Kept.{Kept}
-use Rattle.searching.specs.Searching.{total_of, start_of, head_at, told_plan, moves_in, LentSearch, plan_decided}
+use Rattle.std.specs.Prelude.{Option, Some, None, is_some, unwrap_or}
+use Rattle.searching.specs.Searching.{total_of, start_of, head_at, moves_in, LentSearch, plan_decided}
 use Rattle.searching.specs.Searching.{half, lowered_to, raised_to, Searching, Finds}
 
 -- ── the start ──
@@ -63,65 +63,73 @@ module _ (d : Day) (h : Head) (jobs : ℕ) (minutes allowed booked : List ℕ)
 
 -- ── what a decision says of a target ──
 
-told-shown : (d : Day) (o : Outcome) → told_plan (decision_of d o) ≡ is_plan (shown d o).answer
+told-shown : (d : Day) (o : Outcome) → is_some (moves_in (decision_of d o)) ≡ is_plan (shown d o).answer
 told-shown d (planned ps moves) = refl
 told-shown d (long j) = refl
 told-shown d (blocked set moves) = refl
 
-plan_told : (a : Decision) → told_plan a ≡ true → a ≡ Plan (record { moves = moves_in a })
-plan_told (Plan p) e = refl
-plan_told (Long l) e = clash {b = false} e refl
-plan_told (None n) e = clash {b = false} e refl
+plan_told : (a : Decision) (moves : ℕ) → moves_in a ≡ Some moves → a ≡ Plan (record { moves = moves })
+plan_told (Plan p) moves e = let same : p.moves ≡ moves = cc in rw (sym same) refl
+plan_told (Long l) moves e = cc
+plan_told (Refused n) moves e = cc
 
 module _ (d : Day) (t : ℕ) {r : Decided} (D : Decides (with_target d t) r) where
-  pub told_is : told_plan r.decision ≡ gives_plan d t
+  pub told_is : is_some (moves_in r.decision) ≡ gives_plan d t
   unfolding gives_plan
-  told_is = ap told_plan D.decision ∙ told-shown (with_target d t) (run (with_target d t))
+  told_is =
+      ap (λ (a : Decision). is_some (moves_in a)) D.decision ∙ told-shown (with_target d t) (run (with_target d t))
 
-  pub plan_kept : gives_plan d t ≡ true
-      → Decides (with_target d t) (plan_decided (moves_in r.decision) r.places)
-  plan_kept gives =
-      let told = plan_told r.decision (told_is ∙ gives) in
+  pub plan_kept : (moves : ℕ) → moves_in r.decision ≡ Some moves
+      → Decides (with_target d t) (plan_decided moves r.places)
+  plan_kept moves e =
+      let told = plan_told r.decision moves e in
       record {
         decision = sym told ∙ D.decision;
         places = D.places;
         one_to_a_job = λ q same. D.one_to_a_job _ told;
       }
 
+some_told : (m : Option ℕ) {moves : ℕ} → is_some m ≡ true → moves ≡ unwrap_or m 0 → m ≡ Some moves
+some_told (Some x) p u = ap Some (sym u)
+some_told None p u = clash {b = false} p refl
+
 -- ── from run to run ──
 
 module _ (d : Day) where
   pub search_starts : gives_plan d (start_target d) ≡ true → (start : ℕ) → start ≡ start_target d
-      → {r : Decided} {moves : ℕ} → Decides (with_target d start) r → moves ≡ moves_in r.decision
-      → Searching d (record { low = 0; high = start; runs = 1; moves = moves; places = r.places })
+      → {r : Decided} {m : Option ℕ} {moves : ℕ} → Decides (with_target d start) r → m ≡ moves_in r.decision
+      → moves ≡ unwrap_or m 0
+      → Searching d
+      (record { low = 0; found = record { target = start; runs = 1; moves = moves; places = r.places } })
   unfolding searched
-  search_starts gives start e {r} D m =
+  search_starts gives start e {r} {m} {moves} D told u =
       let D₀ = subst (λ (t : ℕ). Decides (with_target d t) r) e D in
       let all : start_target d ≡ start_target d - 0 = omega arith in
-      rw (e, m)
+      let given = some_told m (ap is_some told ∙ told_is d (start_target d) D₀ ∙ gives) u in
+      rw e
       (record {
         tried = start_target d ∷ [];
         counted = refl;
         in_order = omega arith;
         from_start = omega arith;
         goes_on = ap (λ (n : ℕ). seek n d (at_start d)) all;
-        planned = plan_kept d (start_target d) D₀ gives;
+        planned = plan_kept d (start_target d) D₀ moves (sym told ∙ given);
       })
 
-  module _ (small : start_target d < 2 ^ 30) (k : Kept) (S : Searching d k) (apart : k.low < k.high) where
+  module _ (small : start_target d < 2 ^ 30) (k : Kept) (S : Searching d k) (apart : k.low < k.found.target) where
     abbrev at : Search
-    at = record { low = k.low; high = k.high; tried = S.tried }
+    at = record { low = k.low; high = k.found.target; tried = S.tried }
 
     -- One run fewer than the bounds are apart.
     abbrev left : ℕ
-    left = k.high - k.low - 1
+    left = k.found.target - k.low - 1
 
     goes_on : searched d ≡ seek (suc left) d at
     goes_on =
-        let more : k.high - k.low ≡ suc left = omega arith in
+        let more : k.found.target - k.low ≡ suc left = omega arith in
         S.goes_on ∙ ap (λ (n : ℕ). seek n d at) more
 
-    one_more : plus_of k.runs 1 ≡ suc (length S.tried)
+    one_more : plus_of k.found.runs 1 ≡ suc (length S.tried)
     one_more =
         let few : length S.tried ≤ 31 = omega (
           arith,
@@ -169,42 +177,39 @@ module _ (d : Day) where
       where
         raised_from : ℕ → Kept
         raised_from low =
-            record { low = low; high = k.high; runs = plus_of k.runs 1; moves = k.moves; places = k.places }
+            record {
+              low = low;
+              found = record {
+                target = k.found.target;
+                runs = plus_of k.found.runs 1;
+                moves = k.found.moves;
+                places = k.found.places;
+              };
+            }
 
     module _ {r : Decided} (D : Decides (with_target d (half k)) r)
-        {told : Bool} (e : told ≡ told_plan r.decision) where
-      pub after_plan_lem : told ≡ true → {moves : ℕ} → moves ≡ moves_in r.decision → {k' : Kept}
+        {told : Option ℕ} (e : told ≡ moves_in r.decision) where
+      pub after_plan_lem : (moves : ℕ) → told ≡ Some moves → {k' : Kept}
           → k' ≡ lowered_to k (half k) moves r.places → Searching d k'
-      after_plan_lem is-plan m next =
-          let gives = sym (told_is d (half k) D) ∙ sym e ∙ is-plan in
-          subst (Searching d) (sym next)
-          (rw m (search_lowered gives (plan_kept d (half k) D gives)))
+      after_plan_lem moves is-plan next =
+          let its = sym e ∙ is-plan in
+          let gives = sym (told_is d (half k) D) ∙ ap is_some its in
+          subst (Searching d) (sym next) (search_lowered gives (plan_kept d (half k) D moves its))
 
-      pub after_refusal_lem : told ≡ false → {k' : Kept} → k' ≡ raised_to k (half k) → Searching d k'
+      pub after_refusal_lem : told ≡ None → {k' : Kept} → k' ≡ raised_to k (half k) → Searching d k'
       after_refusal_lem refused next =
-          subst (Searching d) (sym next) (search_raised (sym (told_is d (half k) D) ∙ sym e ∙ refused))
+          subst (Searching d) (sym next) (search_raised (sym (told_is d (half k) D) ∙ ap is_some (sym e ∙ refused)))
 
-  pub search_ends : (k : Kept) → Searching d k → k.high ≤ k.low
-      → Finds d (record { target = k.high; runs = k.runs; moves = k.moves; places = k.places })
+  pub search_ends : (k : Kept) → Searching d k → k.found.target ≤ k.low → Finds d k.found
   unfolding seek
   search_ends k S met =
-      let none : k.high - k.low ≡ 0 = omega arith in
-      let over : searched d ≡ record { low = k.low; high = k.high; tried = S.tried } =
-      S.goes_on ∙ ap (λ (n : ℕ). seek n d (record { low = k.low; high = k.high; tried = S.tried })) none in
-      let target : k.high ≡ best_target d = sym (ap (λ (s : Search). s.high) over) in
+      let none : k.found.target - k.low ≡ 0 = omega arith in
+      let over : searched d ≡ record { low = k.low; high = k.found.target; tried = S.tried } =
+      S.goes_on ∙ ap (λ (n : ℕ). seek n d (record { low = k.low; high = k.found.target; tried = S.tried })) none in
+      let target : k.found.target ≡ best_target d = sym (ap (λ (s : Search). s.high) over) in
       record {
         target_is = target;
         runs_are = S.counted ∙ sym (ap (λ (s : Search). length s.tried) over);
-        planned = subst (λ (t : ℕ). Decides (with_target d t) (plan_decided k.moves k.places)) target S.planned;
+        planned = subst (λ (t : ℕ). Decides (with_target d t) (plan_decided k.found.moves k.found.places)) target
+            S.planned;
       }
-
--- ── the end of the loop ──
-
-module _ (k : Kept) (apart : k.low < k.high) where
-  pub lowered_narrower : {moves : ℕ} {places : List ℕ} {k' : Kept} → k' ≡ lowered_to k (half k) moves places
-      → k'.high - k'.low < k.high - k.low
-  lowered_narrower e = omega (arith, ap (λ (x : Kept). x.high) e, ap (λ (x : Kept). x.low) e)
-
-  pub raised_narrower : {k' : Kept} → k' ≡ raised_to k (half k) → k.high < 2 ^ 64
-      → k'.high - k'.low < k.high - k.low
-  raised_narrower e fits = omega (arith, ap (λ (x : Kept). x.high) e, ap (λ (x : Kept). x.low) e)

@@ -2,15 +2,14 @@
 --     total_of n xs          the first n numbers together, and the greatest number where that does not fit
 --     start_of ..            the same with the longest booking
 --     head_at h t           the head with the target t
---     told_plan a           a plan was decided; long and none both count as refused
---     moves_in a            the moves of a plan, and 0 where there is none
+--     moves_in a            the moves of a plan; long and none both count as refused, and have none
 --     LentSearch d h ..     a head and tables hold a day whatever its target; its start has 30 bits and gives a plan
 --     plan_decided ..       a plan that was decided: its moves and places
 --     half k                the middle of the two bounds, rounded down
 --     lowered_to, raised_to  what is kept after a plan at the target t, and after a refusal of t
 --     Searching d k         k is kept on the way of the search, and has the plan of its upper bound
 --     Finds d r             r is what the search finds
-use Rattle.std.specs.Prelude.{ℕ, ◌+◌, ◌-◌, ◌/◌, ◌^◌, ◌≤◌, ◌<◌, min, ◌≡◌, Bool, true, false, List, length, get_or}
+use Rattle.std.specs.Prelude.{ℕ, ◌+◌, ◌-◌, ◌/◌, ◌^◌, ◌≤◌, ◌<◌, min, ◌≡◌, true, List, length, get_or, Option, Some, None}
 use Rattle.sums.specs.Sum.{sum}
 use Rattle.fields.specs.declared.sheet.Head.{Head}
 use Rattle.day.specs.Day.{Day, with_target, start_target}
@@ -18,7 +17,7 @@ use Rattle.algorithm.specs.Best.{gives_plan, seek, searched, best_target, target
 use Rattle.arrays.specs.Arrays.{plus_of}
 use Rattle.loads.specs.BenchSum.{sum_of}
 use Rattle.decisions.specs.declared.decision.Decision.{Decision}
-use Rattle.decisions.specs.declared.decision.Decision.TheVariants.{Plan, Long, None}
+use Rattle.decisions.specs.declared.decision.Decision.TheVariants.{Plan, Long, None as Refused}
 use Rattle.decisions.specs.declared.decision.Decided.{Decided}
 use Rattle.decisions.specs.Decision.{Lent, Decides}
 use Rattle.searching.specs.declared.kept.Kept.{Kept}
@@ -44,43 +43,44 @@ pub record LentSearch (d : Day) (h : Head) (jobs : ℕ) (minutes allowed booked 
 
 -- ── what is kept, and what is found ──
 
-abbrev pub told_plan : Decision → Bool
-told_plan (Plan p) = true
-told_plan (Long l) = false
-told_plan (None n) = false
-
-abbrev pub moves_in : Decision → ℕ
-moves_in (Plan p) = p.moves
-moves_in (Long l) = 0
-moves_in (None n) = 0
+abbrev pub moves_in : Decision → Option ℕ
+moves_in (Plan p) = Some p.moves
+moves_in (Long l) = None
+moves_in (Refused n) = None
 
 abbrev pub plan_decided : ℕ → List ℕ → Decided
 plan_decided moves places = record { decision = Plan (record { moves = moves }); places = places }
 
 abbrev pub half : Kept → ℕ
-half k = k.low + (k.high - k.low) / 2
+half k = k.low + (k.found.target - k.low) / 2
 
 abbrev pub lowered_to : Kept → ℕ → ℕ → List ℕ → Kept
 lowered_to k t moves places =
-    record { low = k.low; high = t; runs = plus_of k.runs 1; moves = moves; places = places }
+    record {
+      low = k.low;
+      found = record { target = t; runs = plus_of k.found.runs 1; moves = moves; places = places };
+    }
 
 abbrev pub raised_to : Kept → ℕ → Kept
 raised_to k t =
     record {
       low = plus_of t 1;
-      high = k.high;
-      runs = plus_of k.runs 1;
-      moves = k.moves;
-      places = k.places;
+      found = record {
+        target = k.found.target;
+        runs = plus_of k.found.runs 1;
+        moves = k.found.moves;
+        places = k.found.places;
+      };
     }
 
 pub record Searching (d : Day) (k : Kept) : Type 0 where
   pub tried : List ℕ
-  pub counted : k.runs ≡ length tried
-  pub in_order : k.low ≤ k.high
-  pub from_start : k.high ≤ start_target d
-  pub goes_on : searched d ≡ seek (k.high - k.low) d (record { low = k.low; high = k.high; tried = tried })
-  pub planned : Decides (with_target d k.high) (plan_decided k.moves k.places)
+  pub counted : k.found.runs ≡ length tried
+  pub in_order : k.low ≤ k.found.target
+  pub from_start : k.found.target ≤ start_target d
+  pub goes_on : searched d ≡ seek (k.found.target - k.low) d
+      (record { low = k.low; high = k.found.target; tried = tried })
+  pub planned : Decides (with_target d k.found.target) (plan_decided k.found.moves k.found.places)
 
 pub record Finds (d : Day) (r : Found) : Type 0 where
   pub target_is : r.target ≡ best_target d

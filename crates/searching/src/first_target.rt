@@ -6,25 +6,18 @@ ghost use Rattle.searching.specs.Searching.{total_of, start_of};
 fn total(n: usize, t: &[usize]) -> usize
     ensures { result ≡ total_of n t.now }
 {
-    let mut sum = 0;
-    let mut i = 0;
-    while i < n {
-        sum = arrays::plus(sum, arrays::at(t, i));
-        i += 1;
+    let mut sum = 0usize;
+    for i in 0..n {
+        sum = sum.saturating_add(arrays::at(t, i));
     }
     sum
 }
 
 // The minutes of all jobs, and the longest booking.
-pub fn start_target<'a>(
-    jobs: usize,
-    benches: usize,
-    minutes: &'a [usize],
-    booked: &'a [usize],
-) -> usize
+pub fn start_target(jobs: usize, benches: usize, minutes: &[usize], booked: &[usize]) -> usize
     ensures { result ≡ start_of jobs benches minutes.now booked.now }
 {
     let all = total(jobs, minutes);
     let most = loads::fullest(benches, booked);
-    arrays::plus(all, most.largest)
+    all.saturating_add(most.largest)
 }

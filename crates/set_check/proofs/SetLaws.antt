@@ -10,25 +10,24 @@ use mathlib.Core.Bool.{Bool, true, false, not, cond, ◌&&◌}
 use mathlib.Core.Logic.{inl, inr, ◌≢◌}
 use mathlib.Core.List.{List}
 use native.Mathlib.Omega.{arith}
-use lib.Dec.{eqb, ltb}
+use lib.Dec.{ltb}
 use borrow.Author.Tests.{eq-eqb, ne_eqb, lt-ltb, le-ltb, ltb-true}
 use Rattle.bools.proofs.BoolLaws.{split, clash, and_intro, not_intro_true}
 use Rattle.bools.proofs.OrderLaws.{lt-or-le}
 use Rattle.bits.specs.Bits.{is_set}
 use Rattle.bits.proofs.SetBits.{is_set-zero, is_set-past, any-is_set-zero}
-use Rattle.sums.specs.Search.{least, any}
-use Rattle.sums.proofs.SearchLaws.{least-found, least-none, least_bound, any_false}
+use Rattle.sums.proofs.SearchLaws.{least-found, least-none, any_false}
 use Rattle.fields.specs.declared.fault.Fault.{Fault}
 use Rattle.fields.specs.declared.fault.Fault.TheVariants.{SetBench}
 use Rattle.fields.specs.Contents.{Contents}
 use Rattle.frame.specs.Reading.{accepted, refused, read_sheet}
 use Rattle.frame.proofs.AcceptedLaws.{accepted_sound}
-use Rattle.day.specs.Day.{Day, day_of, long_job, too_long}
+use Rattle.day.specs.Day.{Day, day_of, long_job}
 use Rattle.demand.specs.Demand.{Assignment, SomeOver, Blocking, LongJob, EachFits, SoundLong}
 use Rattle.answers.specs.declared.answer.LongAnswer.{LongAnswer}
 use Rattle.answers.specs.declared.check.SetAnswer.{SetAnswer}
 use Rattle.answers.specs.declared.check.SetAnswer.TheVariants.{Passed, Long, NotPassed, Fault as Faulty}
-use Rattle.algorithm.specs.SoundDay.{AcceptedDay, SoundDay}
+use Rattle.algorithm.specs.SoundDay.{AcceptedDay}
 use Rattle.algorithm.proofs.SheetDay.{accepted_day, none_long, sound_day}
 use Rattle.argument.proofs.LongFound.{long_found}
 use Rattle.argument.proofs.Rival.{blocking_overloads, long_overloads}

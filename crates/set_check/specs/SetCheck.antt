@@ -1,10 +1,12 @@
 -- The check of a set of benches (request S-6). A set is a number of 64 bits: "the first bit is bench 0".
 --     foreign_in benches set    the lowest bench of the set that the head lacks, and 64 where it lacks none
+--     foreign_of benches set    this bench, if there is one
 --     answered_by d set rest    number 17, then long, then the rest
 --     first_answer d set        what is answered before the set is judged
 --     set_answer d set          the answer for the day of an accepted sheet
 --     check_set s set           the answer for the bytes s
-use Rattle.std.specs.Prelude.{ℕ, Bool, cond, not, ◌&&◌, List, eqb, ltb}
+use Rattle.std.specs.Prelude.{ℕ, cond, not, ◌&&◌, List, eqb, ltb, Option}
+use Rattle.std.specs.Bool.{then_some}
 use Rattle.bits.specs.Bits.{is_set}
 use Rattle.sums.specs.Search.{least}
 use Rattle.fields.specs.declared.fault.Fault.TheVariants.{SetBench}
@@ -16,6 +18,9 @@ use Rattle.placements.specs.LeastWeight.{blocks}
 
 unfoldable pub foreign_in : ℕ → ℕ → ℕ
 foreign_in benches set = least 64 (λ v. is_set 64 set v && not (ltb v benches))
+
+abbrev pub foreign_of : ℕ → ℕ → Option ℕ
+foreign_of benches set = then_some (ltb (foreign_in benches set) 64) (foreign_in benches set)
 
 -- "number 17 that the set is empty or names a bench not in the head"; "If some job exceeds T, the answer to a set is
 -- long with the lowest such job, after the faults."

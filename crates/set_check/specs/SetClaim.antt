@@ -3,12 +3,12 @@
 --     Judged s set c        the sheet is accepted, and the set has a bench, and none but the head's
 --     OneOfThree r          passed, long, or not passed
 --     SetClaim s set r      the claim, of the sheet s, the set and the answer r
-use Rattle.std.specs.Prelude.{ℕ, ◌≤◌, ◌<◌, ◌^◌, ◌≡◌, true, false, List}
+use Rattle.std.specs.Prelude.{ℕ, ◌≤◌, ◌<◌, ◌≡◌, true, false, List}
 use Rattle.fields.specs.declared.fault.Fault.{Fault}
 use Rattle.fields.specs.declared.fault.Fault.TheVariants.{SetBench}
 use Rattle.fields.specs.Contents.{Contents}
 use Rattle.frame.specs.Reading.{accepted, refused, read_sheet}
-use Rattle.day.specs.Day.{Day, day_of}
+use Rattle.day.specs.Day.{day_of}
 use Rattle.demand.specs.Demand.{Assignment, SomeOver, Blocking, LongJob, EachFits, SoundLong}
 use Rattle.answers.specs.declared.answer.LongAnswer.{LongAnswer}
 use Rattle.answers.specs.declared.check.SetAnswer.{SetAnswer}

@@ -4,18 +4,19 @@ ghost use Rattle.fields.specs.Contents.{Contents};
 ghost use Rattle.frame.specs.Reading.{read_sheet, accepted, sheet_of};
 ghost use Rattle.day.specs.Day.{Day, day_of};
 ghost use Rattle.start.specs.StartArrays.{Fields};
-ghost use Rattle.set_check.specs.SetCheck.{foreign_in, first_answer, set_answer, check_set};
+ghost use Rattle.set_check.specs.SetCheck.{foreign_of, first_answer, set_answer, check_set};
 ghost use Rattle.set_check.specs.SetClaim.{SetClaim};
 
 use answers::{LongAnswer, SetAnswer};
-use frame::{Fault, Sheet, Verdict};
+use frame::{Fault, Sheet};
 use placing::Bay;
 
-// The lowest bench of the set that the head lacks, and 64 where it lacks none.
-pub fn foreign(benches: usize, set: usize) -> usize
-    ensures { result ≡ foreign_in benches set }
+// The lowest bench of the set that the head lacks, if there is one.
+pub fn foreign(benches: usize, set: usize) -> Option<usize>
+    ensures { result ≡ foreign_of benches set }
 {
-    sets::lowest(sets::less(set, sets::everywhere(benches)))
+    let lacking = sets::lowest(sets::less(set, sets::everywhere(benches)));
+    (lacking < 64).then_some(lacking)
 }
 
 // What is answered before the set is judged: number 17, or long. Until then it has not passed.
@@ -32,12 +33,10 @@ fn first_answer(
     if set == 0 {
         return SetAnswer::Fault(Fault::SetBench(0));
     }
-    let lacking = foreign(benches, set);
-    if lacking < 64 {
+    if let Some(lacking) = foreign(benches, set) {
         return SetAnswer::Fault(Fault::SetBench(lacking));
     }
-    let long = start::long_job(jobs, target, minutes);
-    if long < jobs {
+    if let Some(long) = start::long_job(jobs, target, minutes) {
         return SetAnswer::Long(LongAnswer { job: long as u64 });
     }
     SetAnswer::NotPassed
@@ -54,15 +53,15 @@ fn check_sheet(s: Sheet, set: u64) -> SetAnswer
     let target = h.target as usize;
     let named = set as usize;
     let mut minutes = [0usize; 512];
-    arrays::narrow(jobs, &s.minutes, &mut minutes);
+    arrays::to_numbers(jobs, &s.minutes, &mut minutes);
     let first = first_answer(benches, jobs, target, &minutes, named);
     let SetAnswer::NotPassed = first else {
         return first;
     };
     let mut allowed = [0usize; 512];
-    arrays::narrow(jobs, &s.allowed, &mut allowed);
+    arrays::to_numbers(jobs, &s.allowed, &mut allowed);
     let mut booked = [0usize; 64];
-    arrays::narrow(benches, &s.booked, &mut booked);
+    arrays::to_numbers(benches, &s.booked, &mut booked);
     let bay = Bay {
         benches,
         p: h.p as usize,
@@ -81,13 +80,8 @@ pub fn check_set(s: &[u8], set: u64) -> SetAnswer
     ensures equation { result ≡ check_set s.now set }
     ensures claim { SetClaim s.now set result }
 {
-    let reading = reading::read(s);
-    let verdict = reading.verdict;
-    match verdict {
-        Verdict::Refused(f) => SetAnswer::Fault(f),
-        Verdict::Accepted => {
-            let sheet = reading.sheet;
-            check_sheet(sheet, set)
-        }
+    match reading::read(s) {
+        Err(f) => SetAnswer::Fault(f),
+        Ok(sheet) => check_sheet(sheet, set),
     }
 }

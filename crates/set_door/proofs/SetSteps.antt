@@ -1,17 +1,16 @@
 -- The check of a set through the door, from what the calls ensure: what is returned, and the answer's table after it.
 --     one_put               a number put as the first entry
 --     short_called          without room for the answer
---     passed_called, long_called, not_passed_called, fault_called     with room, by the answer
+--     answer_called, fault_called     with room, by the answer
 use Prim.Native.Nat.{ℕ, ◌^◌, ◌≤◌, ◌<◌}
 use native.Mathlib.Omega.{arith}
-use mathlib.Core.Path.{◌≡◌, refl, sym, ap, ◌∙◌}
+use mathlib.Core.Path.{◌≡◌, sym, ap, ◌∙◌}
 use mathlib.Core.List.{List, [], ◌∷◌}
-use lib.ListN.{length}
+use lib.ListN.{length, get_or}
 use Rattle.fields.specs.declared.fault.Fault.{Fault}
 use Rattle.frame.specs.Reading.{read_sheet}
-use Rattle.answers.specs.declared.answer.LongAnswer.{LongAnswer}
 use Rattle.answers.specs.declared.check.SetAnswer.{SetAnswer}
-use Rattle.answers.specs.declared.check.SetAnswer.TheVariants.{Passed, Long, NotPassed, Fault as Faulty}
+use Rattle.answers.specs.declared.check.SetAnswer.TheVariants.{Fault as Faulty}
 use Rattle.set_check.specs.SetCheck.{check_set}
 use Rattle.tables.specs.Tables.{room_of, put_entry, put_numbers}
 use Rattle.tables.specs.Words.{fault_word}
@@ -29,7 +28,7 @@ module _ (s : List ℕ) (set : ℕ) (numbers : List ℕ) (small : set < 2 ^ 64) 
   abbrev answer : SetAnswer
   answer = door_set s set (room_of numbers)
 
-  abbrev Promised : ℕ → List ℕ → Type 0
+  abbrev pub Promised : ℕ → List ℕ → Type 0
   Promised r numbers' = SetCalled answer r numbers numbers' × SetDoorClaim s set numbers r numbers'
 
   called : (a : SetAnswer) {word : ℕ} {numbers' : List ℕ} → a ≡ answer → word ≡ set_word a
@@ -50,16 +49,13 @@ module _ (s : List ℕ) (set : ℕ) (numbers : List ℕ) (small : set < 2 ^ 64) 
     same_answer : a ≡ answer
     same_answer = ea ∙ sym (door_checked s set (room_of numbers) (omega arith))
 
-    pub passed_called : {numbers' : List ℕ} → a ≡ Passed → numbers' ≡ put_entry numbers 0 0 → Promised 1 numbers'
-    passed_called e put = called Passed (sym e ∙ same_answer) refl (put ∙ one_put numbers 0 room)
-
-    pub long_called : {l : LongAnswer} {numbers' : List ℕ} → a ≡ Long l → numbers' ≡ put_entry numbers 0 l.job
-        → Promised 2 numbers'
-    long_called {l} e put = called (Long l) (sym e ∙ same_answer) refl (put ∙ one_put numbers l.job room)
-
-    pub not_passed_called : {numbers' : List ℕ} → a ≡ NotPassed → numbers' ≡ put_entry numbers 0 0
-        → Promised 0 numbers'
-    not_passed_called e put = called NotPassed (sym e ∙ same_answer) refl (put ∙ one_put numbers 0 room)
+    -- An answer that is no fault: its word, and its number.
+    pub answer_called : (x : SetAnswer) {r : ℕ × ℕ} {numbers' : List ℕ} → a ≡ x → r ≡ (set_word x, get_or (set_numbers x) 0 0)
+        → set_numbers x ≡ get_or (set_numbers x) 0 0 ∷ [] → numbers' ≡ put_entry numbers 0 r.1 → Promised r.0 numbers'
+    answer_called x e both one put =
+        called x (sym e ∙ same_answer) (ap (λ (p : ℕ × ℕ). p.0) both)
+        (put ∙ ap (λ (p : ℕ × ℕ). put_entry numbers 0 p.1) both
+        ∙ one_put numbers (get_or (set_numbers x) 0 0) room ∙ ap (λ (ns : List ℕ). put_numbers ns numbers) (sym one))
 
     pub fault_called : {f : Fault} {word : ℕ} → a ≡ Faulty f → word ≡ fault_word f → Promised word numbers
     fault_called {f} e w = called (Faulty f) (sym e ∙ same_answer) w (sym (put_nothing numbers))

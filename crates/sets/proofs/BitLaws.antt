@@ -1,7 +1,7 @@
 -- Sets of numbers below 64 by their bits.
 --     leading-least, trailing-least  zeros before the first and behind the last number of a set
 --     choices_count, lowest_leading, highest_trailing     so the processor's counts are those of the set
---     with_bench, with_none          a set with one more number
+--     with_bench                     a set with one more number
 use Prim.Native.Nat.{ℕ, zero, suc, ◌+◌, ◌-◌, ◌*◌, ◌/◌, ◌%◌, ◌^◌, ◌≤◌, ◌<◌, max}
 use mathlib.Core.Path.{◌≡◌, refl, sym, ap, ◌∙◌}
 use mathlib.Core.Bool.{true, false, ◌||◌}
@@ -131,6 +131,3 @@ with_bench set v u hv hu =
           let same : max (set / 2 ^ k % 2) (2 ^ i / 2 ^ k % 2) ≡ set / 2 ^ k % 2 = omega arith in
           ap (λ (x : ℕ). eqb x 1) same ∙ sym (or_unit (eqb (set / 2 ^ k % 2) 1) (ne_eqb u v ne))
     ])
-
-pub with_none : (set v u : ℕ) → 63 < v → u < 64 → is_set 64 set u ≡ (is_set 64 set u || eqb u v)
-with_none set v u hv hu = sym (or_unit (is_set 64 set u) (ne_eqb u v (λ e. omega arith)))

@@ -1,18 +1,17 @@
 -- Loops that collect numbers into a set.
 --     Gathered                       what a loop over the first k numbers keeps that collects those with f
---     gathered-all, gathered_every, gathered_wide     how it ends
---     add-yes, add-not               a number that counts, and one that does not
---     some_entry, no_entry           how it goes on where it collects the entries that are not 0
-use Prim.Native.Nat.{ℕ, ◌+◌, ◌≤◌, ◌<◌}
+--     gathered-all                   how it ends
+--     has_some                       the entries of a table that are not 0
+use Prim.Native.Nat.{ℕ, ◌+◌, ◌<◌}
 use mathlib.Core.Path.{◌≡◌, refl, sym, ap, subst, ◌∙◌}
 use mathlib.Core.Bool.{Bool, true, false, not, ◌&&◌, ◌||◌}
-use mathlib.Core.Logic.{inl, inr, ◌≢◌}
+use mathlib.Core.Logic.{inl, inr}
 use mathlib.Core.List.{List}
 use native.Mathlib.Omega.{arith}
 use lib.Dec.{eqb, ltb}
 use lib.ListN.{get_or}
 use borrow.Author.Tests.{lt-ltb, le-ltb, eq-eqb, ne_eqb}
-use Rattle.bools.proofs.BoolLaws.{tests, bool_ext, and-false_left, and-false_right, not_intro_true, or_nothing, and_unit, or_unit}
+use Rattle.bools.proofs.BoolLaws.{tests, bool_ext, and-false_left, and-false_right, and_unit, or_unit}
 use Rattle.bools.proofs.OrderLaws.{eq-or-ne, lt_of_ne}
 use Rattle.bits.specs.Bits.{is_set}
 use Rattle.bits.proofs.SetBits.{is_set-zero}
@@ -49,30 +48,6 @@ gathered_more f k s s' c G e step =
 pub gathered-all : (f : ℕ → Bool) (k s : ℕ) {m : ℕ} → Gathered f k s → k ≡ m → (u : ℕ) → u < 64 → is_set 64 s u ≡ (ltb u m && f u)
 gathered-all f k s G e u h = G.has u h ∙ ap (λ (x : ℕ). ltb u x && f u) e
 
-pub gathered_every : (k s : ℕ) {m : ℕ} → Gathered (λ u. true) k s → k ≡ m → (u : ℕ) → u < 64 → is_set 64 s u ≡ ltb u m
-gathered_every k s G e u h = G.has u h ∙ and_unit (ltb u k) refl ∙ ap (λ (x : ℕ). ltb u x) e
-
--- All of the 64 numbers were passed.
-pub gathered_wide : (f : ℕ → Bool) (k s : ℕ) → Gathered f k s → 64 ≤ k → (u : ℕ) → u < 64 → is_set 64 s u ≡ f u
-gathered_wide f k s G all u h = G.has u h ∙ ap (λ (x : Bool). x && f u) (lt-ltb u k (omega arith))
-
-pub add-yes : {x c : Bool} (a e : Bool) → c ≡ true → x ≡ (a || e) → x ≡ (a || (c && e))
-add-yes a e p q = rw p q
-
-pub add-not : {c : Bool} (a e : Bool) → c ≡ false → a ≡ (a || (c && e))
-add-not a e p = rw p (sym (or_nothing a))
-
 -- The entries of a table that are not 0.
 abbrev pub has_some : List ℕ → ℕ → Bool
 has_some t u = not (eqb (get_or t u 0) 0)
-
-module _ (t : List ℕ) (k s a : ℕ) (G : Gathered (has_some t) k s) (e : a ≡ get_or t k 0) where
-  pub some_entry : (s' : ℕ) {found : ℕ} → a ≢ 0 → ((u : ℕ) → u < 64 → is_set 64 s' u ≡ (is_set 64 s u || eqb u k)) → found ≡ s' → Gathered (has_some t) (k + 1) found
-  some_entry s' {found} ne step same =
-      gathered_more (has_some t) k s found true G (sym (ap (λ (x : ℕ). not (eqb x 0)) (sym e) ∙ not_intro_true (ne_eqb a 0 ne)))
-      (λ u h. ap (λ (x : ℕ). is_set 64 x u) same ∙ step u h)
-
-  pub no_entry : {found : ℕ} → a ≡ 0 → found ≡ s → Gathered (has_some t) (k + 1) found
-  no_entry {found} none same =
-      gathered_more (has_some t) k s found false G (sym (ap (λ (x : ℕ). not (eqb x 0)) (sym e ∙ none)))
-      (λ u h. ap (λ (x : ℕ). is_set 64 x u) same ∙ add-not (is_set 64 s u) (eqb u k) refl)

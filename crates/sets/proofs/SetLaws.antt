@@ -12,7 +12,9 @@ use mathlib.Core.Path.{◌≡◌, refl, sym, ap, subst, ◌∙◌}
 use mathlib.Core.Bool.{Bool, true, false, not, ◌&&◌, ◌||◌}
 use mathlib.Core.Logic.{inl, inr}
 use native.Mathlib.Omega.{arith}
-use lib.Bits.{bit_and, bit_or, bit_xor, differ, and_step, and_shr, or_step, or_shr, xor_step, xor_shr}
+use lib.Bits.{bit_and, bit_or, and_step, and_shr, or_step, or_shr}
+use Rattle.std.proofs.Common.{w64}
+use Rattle.std.proofs.lemmas.Nat.Bits.{bit_at_not}
 use lib.Dec.{eqb, ltb}
 use native.Mathlib.Nat.{mod-lt, mul-le-mul, le_refl}
 use lib.Pow.{field, mod-mod-pow, pow_pos, pow-lt, pow_mono, shr_lt, split as parts-of}
@@ -78,31 +80,23 @@ or-is_set a b u = elim (lt-or-le u 64) [
 
 -- ── the first less the second ──
 
-differ-min : (x y : ℕ) → x < 2 → y < 2 → (differ x (min x y) < 2) × (eqb (differ x (min x y)) 1 ≡ (eqb x 1 && not (eqb y 1)))
-differ-min zero zero hx hy = (omega arith, refl)
-differ-min zero (suc zero) hx hy = (omega arith, refl)
-differ-min (suc zero) zero hx hy = (omega arith, refl)
-differ-min (suc zero) (suc zero) hx hy = (omega arith, refl)
-differ-min (suc (suc x)) y hx hy = absurd (omega arith)
-differ-min zero (suc (suc y)) hx hy = absurd (omega arith)
-differ-min (suc zero) (suc (suc y)) hx hy = absurd (omega arith)
+other_digit : (x : ℕ) → x < 2 → eqb (1 - x) 1 ≡ not (eqb x 1)
+other_digit zero h = refl
+other_digit (suc zero) h = refl
+other_digit (suc (suc x)) h = absurd (omega arith)
 
-xor_odd : (a b : ℕ) → differ (a % 2) (b % 2) < 2 → bit_xor a b % 2 ≡ differ (a % 2) (b % 2)
-xor_odd a b h = ap (λ (k : ℕ). k % 2) (xor_step a b) ∙ even_plus (bit_xor (a / 2) (b / 2)) (differ (a % 2) (b % 2)) h
+not-is_set : (b u : ℕ) → b < 2 ^ 64 → u < 64 → is_set 64 (18446744073709551615 - b) u ≡ not (is_set 64 b u)
+not-is_set b u fits h =
+    let digit : (18446744073709551615 - b) / 2 ^ (64 - 1 - u) % 2 ≡ 1 - b / 2 ^ (64 - 1 - u) % 2 =
+    bit_at_not w64 b (64 - 1 - u) fits (omega arith) in
+    rw (is_set-digit 64 (18446744073709551615 - b) u h, is_set-digit 64 b u h)
+    (ap (λ (x : ℕ). eqb x 1) digit ∙ other_digit (b / 2 ^ (64 - 1 - u) % 2) (omega arith))
 
-less_bit : (a b k : ℕ) → eqb (bit_xor a (bit_and a b) / 2 ^ k % 2) 1 ≡ (eqb (a / 2 ^ k % 2) 1 && not (eqb (b / 2 ^ k % 2) 1))
-less_bit a b k =
-    let x : ℕ = a / 2 ^ k % 2 in
-    let y : ℕ = b / 2 ^ k % 2 in
-    let d = differ-min x y (omega arith) (omega arith) in
-    let both : bit_and a b / 2 ^ k % 2 ≡ min x y = and_bit a b k in
-    let small : differ x (bit_and a b / 2 ^ k % 2) < 2 = subst (λ (z : ℕ). differ x z < 2) (sym both) d.0 in
-    ap (λ (z : ℕ). eqb z 1) (ap (λ (z : ℕ). z % 2) (xor_shr a (bit_and a b) k) ∙ xor_odd (a / 2 ^ k) (bit_and a b / 2 ^ k) small ∙ ap (differ x) both) ∙ d.1
-
-pub less-is_set : (a b u : ℕ) → is_set 64 (bit_xor a (bit_and a b)) u ≡ (is_set 64 a u && not (is_set 64 b u))
-less-is_set a b u = elim (lt-or-le u 64) [
-  | inl l ↦ rw (is_set-digit 64 (bit_xor a (bit_and a b)) u l, is_set-digit 64 a u l, is_set-digit 64 b u l) (less_bit a b (64 - 1 - u))
-  | inr l ↦ rw (is_set-past 64 (bit_xor a (bit_and a b)) u l, is_set-past 64 a u l)
+pub less-is_set : (a b u : ℕ) → b < 2 ^ 64
+    → is_set 64 (bit_and a (18446744073709551615 - b)) u ≡ (is_set 64 a u && not (is_set 64 b u))
+less-is_set a b u fits = and-is_set a (18446744073709551615 - b) u ∙ elim (lt-or-le u 64) [
+  | inl l ↦ ap (λ (t : Bool). is_set 64 a u && t) (not-is_set b u fits l)
+  | inr l ↦ rw (is_set-past 64 a u l)
 ]
 
 -- ── a set without its lowest number ──
@@ -115,9 +109,6 @@ none_left n k h =
 
 pub power_fits : (v : ℕ) → 1 * 2 ^ (63 - v) % 18446744073709551616 ≡ 2 ^ (63 - v)
 power_fits v = let small : 2 ^ (63 - v) < 2 ^ 64 = pow-lt {i = 63 - v} {j = 64} (omega arith) in omega arith
-
-pub power_some : (v : ℕ) → 0 < 1 * 2 ^ (63 - v) % 18446744073709551616
-power_some v = subst (λ (x : ℕ). 0 < x) (sym (power_fits v)) (pow_pos (63 - v))
 
 pub lowest_holds : (set v : ℕ) → v ≡ lowest_of set → v < 64 → is_set 64 set v ≡ true
 unfolding lowest_of
@@ -168,9 +159,6 @@ after_less set v e h =
     let whole : set / 2 ^ (63 - v) * 2 ^ (63 - v) + set % 2 ^ (63 - v) ≡ set = parts-of set (63 - v) in
     let much : 1 * 2 ^ (63 - v) ≤ q * 2 ^ (63 - v) = mul-le-mul some (le_refl (2 ^ (63 - v))) in
     omega arith
-
-pub after_none : (set v u : ℕ) → 63 < v → u < 64 → is_set 64 set u ≡ (is_set 64 set u && not (eqb u v))
-after_none set v u h l = sym (and_unit (is_set 64 set u) (not_intro_true (ne_eqb u v (λ e. omega arith))))
 
 -- ── the numbers above one ──
 

@@ -81,46 +81,51 @@ out_before left left' v u same out ne = elim (split (is_set 64 left u)) [
 
 -- ── entries that become i ──
 
-module _ (all i : ℕ) (t₀ : List ℕ) where
-  pub record Put (left : ℕ) (t : List ℕ) : Type 0 where
+module _ {A : Type 0} (all : ℕ) (i : A) (t₀ : List A) where
+  pub record Put (left : ℕ) (t : List A) : Type 0 where
     pub small : left ≤ all
     pub inside : (k : ℕ) → k < 64 → is_set 64 left k ≡ true → is_set 64 all k ≡ true
     pub long : length t ≡ length t₀
-    pub written : (v : ℕ) → v < length t₀ → v < 64 → is_set 64 all v ≡ true → is_set 64 left v ≡ false → get_or t v 0 ≡ i
-    pub kept : (v : ℕ) → v < length t₀ → (ltb v 64 && is_set 64 all v) ≡ false → get_or t v 0 ≡ get_or t₀ v 0
+    pub written : (v : ℕ) (d : A) → v < length t₀ → v < 64 → is_set 64 all v ≡ true → is_set 64 left v ≡ false → get_or t v d ≡ i
+    pub kept : (v : ℕ) (d : A) → v < length t₀ → (ltb v 64 && is_set 64 all v) ≡ false → get_or t v d ≡ get_or t₀ v d
 
   pub put_starts : Put all t₀
   put_starts =
-      record { small = omega arith; inside = λ k h p. p; long = refl; written = λ v l h p q. clash p q; kept = λ v l p. refl }
+      record { small = omega arith; inside = λ k h p. p; long = refl; written = λ v d l h p q. clash p q; kept = λ v d l p. refl }
 
-  pub put_goes_on : (left u : ℕ) (t : List ℕ) → Put left t → u ≡ lowest_of left → u < 64
+  pub put_goes_on : (left u : ℕ) (t : List A) → Put left t → u ≡ lowest_of left → u < 64
       → (left' : ℕ) → ((k : ℕ) → k < 64 → is_set 64 left' k ≡ (is_set 64 left k && not (eqb k u))) → left' < left
-      → {t' : List ℕ} → t' ≡ set t u i → Put left' t'
+      → {t' : List A} → t' ≡ set t u i → Put left' t'
   put_goes_on left u t P e h left' same less {t'} et =
       record {
         small = omega (arith, P.small);
         inside = λ k l p. P.inside k l (and_left (is_set 64 left k) (not (eqb k u)) (sym (same k l) ∙ p));
         long = ap length et ∙ length-set t u i ∙ P.long;
-        written = λ v l hv p q. ap (λ (x : List ℕ). get_or x v 0) et ∙ elim (eq-or-ne v u) [
-          | inl at ↦ ap (λ (k : ℕ). get_or (set t u i) k 0) at ∙ get_or-set_same t u i 0 (omega (arith, P.long))
-          | inr ne ↦ get_or-set_other t u v i 0 ne ∙ P.written v l hv p (out_before left left' u v (same v hv) q ne)
+        written = λ v d l hv p q. ap (λ (x : List A). get_or x v d) et ∙ elim (eq-or-ne v u) [
+          | inl at ↦ ap (λ (k : ℕ). get_or (set t u i) k d) at ∙ get_or-set_same t u i d (omega (arith, P.long))
+          | inr ne ↦ get_or-set_other t u v i d ne ∙ P.written v d l hv p (out_before left left' u v (same v hv) q ne)
         ];
-        kept = λ v l p. ap (λ (x : List ℕ). get_or x v 0) et ∙ elim (eq-or-ne v u) [
+        kept = λ v d l p. ap (λ (x : List A). get_or x v d) et ∙ elim (eq-or-ne v u) [
           | inl at ↦ clash (subst (λ (k : ℕ). (ltb k 64 && is_set 64 all k) ≡ true) (sym at) (and_intro (lt-ltb u 64 h) (P.inside u h (lowest_holds left u e h)))) p
-          | inr ne ↦ get_or-set_other t u v i 0 ne ∙ P.kept v l p
+          | inr ne ↦ get_or-set_other t u v i d ne ∙ P.kept v d l p
         ];
       }
 
-  pub put_ends : (left : ℕ) (t : List ℕ) → Put left t → left ≤ 0 → (v : ℕ) → v < length t₀ → get_or t v 0 ≡ cond (ltb v 64 && is_set 64 all v) i (get_or t₀ v 0)
-  put_ends left t P none v l =
+  pub put_ends_with : (d : A) (left : ℕ) (t : List A) → Put left t → left ≤ 0 → (v : ℕ) → v < length t₀
+      → get_or t v d ≡ cond (ltb v 64 && is_set 64 all v) i (get_or t₀ v d)
+  put_ends_with d left t P none v l =
       let e : left ≡ 0 = omega arith in
       elim (split (ltb v 64 && is_set 64 all v)) [
         | inl p ↦
-            P.written v l (ltb-true v 64 (and_left (ltb v 64) (is_set 64 all v) p)) (and_right (ltb v 64) (is_set 64 all v) p)
+            P.written v d l (ltb-true v 64 (and_left (ltb v 64) (is_set 64 all v) p)) (and_right (ltb v 64) (is_set 64 all v) p)
             (ap (λ (m : ℕ). is_set 64 m v) e ∙ is_set-zero 64 v)
-            ∙ sym (ap (λ (k : Bool). cond k i (get_or t₀ v 0)) p)
-        | inr p ↦ P.kept v l p ∙ sym (ap (λ (k : Bool). cond k i (get_or t₀ v 0)) p)
+            ∙ sym (ap (λ (k : Bool). cond k i (get_or t₀ v d)) p)
+        | inr p ↦ P.kept v d l p ∙ sym (ap (λ (k : Bool). cond k i (get_or t₀ v d)) p)
       ]
+
+pub put_ends : (all i : ℕ) (t₀ : List ℕ) (left : ℕ) (t : List ℕ) → Put all i t₀ left t → left ≤ 0
+    → (v : ℕ) → v < length t₀ → get_or t v 0 ≡ cond (ltb v 64 && is_set 64 all v) i (get_or t₀ v 0)
+put_ends all i t₀ = put_ends_with all i t₀ 0
 
 -- ── the join of some entries ──
 

@@ -28,12 +28,8 @@ pub fn some(t: &[usize]) -> usize
     ensures { (v : ℕ) → v < 64 → is_set 64 result v ≡ not (eqb (get_or t.now v 0) 0) }
 {
     let mut found = 0;
-    let mut v = 0;
-    while v < 64 {
-        if arrays::at(t, v) != 0 {
-            found = sets::with(found, v);
-        }
-        v += 1;
+    for v in 0..64 {
+        found = add(found, v, arrays::at(t, v) != 0);
     }
     found
 }
@@ -50,10 +46,8 @@ pub fn everywhere(benches: usize) -> usize
     ensures { (v : ℕ) → v < 64 → is_set 64 result v ≡ ltb v benches }
 {
     let mut all = 0;
-    let mut v = 0;
-    while v < benches {
-        all = add(all, v, true);
-        v += 1;
+    for v in 0..benches {
+        all = sets::with(all, v);
     }
     all
 }

@@ -21,14 +21,14 @@ pub fn either(a: usize, b: usize) -> usize
 pub fn less(a: usize, b: usize) -> usize
     ensures { (u : ℕ) → is_set 64 result u ≡ (is_set 64 a u && not (is_set 64 b u)) }
 {
-    a ^ (a & b)
+    a & !b
 }
 
 // The lowest number of a set, and 64 of an empty one.
 pub fn lowest(set: usize) -> usize
     ensures { result ≡ lowest_of set }
 {
-    u64::leading_zeros(set as u64) as usize
+    set.leading_zeros() as usize
 }
 
 // The set without v, which is its lowest number.
@@ -76,12 +76,12 @@ pub fn with(mask: usize, v: usize) -> usize
 pub fn choices(allowed: usize) -> usize
     ensures { result ≡ choices_of allowed }
 {
-    u64::count_ones(allowed as u64) as usize
+    allowed.count_ones() as usize
 }
 
 // The highest number of a set that is not empty.
 pub fn highest(allowed: usize) -> usize
     ensures { result ≡ highest_of allowed }
 {
-    arrays::minus(63, u64::trailing_zeros(allowed as u64) as usize)
+    63usize.saturating_sub(allowed.trailing_zeros() as usize)
 }

@@ -6,7 +6,7 @@
 --     system-rocks, system-size, system-first     the rocks and benches in the set of a system are those of the system
 --     settle-tree, settle-cycle       a system that is a tree, and one that is not
 --     Settles                         what the loop of settle keeps; how it goes on, and how it ends
-use Prim.Native.Nat.{ℕ, zero, suc, ◌-◌, ◌≤◌, ◌<◌}
+use Prim.Native.Nat.{ℕ, zero, suc, ◌+◌, ◌≤◌, ◌<◌}
 use mathlib.Core.Path.{◌≡◌, refl, sym, ap, ap₂, subst, ◌∙◌}
 use mathlib.Core.Bool.{Bool, true, false, cond, ◌&&◌, ◌||◌}
 use mathlib.Core.Logic.{inl, inr, ⊎_elim, ◌≢◌}
@@ -15,9 +15,12 @@ use native.Mathlib.Omega.{arith}
 use lib.ListN.{get_or, set, length-set, length-replicate, get_or-replicate}
 use lib.Seq.{get_or-set_same, get_or-set_other}
 use lib.Dec.{eqb, ltb}
-use borrow.Author.Tests.{eq-eqb, ne_eqb, lt-ltb, le-ltb, ltb-false}
+use borrow.Author.Tests.{eq-eqb, ne_eqb, lt-ltb, le-ltb, ltb-true, ltb-false}
+use Rattle.std.specs.Prelude.{Option, Some, None}
+use Rattle.std.specs.Bool.{then_some}
+use Rattle.std.proofs.lemmas.Option.{none-some, same_Some}
 use Rattle.bools.proofs.BoolLaws.{split, and_intro, and_right, or_left, or_right, or_unit}
-use Rattle.bools.proofs.OrderLaws.{eq-or-ne, lt_of_ne}
+use Rattle.bools.proofs.OrderLaws.{eq-or-ne}
 use Rattle.sums.specs.Sum.{count}
 use Rattle.sums.specs.Search.{any, least}
 use Rattle.sums.proofs.SearchLaws.{any_cong, any_false, any_intro, any-least, least_cong, least-le, least-holds}
@@ -34,13 +37,16 @@ use Rattle.algorithm.specs.Board.{Board, Directions, touches, other, neutral}
 use Rattle.algorithm.specs.Forced.{direct, nobody}
 use Rattle.algorithm.specs.Settle.{neutral_at, linked, system, system_rock, is_tree, follow, settle_system, settle_from, settle}
 use Rattle.arrays.specs.Arrays.{plus_of}
-use Rattle.rocks.specs.RockArrays.{lowest_end, touches_at, other_at}
+use Rattle.rocks.specs.RockArrays.{first, lowest_end, touches_at, other_at}
 use Rattle.rocks.specs.BoardArrays.{rocks_of, rock_at, Rocks, Directed}
+use Rattle.rocks.specs.declared.balancing.Balance.{Balance}
+use Rattle.rocks.specs.declared.balancing.Balance.TheVariants.{Tree, OneCycle, Crowded}
 use Rattle.rocks.specs.SpreadArrays.{neutral_rock, inside_at, links_at, linked_at, balance_of, Within, Shows}
 use Rattle.settle.specs.SettleArrays.{follows_at, ShowsMarks}
 use Rattle.algorithm.proofs.FollowLaws.{neutral_at-touches}
+use Rattle.rocks.proofs.FirstLaws.{first-some, first-none}
 use Rattle.rocks.proofs.SpreadRun.{shows_entry, reach-shown}
-use Rattle.rocks.proofs.ScanLaws.{and_assoc, board_lowest, board_first, rock_below, rock_holds, low_below, high_below}
+use Rattle.rocks.proofs.ScanLaws.{and_assoc, board_lowest, board_first, rock_holds, low_below, high_below}
 use Rattle.rocks.proofs.BoardLaws.{other_at_lem, directs_directed}
 
 mark_yes : (a b m : Bool) → m ≡ true → (a && (b && m)) ≡ (a && b)
@@ -57,17 +63,34 @@ regroup : (a b c d : Bool) → (((a && b) && c) && d) ≡ (a && ((b && c) && d))
 regroup true b c d = refl
 regroup false b c d = refl
 
-balance_tree : (x y : ℕ) → balance_of x y ≡ 0 → ltb x y ≡ true
+balance_tree : (x y : ℕ) → balance_of x y ≡ Tree → ltb x y ≡ true
 balance_tree x y e = elim (split (ltb x y)) [
   | inl p ↦ p
   | inr p ↦ elim (split (eqb x y)) [
-    | inl q ↦ let z : ◌≡◌ {A = ℕ} 1 0 = rw (p, q) at e in absurd (omega arith)
-    | inr q ↦ let z : ◌≡◌ {A = ℕ} 2 0 = rw (p, q) at e in absurd (omega arith)
+    | inl q ↦ let z : OneCycle ≡ Tree = rw (p, q) at e in absurd (cc)
+    | inr q ↦ let z : Crowded ≡ Tree = rw (p, q) at e in absurd (cc)
   ]
 ]
 
-balance_cycle : (x y : ℕ) → balance_of x y ≢ 0 → ltb x y ≡ false
+balance_cycle : (x y : ℕ) → balance_of x y ≢ Tree → ltb x y ≡ false
 balance_cycle x y ne = elim (split (ltb x y)) [ inl p ↦ absurd (ne (rw p)) | inr p ↦ p ]
+
+-- ── a number below n, or none ──
+
+module _ (n i : ℕ) {r : Option ℕ} (e : r ≡ then_some (ltb i n) i) where
+  below-some : {v : ℕ} → r ≡ Some v → (v ≡ i) × (v < n)
+  below-some {v} found = elim (split (ltb i n)) [
+    | inl p ↦
+        let same : v ≡ i = same_Some v i (sym found ∙ e ∙ ap (λ (x : Bool). then_some x i) p) in
+        (same, omega (arith, same, ltb-true i n p))
+    | inr p ↦ absurd (none-some v (sym (sym found ∙ e ∙ ap (λ (x : Bool). then_some x i) p)))
+  ]
+
+  below-none : r ≡ None → n ≤ i
+  below-none none = elim (split (ltb i n)) [
+    | inl p ↦ absurd (none-some i (sym none ∙ e ∙ ap (λ (x : Bool). then_some x i) p))
+    | inr p ↦ ltb-false i n p
+  ]
 
 -- ── marks as a set ──
 
@@ -118,13 +141,13 @@ unfolding follow
 follow-stops zero b dirs ms e = refl
 follow-stops (suc k) b dirs ms e = follow-stop k b dirs ms (le-ltb (marked_bench b dirs ms) b.benches (omega arith))
 
-follow-turns : (k : ℕ) (b : Board) (dirs : Directions) (ms : List Bool) (v : ℕ) → 0 < k → v ≡ marked_bench b dirs ms → v < b.benches
-    → follow k b dirs ms ≡ follow (k - 1) b (direct b dirs v (neutral_job b dirs v)) (set ms (other b (neutral_job b dirs v) v) true)
-follow-turns zero b dirs ms v more e h = absurd (omega arith)
-follow-turns (suc k) b dirs ms v more e h =
-    let same : suc k - 1 ≡ k = omega arith in
-    subst (λ (u : ℕ). follow (suc k) b dirs ms ≡ follow (suc k - 1) b (direct b dirs u (neutral_job b dirs u)) (set ms (other b (neutral_job b dirs u) u) true)) (sym e)
-    (rw same (follow-go k b dirs ms (lt-ltb (marked_bench b dirs ms) b.benches (subst (λ (u : ℕ). u < b.benches) e h))))
+follow-turns : (k l : ℕ) (b : Board) (dirs : Directions) (ms : List Bool) (v : ℕ) → k ≡ l + 1 → v ≡ marked_bench b dirs ms
+    → v < b.benches → follow k b dirs ms ≡ follow l b (direct b dirs v (neutral_job b dirs v)) (set ms (other b (neutral_job b dirs v) v) true)
+follow-turns k l b dirs ms v more e h =
+    let turns : k ≡ suc l = omega arith in
+    subst (λ (u : ℕ). follow k b dirs ms ≡ follow l b (direct b dirs u (neutral_job b dirs u)) (set ms (other b (neutral_job b dirs u) u) true)) (sym e)
+    (ap (λ (i : ℕ). follow i b dirs ms) turns
+    ∙ follow-go l b dirs ms (lt-ltb (marked_bench b dirs ms) b.benches (subst (λ (u : ℕ). u < b.benches) e h)))
 
 settle-stop : (k : ℕ) (b : Board) (dirs : Directions) → ltb (neutral_bench b dirs) b.benches ≡ false → settle_from (suc k) b dirs ≡ dirs
 unfolding settle_from
@@ -140,13 +163,13 @@ unfolding settle_from
 settle-stops zero b dirs e = refl
 settle-stops (suc k) b dirs e = settle-stop k b dirs (le-ltb (neutral_bench b dirs) b.benches (omega arith))
 
-settle-turns : (k : ℕ) (b : Board) (dirs : Directions) (v : ℕ) → 0 < k → v ≡ neutral_bench b dirs → v < b.benches
-    → settle_from k b dirs ≡ settle_from (k - 1) b (settle_system b dirs v)
-settle-turns zero b dirs v more e h = absurd (omega arith)
-settle-turns (suc k) b dirs v more e h =
-    let same : suc k - 1 ≡ k = omega arith in
-    subst (λ (u : ℕ). settle_from (suc k) b dirs ≡ settle_from (suc k - 1) b (settle_system b dirs u)) (sym e)
-    (rw same (settle-go k b dirs (lt-ltb (neutral_bench b dirs) b.benches (subst (λ (u : ℕ). u < b.benches) e h))))
+settle-turns : (k l : ℕ) (b : Board) (dirs : Directions) (v : ℕ) → k ≡ l + 1 → v ≡ neutral_bench b dirs → v < b.benches
+    → settle_from k b dirs ≡ settle_from l b (settle_system b dirs v)
+settle-turns k l b dirs v more e h =
+    let turns : k ≡ suc l = omega arith in
+    subst (λ (u : ℕ). settle_from k b dirs ≡ settle_from l b (settle_system b dirs u)) (sym e)
+    (ap (λ (i : ℕ). settle_from i b dirs) turns
+    ∙ settle-go l b dirs (lt-ltb (neutral_bench b dirs) b.benches (subst (λ (u : ℕ). u < b.benches) e h)))
 
 module _ (b : Board) (n : Limits) (low high weight : List ℕ) (R : Rocks b n low high weight) where
   -- ── the searches ──
@@ -171,6 +194,9 @@ module _ (b : Board) (n : Limits) (low high weight : List ℕ) (R : Rocks b n lo
           ∙ least_cong b.benches (λ v. any b.jobs (λ j. touches b j v && (neutral dirs j && S v)))
           (λ v. S v && any b.jobs (neutral_at b dirs v)) (λ v l. marked-any v)
 
+      lowest-at-most : lowest_end n.benches n.rocks low high (follows_at dir S) ≤ n.benches
+      lowest-at-most = omega (arith, lowest-neutral, least-le b.benches (λ v. S v && any b.jobs (neutral_at b dirs v)), R.benches)
+
       -- The bench and the rock that the searches find.
       pub record Step (v r : ℕ) : Type 0 where
         pub bench_below : v < b.benches
@@ -178,16 +204,11 @@ module _ (b : Board) (n : Limits) (low high weight : List ℕ) (R : Rocks b n lo
         pub rock_is : rock_at b r ≡ neutral_job b dirs v
         pub touched : touches b (rock_at b r) v ≡ true
 
-      bench_found : (v : ℕ) → v ≡ lowest_end n.benches n.rocks low high (follows_at dir S) → v ≢ n.benches → v < b.benches
-      bench_found v e ne =
-          lt_of_ne v b.benches (subst (λ (k : ℕ). k ≤ b.benches) (sym (e ∙ lowest-neutral))
-          (least-le b.benches (λ u. S u && any b.jobs (neutral_at b dirs u)))) (λ q. ne (q ∙ sym R.benches))
-
-      neutral-step : (v r : ℕ) → v ≡ lowest_end n.benches n.rocks low high (follows_at dir S) → v ≢ n.benches
+      neutral-step : (v r : ℕ) → v ≡ lowest_end n.benches n.rocks low high (follows_at dir S) → v < n.benches
           → r ≡ least n.rocks (λ i. touches_at low high i v && neutral_rock dir i) → Step v r
-      neutral-step v r e ne first =
+      neutral-step v r e found first =
           let at : v ≡ least b.benches (λ u. S u && any b.jobs (neutral_at b dirs u)) = e ∙ lowest-neutral in
-          let below : v < b.benches = bench_found v e ne in
+          let below : v < b.benches = omega (arith, R.benches) in
           let both : (S v && any b.jobs (neutral_at b dirs v)) ≡ true =
           subst (λ (k : ℕ). (S k && any b.jobs (neutral_at b dirs k)) ≡ true) (sym at)
           (least-holds b.benches (λ u. S u && any b.jobs (neutral_at b dirs u)) (subst (λ (k : ℕ). k < b.benches) at below)) in
@@ -207,35 +228,54 @@ module _ (b : Board) (n : Limits) (low high weight : List ℕ) (R : Rocks b n lo
     pub marks : ShowsMarks b now_marks marked
     pub same : follow b.jobs b dirs ms ≡ follow k b now_dirs now_marks
 
-  module _ {dirs : Directions} {ms : List Bool} {k : ℕ} {dir : List ℕ} {marked : ℕ} (I : Following dirs ms k dir marked) (v : ℕ)
-      (e : v ≡ lowest_end n.benches n.rocks low high (follows_at dir (is_set 64 marked))) where
-    follow-at : v ≡ marked_bench b I.now_dirs I.now_marks
-    follow-at = e ∙ lowest-neutral I.now_dirs dir I.directed (is_set 64 marked)
+  module _ {dirs : Directions} {ms : List Bool} {k : ℕ} {dir : List ℕ} {marked : ℕ} (I : Following dirs ms k dir marked) where
+    abbrev lowest_marked : ℕ
+    lowest_marked = lowest_end n.benches n.rocks low high (follows_at dir (is_set 64 marked))
+
+    follow-at : lowest_marked ≡ marked_bench b I.now_dirs I.now_marks
+    follow-at = lowest-neutral I.now_dirs dir I.directed (is_set 64 marked)
         ∙ least_cong b.benches (λ u. is_set 64 marked u && any b.jobs (neutral_at b I.now_dirs u))
         (λ u. get_or I.now_marks u false && any b.jobs (neutral_at b I.now_dirs u))
         (λ u l. ap (λ (x : Bool). x && any b.jobs (neutral_at b I.now_dirs u)) (I.marks.entries u l))
 
-    pub follow-ends : v ≡ n.benches → Directed b (follow b.jobs b dirs ms) dir
-    follow-ends stop = subst (λ (x : Directions). Directed b x dir)
-        (sym (I.same ∙ follow-stops k b I.now_dirs I.now_marks (sym follow-at ∙ stop ∙ R.benches))) I.directed
+    pub follow-ends : {o : Option ℕ} → o ≡ then_some (ltb lowest_marked n.benches) lowest_marked → o ≡ None
+        → Directed b (follow b.jobs b dirs ms) dir
+    follow-ends e none =
+        let far = below-none n.benches lowest_marked e none in
+        let stop : marked_bench b I.now_dirs I.now_marks ≡ b.benches =
+        omega (arith, far, follow-at, R.benches, lowest-at-most I.now_dirs dir I.directed (is_set 64 marked)) in
+        subst (λ (x : Directions). Directed b x dir) (sym (I.same ∙ follow-stops k b I.now_dirs I.now_marks stop)) I.directed
 
-    pub follow-next : (u r next : ℕ) {dir' : List ℕ} → v ≢ n.benches → 0 < k
-        → r ≡ least n.rocks (λ i. touches_at low high i v && neutral_rock dir i) → u ≡ other_at low high r v → dir' ≡ set dir r (plus_of u 1)
-        → ((w : ℕ) → w < 64 → is_set 64 next w ≡ (is_set 64 marked w || eqb w u)) → Following dirs ms (k - 1) dir' next
-    follow-next u r next {dir'} ne more first at d m =
-        let step = neutral-step I.now_dirs dir I.directed (is_set 64 marked) v r e ne first in
-        let j = neutral_job b I.now_dirs v in
-        let far : u ≡ other b j v = at ∙ other_at_lem b n low high weight R r v step.rock_below ∙ ap (λ (x : ℕ). other b x v) step.rock_is in
-        record {
-          now_dirs = direct b I.now_dirs v j;
-          now_marks = set I.now_marks (other b j v) true;
-          directed =
-              subst (λ (x : List ℕ). Directed b (direct b I.now_dirs v j) x) (sym (d ∙ ap (λ (x : ℕ). set dir r (plus_of x 1)) at))
-              (subst (λ (x : ℕ). Directed b (direct b I.now_dirs v x) (set dir r (plus_of (other_at low high r v) 1))) step.rock_is
-              (directs_directed b n low high weight R I.now_dirs r v step.rock_below step.touched dir I.directed));
-          marks = subst (λ (x : ℕ). ShowsMarks b (set I.now_marks x true) next) far (marks_more b I.now_marks marked u next R.few_benches I.marks m);
-          same = I.same ∙ follow-turns k b I.now_dirs I.now_marks v more follow-at step.bench_below;
-        }
+    module _ {o : Option ℕ} {v : ℕ} (e : o ≡ then_some (ltb lowest_marked n.benches) lowest_marked) (some : o ≡ Some v) where
+      abbrev neutral_here : ℕ → Bool
+      neutral_here i = touches_at low high i v && neutral_rock dir i
+
+      next_step : (r : ℕ) → r ≡ least n.rocks neutral_here → Step I.now_dirs dir I.directed (is_set 64 marked) v r
+      next_step r first =
+          let at = below-some n.benches lowest_marked e some in
+          neutral-step I.now_dirs dir I.directed (is_set 64 marked) v r at.0 at.1 first
+
+      pub some_rock : {q : Option ℕ} → q ≡ first n.rocks neutral_here → q ≡ None → ⊥
+      some_rock is none =
+          omega (arith, (next_step (least n.rocks neutral_here) refl).rock_below, R.rocks, first-none n.rocks neutral_here is none)
+
+      pub follow-next : {q : Option ℕ} {u r next l : ℕ} {dir' : List ℕ} → k ≡ l + 1 → q ≡ first n.rocks neutral_here → q ≡ Some r
+          → u ≡ other_at low high r v → dir' ≡ set dir r (plus_of u 1)
+          → ((w : ℕ) → w < 64 → is_set 64 next w ≡ (is_set 64 marked w || eqb w u)) → Following dirs ms l dir' next
+      follow-next {q} {u} {r} {next} {l} {dir'} more is rock at d m =
+          let step = next_step r (first-some n.rocks neutral_here is rock).0 in
+          let j = neutral_job b I.now_dirs v in
+          let far : u ≡ other b j v = at ∙ other_at_lem b n low high weight R r v step.rock_below ∙ ap (λ (x : ℕ). other b x v) step.rock_is in
+          record {
+            now_dirs = direct b I.now_dirs v j;
+            now_marks = set I.now_marks (other b j v) true;
+            directed =
+                subst (λ (x : List ℕ). Directed b (direct b I.now_dirs v j) x) (sym (d ∙ ap (λ (x : ℕ). set dir r (plus_of x 1)) at))
+                (subst (λ (x : ℕ). Directed b (direct b I.now_dirs v x) (set dir r (plus_of (other_at low high r v) 1))) step.rock_is
+                (directs_directed b n low high weight R I.now_dirs r v step.rock_below step.touched dir I.directed));
+            marks = subst (λ (x : ℕ). ShowsMarks b (set I.now_marks x true) next) far (marks_more b I.now_marks marked u next R.few_benches I.marks m);
+            same = I.same ∙ follow-turns k l b I.now_dirs I.now_marks v more ((below-some n.benches lowest_marked e some).0 ∙ follow-at) step.bench_below;
+          }
 
   pub follow-starts : (dirs : Directions) (ms : List Bool) (k : ℕ) {dir : List ℕ} {marked : ℕ} → Directed b dirs dir → ShowsMarks b ms marked → k ≡ n.jobs
       → Following dirs ms k dir marked
@@ -315,11 +355,11 @@ module _ (b : Board) (n : Limits) (low high weight : List ℕ) (R : Rocks b n lo
                 ∙ least-members-found b.jobs b.rock within 0 found),
           )
 
-      module _ {kind : ℕ} (e : kind ≡ balance_of (count n.rocks (inside_at low dir (is_set 64 chosen))) (choices_of chosen)) where
+      module _ {kind : Balance} (e : kind ≡ balance_of (count n.rocks (inside_at low dir (is_set 64 chosen))) (choices_of chosen)) where
         balance_is : kind ≡ balance_of (count b.jobs (system_rock b dirs v)) (count b.benches (system b dirs v))
         balance_is = e ∙ ap₂ balance_of system-rocks system-size
 
-        pub settle-tree : (marked : ℕ) {dir' : List ℕ} → kind ≡ 0 → ((w : ℕ) → w < 64 → is_set 64 marked w ≡ (is_set 64 0 w || eqb w v))
+        pub settle-tree : (marked : ℕ) {dir' : List ℕ} → kind ≡ Tree → ((w : ℕ) → w < 64 → is_set 64 marked w ≡ (is_set 64 0 w || eqb w v))
             → ((ms : List Bool) → ShowsMarks b ms marked → Directed b (follow b.jobs b dirs ms) dir') → Directed b (settle_system b dirs v) dir'
         settle-tree marked {dir'} zero-kind m call =
             let tree : is_tree b dirs v ≡ true = balance_tree (count b.jobs (system_rock b dirs v)) (count b.benches (system b dirs v)) (sym balance_is ∙ zero-kind) in
@@ -329,17 +369,33 @@ module _ (b : Board) (n : Limits) (low high weight : List ℕ) (R : Rocks b n lo
             (follow b.jobs b (direct b dirs (b.low j) j) (set (nobody b) (b.high j) true))) tree))
             (call (set (nobody b) v true) (marks_more b (nobody b) 0 v marked R.few_benches (marks_none b) m))
 
-        pub settle-cycle : {r l u : ℕ} (marked : ℕ) {dir₁ dir' : List ℕ} → kind ≢ 0 → r ≡ least n.rocks (inside_at low dir (is_set 64 chosen))
+        some_inside : kind ≢ Tree → (is_tree b dirs v ≡ false) × (0 < count b.jobs (system_rock b dirs v))
+        some_inside ne =
+            let rocks = count b.jobs (system_rock b dirs v) in
+            let benches = count b.benches (system b dirs v) in
+            let cycle : is_tree b dirs v ≡ false = balance_cycle rocks benches (λ z. ne (balance_is ∙ z)) in
+            (cycle, omega (arith, ltb-false rocks benches cycle, count-pos b.benches (system b dirs v) v below (reach_refl b.benches (linked b dirs) v)))
+
+        -- A system that is no tree has a rock.
+        pub some_cycle : {q : Option ℕ} → kind ≢ Tree → q ≡ first n.rocks (inside_at low dir (is_set 64 chosen)) → q ≡ None → ⊥
+        some_cycle ne is none =
+            omega (
+              arith,
+              (system-first (some_inside ne).1 (least n.rocks (inside_at low dir (is_set 64 chosen))) refl).0,
+              R.rocks,
+              first-none n.rocks (inside_at low dir (is_set 64 chosen)) is none,
+            )
+
+        pub settle-cycle : {q : Option ℕ} {r l u : ℕ} (marked : ℕ) {dir₁ dir' : List ℕ} → kind ≢ Tree
+            → q ≡ first n.rocks (inside_at low dir (is_set 64 chosen)) → q ≡ Some r
             → l ≡ get_or low r 0 → u ≡ other_at low high r l → dir₁ ≡ set dir r (plus_of u 1)
             → ((w : ℕ) → w < 64 → is_set 64 marked w ≡ (is_set 64 0 w || eqb w u))
             → ((x : Directions) (ms : List Bool) → Directed b x dir₁ → ShowsMarks b ms marked → Directed b (follow b.jobs b x ms) dir')
             → Directed b (settle_system b dirs v) dir'
-        settle-cycle {r} {l} {u} marked {dir₁} {dir'} ne first le ue de me call =
-            let rocks = count b.jobs (system_rock b dirs v) in
-            let benches = count b.benches (system b dirs v) in
-            let cycle : is_tree b dirs v ≡ false = balance_cycle rocks benches (λ z. ne (balance_is ∙ z)) in
-            let some : 0 < rocks = omega (arith, ltb-false rocks benches cycle, count-pos b.benches (system b dirs v) v below (reach_refl b.benches (linked b dirs) v)) in
-            let (h, is) = system-first some r first in
+        settle-cycle {q} {r} {l} {u} marked {dir₁} {dir'} ne rock-is found le ue de me call =
+            let (cycle, some) = some_inside ne in
+            let first-one = (first-some n.rocks (inside_at low dir (is_set 64 chosen)) rock-is found).0 in
+            let (h, is) = system-first some r first-one in
             let j = least b.jobs (system_rock b dirs v) in
             let at : l ≡ b.low (rock_at b r) = le ∙ R.lows r h in
             let is-rock = rock_holds b n low high weight R r h in
@@ -368,26 +424,34 @@ module _ (b : Board) (n : Limits) (low high weight : List ℕ) (R : Rocks b n lo
     pub directed : Directed b now_dirs dir
     pub same : settle b dirs ≡ settle_from k b now_dirs
 
-  module _ {dirs : Directions} {k : ℕ} {dir : List ℕ} (I : Settles dirs k dir) (v all : ℕ)
-      (everywhere : (u : ℕ) → u < 64 → is_set 64 all u ≡ ltb u n.benches)
-      (e : v ≡ lowest_end n.benches n.rocks low high (follows_at dir (is_set 64 all))) where
-    settle-at : v ≡ neutral_bench b I.now_dirs
-    settle-at = e ∙ lowest-neutral I.now_dirs dir I.directed (is_set 64 all)
+  module _ {dirs : Directions} {k : ℕ} {dir : List ℕ} (I : Settles dirs k dir) (all : ℕ)
+      (everywhere : (u : ℕ) → u < 64 → is_set 64 all u ≡ ltb u n.benches) where
+    abbrev lowest_bench : ℕ
+    lowest_bench = lowest_end n.benches n.rocks low high (follows_at dir (is_set 64 all))
+
+    settle-at : lowest_bench ≡ neutral_bench b I.now_dirs
+    settle-at = lowest-neutral I.now_dirs dir I.directed (is_set 64 all)
         ∙ least_cong b.benches (λ u. is_set 64 all u && any b.jobs (neutral_at b I.now_dirs u)) (λ u. any b.jobs (neutral_at b I.now_dirs u))
         (λ u l. ap (λ (x : Bool). x && any b.jobs (neutral_at b I.now_dirs u)) (everywhere u (omega (arith, R.few_benches)) ∙ lt-ltb u n.benches (omega (arith, R.benches))))
 
-    pub settle-ends : v ≡ n.benches → Directed b (settle b dirs) dir
-    settle-ends stop = subst (λ (x : Directions). Directed b x dir)
-        (sym (I.same ∙ settle-stops k b I.now_dirs (sym settle-at ∙ stop ∙ R.benches))) I.directed
+    pub settle-ends : {o : Option ℕ} → o ≡ then_some (ltb lowest_bench n.benches) lowest_bench → o ≡ None
+        → Directed b (settle b dirs) dir
+    settle-ends e none =
+        let far = below-none n.benches lowest_bench e none in
+        let stop : neutral_bench b I.now_dirs ≡ b.benches =
+        omega (arith, far, settle-at, R.benches, lowest-at-most I.now_dirs dir I.directed (is_set 64 all)) in
+        subst (λ (x : Directions). Directed b x dir) (sym (I.same ∙ settle-stops k b I.now_dirs stop)) I.directed
 
-    pub settle-next : {dir' : List ℕ} → v ≢ n.benches → 0 < k
-        → ((x : Directions) → Directed b x dir → v < b.benches → Directed b (settle_system b x v) dir') → Settles dirs (k - 1) dir'
-    settle-next ne more call =
-        let below = bench_found I.now_dirs dir I.directed (is_set 64 all) v e ne in
+    pub settle-next : {o : Option ℕ} {v l : ℕ} {dir' : List ℕ} → o ≡ then_some (ltb lowest_bench n.benches) lowest_bench
+        → o ≡ Some v → k ≡ l + 1
+        → ((x : Directions) → Directed b x dir → v < b.benches → Directed b (settle_system b x v) dir') → Settles dirs l dir'
+    settle-next {o} {v} {l} e some more call =
+        let at = below-some n.benches lowest_bench e some in
+        let below : v < b.benches = omega (arith, at.1, R.benches) in
         record {
           now_dirs = settle_system b I.now_dirs v;
           directed = call I.now_dirs I.directed below;
-          same = I.same ∙ settle-turns k b I.now_dirs v more settle-at below;
+          same = I.same ∙ settle-turns k l b I.now_dirs v more (at.0 ∙ settle-at) below;
         }
 
   pub settle-starts : (dirs : Directions) (k : ℕ) {dir : List ℕ} → Directed b dirs dir → k ≡ n.jobs → Settles dirs k dir

@@ -1,39 +1,14 @@
 // Shows a sheet that is read from standard input: its head, bookings and jobs, or its first fault.
 #![tactic(auto)]
 
-ghost use Rattle.std.specs.Prelude.{◌≡◌, ℕ, List, length, take};
-ghost use Rattle.frame.specs.Reading.{read_sheet, stored};
-
-use frame::{Fault, Reading, Sheet, Verdict};
+use frame::{Fault, Sheet};
 use std::io;
 
-// One byte more than a sheet may have, so that fault 1 can be seen.
-const SHEET_ROOM: usize = 65537;
-
 fn main(rt: HostRuntime) -> io::Result<()> {
-    let mut buffer = [0u8; SHEET_ROOM];
-    let n = input::read_full(&mut rt.stdin(), &mut buffer)?;
-    let reading = input_read(n, &buffer);
-    let verdict = reading.verdict;
-    match verdict {
-        Verdict::Refused(f) => show_fault(&rt, f),
-        Verdict::Accepted => {
-            let sheet = reading.sheet;
-            show_sheet(&rt, sheet)
-        }
+    match input::read_sheet(&mut rt.stdin())? {
+        Err(f) => show_fault(&rt, f),
+        Ok(sheet) => show_sheet(&rt, sheet),
     }
-}
-
-// What the whole input s is read as, if the buffer's first n bytes are those of s, as far as the buffer has room.
-fn input_read(n: usize, buffer: &[u8; SHEET_ROOM]) -> Reading
-    ensures { (s : List ℕ) → take n buffer.now ≡ take (length buffer.now) s
-        → result ≡ stored (read_sheet s) }
-{
-    let whole: &[u8] = buffer;
-    if n < whole.len() {
-        return reading::read(&whole[..n]);
-    }
-    reading::read(whole)
 }
 
 fn show_fault(rt: &impl Print, f: Fault) -> io::Result<()> {
@@ -48,10 +23,7 @@ fn show_sheet(rt: &impl Print, s: Sheet) -> io::Result<()> {
         h.benches, h.p, h.q, h.target
     )?;
     show_bookings(rt, &s.booked)?;
-    for n in 0..512usize {
-        if count <= n {
-            return Ok(());
-        }
+    for n in 0..count.min(512) {
         show_job(rt, n, s.minutes[n], s.allowed[n])?;
     }
     Ok(())
@@ -59,10 +31,9 @@ fn show_sheet(rt: &impl Print, s: Sheet) -> io::Result<()> {
 
 // The minutes booked on each bench, by rising bench, where there are any.
 fn show_bookings(rt: &impl Print, booked: &[u64]) -> io::Result<()> {
-    for b in 0..booked.len() {
-        let minutes = booked[b];
-        if minutes != 0 {
-            show_booking(rt, b, minutes)?;
+    for (b, minutes) in booked.iter().enumerate() {
+        if *minutes != 0 {
+            show_booking(rt, b, *minutes)?;
         }
     }
     Ok(())

@@ -6,12 +6,12 @@
 --     Gathered                       what the loop that gathers rocks keeps; how it starts, goes on and ends
 use Prim.Native.Nat.{ℕ, zero, suc, ◌+◌, ◌-◌, ◌*◌, ◌^◌, ◌≤◌, ◌<◌}
 use mathlib.Core.Path.{◌≡◌, refl, sym, ap, ap₂, subst, ◌∙◌}
-use mathlib.Core.Bool.{Bool, true, false, cond, not, ◌&&◌}
+use mathlib.Core.Bool.{Bool, true, false, not, ◌&&◌}
 use mathlib.Core.Logic.{inl, inr, ⊎_elim}
 use mathlib.Core.List.{List}
 use native.Mathlib.Numerals.{add-one}
 use native.Mathlib.Omega.{arith}
-use lib.ListN.{length, get_or, set}
+use lib.ListN.{get_or, set}
 use lib.Dec.{eqb, leb, ltb}
 use borrow.Author.Tests.{lt-ltb}
 use Rattle.bools.proofs.BoolLaws.{split}
@@ -20,13 +20,13 @@ use Rattle.sums.specs.Sum.{on, count}
 use Rattle.sums.specs.Search.{least}
 use Rattle.sums.specs.Members.{members}
 use Rattle.sums.proofs.SearchLaws.{least-found, least-holds, least-before}
-use Rattle.sums.proofs.CountLaws.{count-le, count_cong, count-split, count_none}
+use Rattle.sums.proofs.CountLaws.{count_cong, count-split, count_none}
 use Rattle.sums.proofs.MembersLaws.{member_early, member_last}
 use Rattle.bits.specs.Bits.{is_set}
 use Rattle.arrays.specs.Arrays.{plus_of, times_of, filled}
-use Rattle.arrays.proofs.FilledLaws.{filled_none, filled_more, length-filled}
+use Rattle.arrays.proofs.FilledLaws.{filled_none, filled_more}
 use Rattle.sets.specs.Sets.{choices_of, lowest_of, highest_of}
-use Rattle.start.specs.StartArrays.{heavy_of, rock_of, pebble_of, limits_of, Bounded, Fields}
+use Rattle.start.specs.StartArrays.{heavy_of, rock_of, pebble_of, Bounded, Fields}
 use Rattle.day.specs.Day.{Day, choices, heavy, pebble, bound}
 use Rattle.algorithm.specs.Rocks.{rock, lowest, highest, weight, small, limit}
 use Rattle.algorithm.specs.SoundDay.{SoundDay}
@@ -162,43 +162,20 @@ module _ (d : Day) (B : Bounded d) where
 
 -- ── loops ──
 
-pub count_yes : (f : ℕ → Bool) (r : ℕ) {k l : ℕ} {t : Bool} → r < 2 ^ 64 - 1 → k ≡ count r f → t ≡ f r → t ≡ true → l ≡ plus_of k 1 → l ≡ count (r + 1) f
-count_yes f r {k} h e p q s =
-    let here : on (f r) 1 ≡ 1 = rw (sym p ∙ q) in
-    rw add-one (s ∙ ap (λ (m : ℕ). plus_of m 1) e ∙ omega (arith, count-le r f))
+count_yes : (f : ℕ → Bool) (r : ℕ) {k l : ℕ} → k ≡ count r f → f r ≡ true → l ≡ k + 1 → l ≡ count (r + 1) f
+count_yes f r e p s = let here : on (f r) 1 ≡ 1 = rw p in rw add-one (omega arith)
 
-pub count_no : (f : ℕ → Bool) (r : ℕ) {k l : ℕ} {t : Bool} → k ≡ count r f → t ≡ f r → t ≡ false → l ≡ k → l ≡ count (r + 1) f
-count_no f r e p q s = let here : on (f r) 1 ≡ 0 = rw (sym p ∙ q) in rw add-one (s ∙ e ∙ omega arith)
-
--- One job more of those that are gathered.
-module _ (f : ℕ → Bool) (j : ℕ) {k l : ℕ} (at : k ≡ count j f) (next : l ≡ cond (f j) (plus_of k 1) k) where
-  pub gather-count : j < 2 ^ 64 - 1 → l ≡ count (j + 1) f
-  gather-count h = elim (split (f j)) [
-    | inl p ↦ count_yes f j h at refl p (next ∙ ap (λ (x : Bool). cond x (plus_of k 1) k) p)
-    | inr p ↦ count_no f j at refl p (next ∙ ap (λ (x : Bool). cond x (plus_of k 1) k) p)
-  ]
-
-  pub gather_entry {ℓ} : {A : Type ℓ} (g : ℕ → A) (xs ys : List A) {zs : List A} (a : A) → j < 2 ^ 64 - 1 → (f j ≡ true → a ≡ g (count j f))
-      → ys ≡ filled k g xs → zs ≡ cond (f j) (set ys k a) ys → zs ≡ filled l g xs
-  gather_entry g xs ys {zs} a h same e s = elim (split (f j)) [
-    | inl p ↦
-        let more : l ≡ k + 1 = next ∙ ap (λ (x : Bool). cond x (plus_of k 1) k) p ∙ omega (arith, at, count-le j f) in
-        filled_more g k xs e (same p ∙ ap g (sym at)) (s ∙ ap (λ (x : Bool). cond x (set ys k a) ys) p) ∙ ap (λ (m : ℕ). filled m g xs) (sym more)
-    | inr p ↦
-        let still : l ≡ k = next ∙ ap (λ (x : Bool). cond x (plus_of k 1) k) p in
-        s ∙ ap (λ (x : Bool). cond x (set ys k a) ys) p ∙ e ∙ ap (λ (m : ℕ). filled m g xs) (sym still)
-  ]
-
-pub limits_are : (benches jobs p q target : ℕ) {five sum top twice sum2 top2 double rest top3 : ℕ} → five ≡ times_of 5 q → sum ≡ plus_of five p → top ≡ times_of sum target
-    → twice ≡ times_of 2 q → sum2 ≡ plus_of twice p → top2 ≡ times_of sum2 target
-    → double ≡ times_of 2 p → rest ≡ five - double → top3 ≡ times_of rest target
-    → record { benches = benches; jobs = jobs; rocks = 0; bound = top; small = top2; limit = top3 } ≡ limits_of benches jobs p q target
-limits_are benches jobs p q target e1 e2 e3 e4 e5 e6 e7 e8 e9 = cc
+count_no : (f : ℕ → Bool) (r : ℕ) {k l : ℕ} → k ≡ count r f → f r ≡ false → l ≡ k → l ≡ count (r + 1) f
+count_no f r e p s = let here : on (f r) 1 ≡ 0 = rw p in rw add-one (omega arith)
 
 -- ── gathering ──
 
 abbrev pub marks : List Bool → ℕ → Bool
 marks marked j = get_or marked j false
+
+filled_next {ℓ} : {A : Type ℓ} (f : ℕ → A) (k : ℕ) (xs : List A) {l : ℕ} {ys zs : List A} {a : A} → l ≡ k + 1
+    → ys ≡ filled k f xs → a ≡ f k → zs ≡ set ys k a → zs ≡ filled l f xs
+filled_next f k xs more e p q = filled_more f k xs e p q ∙ ap (λ (m : ℕ). filled m f xs) (sym more)
 
 -- The jobs below j were gathered.
 pub record Gathered (jobs : ℕ) (marked : List Bool) (allowed job₀ low₀ high₀ : List ℕ) (j k : ℕ) (job low high : List ℕ) : Type 0 where
@@ -218,29 +195,33 @@ module _ (jobs : ℕ) (marked : List Bool) (allowed job₀ low₀ high₀ : List
       }
 
   module _ {j k : ℕ} {job low high : List ℕ} (G : Gathered jobs marked allowed job₀ low₀ high₀ j k job low high) where
-    pub gathered_job : length job ≡ length job₀
-    gathered_job = ap length G.jobs_in ∙ length-filled (λ r. get_or (members jobs (marks marked)) r 0) k job₀
-
-    pub gathered_low : length low ≡ length low₀
-    gathered_low = ap length G.lows_in ∙ length-filled (λ r. lowest_of (get_or allowed (get_or (members jobs (marks marked)) r 0) 0)) k low₀
-
-    pub gathered_high : length high ≡ length high₀
-    gathered_high = ap length G.highs_in ∙ length-filled (λ r. highest_of (get_or allowed (get_or (members jobs (marks marked)) r 0) 0)) k high₀
-
-    pub gathered_more : {l : ℕ} {job' low' high' : List ℕ} → j < jobs → jobs < 2 ^ 64 → l ≡ cond (marks marked j) (plus_of k 1) k
-        → job' ≡ cond (marks marked j) (set job k j) job → low' ≡ cond (marks marked j) (set low k (lowest_of (get_or allowed j 0))) low
-        → high' ≡ cond (marks marked j) (set high k (highest_of (get_or allowed j 0))) high
+    -- Job j is marked, and becomes rock k.
+    pub gathered_more : {l : ℕ} {job' low' high' : List ℕ} → j < jobs → marks marked j ≡ true → l ≡ k + 1
+        → job' ≡ set job k j → low' ≡ set low k (lowest_of (get_or allowed j 0))
+        → high' ≡ set high k (highest_of (get_or allowed j 0))
         → Gathered jobs marked allowed job₀ low₀ high₀ (j + 1) l job' low' high'
-    gathered_more h small next ej el eh =
-        let few : j < 2 ^ 64 - 1 = omega arith in
-        let place : marks marked j ≡ true → j ≡ get_or (members jobs (marks marked)) (count j (marks marked)) 0 = λ p. sym (member_at jobs (marks marked) j 0 h p) in
+    gathered_more h p next ej el eh =
+        let place : j ≡ get_or (members jobs (marks marked)) k 0 =
+        sym (ap (λ (i : ℕ). get_or (members jobs (marks marked)) i 0) G.so_many ∙ member_at jobs (marks marked) j 0 h p) in
         record {
-          so_many = gather-count (marks marked) j G.so_many next few;
-          jobs_in = gather_entry (marks marked) j G.so_many next (λ r. get_or (members jobs (marks marked)) r 0) job₀ job j few place G.jobs_in ej;
-          lows_in = gather_entry (marks marked) j G.so_many next (λ r. lowest_of (get_or allowed (get_or (members jobs (marks marked)) r 0) 0)) low₀ low
-              (lowest_of (get_or allowed j 0)) few (λ p. ap (λ (i : ℕ). lowest_of (get_or allowed i 0)) (place p)) G.lows_in el;
-          highs_in = gather_entry (marks marked) j G.so_many next (λ r. highest_of (get_or allowed (get_or (members jobs (marks marked)) r 0) 0)) high₀ high
-              (highest_of (get_or allowed j 0)) few (λ p. ap (λ (i : ℕ). highest_of (get_or allowed i 0)) (place p)) G.highs_in eh;
+          so_many = count_yes (marks marked) j G.so_many p next;
+          jobs_in = filled_next (λ r. get_or (members jobs (marks marked)) r 0) k job₀ next G.jobs_in place ej;
+          lows_in = filled_next (λ r. lowest_of (get_or allowed (get_or (members jobs (marks marked)) r 0) 0)) k low₀ next
+              G.lows_in (ap (λ (i : ℕ). lowest_of (get_or allowed i 0)) place) el;
+          highs_in = filled_next (λ r. highest_of (get_or allowed (get_or (members jobs (marks marked)) r 0) 0)) k high₀ next
+              G.highs_in (ap (λ (i : ℕ). highest_of (get_or allowed i 0)) place) eh;
+        }
+
+    pub gathered_past : {l : ℕ} {job' low' high' : List ℕ} → marks marked j ≡ false → l ≡ k → job' ≡ job → low' ≡ low
+        → high' ≡ high → Gathered jobs marked allowed job₀ low₀ high₀ (j + 1) l job' low' high'
+    gathered_past p still ej el eh =
+        record {
+          so_many = count_no (marks marked) j G.so_many p still;
+          jobs_in = ej ∙ G.jobs_in ∙ ap (λ (m : ℕ). filled m (λ r. get_or (members jobs (marks marked)) r 0) job₀) (sym still);
+          lows_in = el ∙ G.lows_in
+              ∙ ap (λ (m : ℕ). filled m (λ r. lowest_of (get_or allowed (get_or (members jobs (marks marked)) r 0) 0)) low₀) (sym still);
+          highs_in = eh ∙ G.highs_in
+              ∙ ap (λ (m : ℕ). filled m (λ r. highest_of (get_or allowed (get_or (members jobs (marks marked)) r 0) 0)) high₀) (sym still);
         }
 
     pub gathered-all : j ≤ jobs → jobs ≤ j → k ≡ count jobs (marks marked)

@@ -7,18 +7,19 @@
 --     rocks_are, pebbles_are, weights-are, lowest-are     the tables of a day's jobs
 --     unpeeled-shown, start-shown       the state before the peeling, and after it
 --     long_job_is                 what the search for a long job says of the day
-use Prim.Native.Nat.{ℕ, zero, suc, ◌-◌, ◌≤◌, ◌<◌}
+use Prim.Native.Nat.{ℕ, zero, suc, ◌+◌, ◌≤◌, ◌<◌}
 use mathlib.Core.Path.{◌≡◌, refl, sym, ap, ap₂, subst, ◌∙◌}
 use mathlib.Core.Bool.{Bool, true, false, ◌&&◌}
-use mathlib.Core.Logic.{inl, inr, ◌≢◌}
+use mathlib.Core.Logic.{inl, inr}
 use mathlib.Core.List.{List}
 use native.Mathlib.Omega.{arith}
 use lib.ListN.{length, get_or, set, length-set}
 use lib.Seq.{get_or-set_same, get_or-set_other}
 use lib.Dec.{eqb, ltb}
 use borrow.Author.Tests.{eqb-true, lt-ltb, le-ltb}
+use Rattle.std.specs.Prelude.{Option, Some, None}
 use Rattle.bools.proofs.BoolLaws.{clash, and_right}
-use Rattle.bools.proofs.OrderLaws.{eq-or-ne, lt-or-le}
+use Rattle.bools.proofs.OrderLaws.{eq-or-ne}
 use Rattle.sums.specs.Sum.{count}
 use Rattle.sums.specs.Search.{least}
 use Rattle.sums.specs.Members.{members}
@@ -38,6 +39,9 @@ use Rattle.start.specs.StartArrays.{rock_of, pebble_of, Fields, JobsOf, Placed, 
 use Rattle.rocks.specs.DayArrays.{day_rocks, day_rock, DayRocks, Cycles}
 use Rattle.arrays.proofs.FilledLaws.{get_or-filled, length-filled}
 use Rattle.start.proofs.StartLaws.{lowest-is, highest-is, rock-is, pebble-is, weight_is}
+use Rattle.rocks.specs.declared.balancing.Balance.{Balance}
+use Rattle.rocks.specs.RockArrays.{first}
+use Rattle.rocks.proofs.FirstLaws.{first-some, first-none}
 use Rattle.rocks.proofs.DayRockLaws.{day-rock-below, touches_are}
 
 left_and : (l a r : Bool) → (l ≡ true → r ≡ true) → (l && a) ≡ (r && (a && l))
@@ -68,12 +72,12 @@ peel-go : (k : ℕ) (d : Day) (s : State) → ltb (next_bench d s) d.benches ≡
 unfolding peel
 peel-go k d s p = cc
 
-peel-turns : (k : ℕ) (d : Day) (s : State) (v : ℕ) → 0 < k → v ≡ next_bench d s → v < d.benches → peel k d s ≡ peel (k - 1) d (peeled s (next_job d s v) v)
-peel-turns zero d s v more e h = absurd (omega arith)
-peel-turns (suc k) d s v more e h =
-    let same : suc k - 1 ≡ k = omega arith in
-    subst (λ (u : ℕ). peel (suc k) d s ≡ peel (suc k - 1) d (peeled s (next_job d s u) u)) (sym e)
-    (rw same (peel-go k d s (lt-ltb (next_bench d s) d.benches (subst (λ (u : ℕ). u < d.benches) e h))))
+peel-turns : (k l : ℕ) (d : Day) (s : State) (v : ℕ) → k ≡ l + 1 → v ≡ next_bench d s → v < d.benches
+    → peel k d s ≡ peel l d (peeled s (next_job d s v) v)
+peel-turns k l d s v more e h =
+    let turns : k ≡ suc l = omega arith in
+    subst (λ (u : ℕ). peel k d s ≡ peel l d (peeled s (next_job d s u) u)) (sym e)
+    (ap (λ (i : ℕ). peel i d s) turns ∙ peel-go l d s (lt-ltb (next_bench d s) d.benches (subst (λ (u : ℕ). u < d.benches) e h)))
 
 module _ (d : Day) (n : Limits) (low high : List ℕ) (R : DayRocks d n low high) where
   module _ (job : List ℕ) (J : JobsOf d job) (s : State) (left : List Bool) (place : List ℕ) (S : Placed d s left place) where
@@ -96,7 +100,7 @@ module _ (d : Day) (n : Limits) (low high : List ℕ) (R : DayRocks d n low high
         ∙ sym (count-members d.jobs (rock d) (here v) 0)
         ∙ sym (count_cong d.jobs (left_at d s.left v) (λ j. rock d j && here v j) (here_left v))
 
-    module _ (balance : List ℕ) (C : Cycles d balance) where
+    module _ (balance : List Balance) (C : Cycles d balance) where
       pub hanging-is : (v : ℕ) → v < d.benches → hanging_of n.rocks job low high balance left v ≡ hanging d s.left v
       hanging-is v l = ap₂ (λ (x : Bool) (k : ℕ). x && eqb k 1) (C v l) (left_count_lem v l)
 
@@ -160,9 +164,6 @@ pub record Peeling (d : Day) (s : State) (k : ℕ) (left : List Bool) (place : L
   pub shown : Placed d at left place
   pub same : peel d.jobs d s ≡ peel k d at
 
-pub peeling_starts : (d : Day) (s : State) (k : ℕ) {left : List Bool} {place : List ℕ} → Placed d s left place → k ≡ d.jobs → Peeling d s k left place
-peeling_starts d s k S e = record { at = s; shown = S; same = ap (λ (i : ℕ). peel i d s) (sym e) }
-
 pub peeling_spent : {d : Day} {s : State} {k : ℕ} {left : List Bool} {place : List ℕ} → Peeling d s k left place → k ≤ 0
     → Placed d (peel d.jobs d s) left place
 unfolding peel
@@ -170,36 +171,59 @@ peeling_spent {d} {s} {k} {left} {place} P none =
     let e : k ≡ 0 = omega arith in
     subst (λ (x : State). Placed d x left place) (sym (P.same ∙ ap (λ (i : ℕ). peel i d P.at) e)) P.shown
 
-module _ (d : Day) (n : Limits) (low high : List ℕ) (R : DayRocks d n low high) (job : List ℕ) (J : JobsOf d job) (balance : List ℕ) (C : Cycles d balance)
-    {s : State} {k : ℕ} {left : List Bool} {place : List ℕ} (P : Peeling d s k left place) (v : ℕ)
-    (e : v ≡ least n.benches (hanging_of n.rocks job low high balance left)) where
-  peeling_at : v ≡ next_bench d P.at
-  peeling_at = e ∙ hanging-least d n low high R job J P.at left place P.shown balance C
+module _ (d : Day) (n : Limits) (low high : List ℕ) (R : DayRocks d n low high) (job : List ℕ) (J : JobsOf d job)
+    (balance : List Balance) (C : Cycles d balance) {s : State} {k : ℕ} {left : List Bool} {place : List ℕ}
+    (P : Peeling d s k left place) where
+  abbrev hangs : ℕ → Bool
+  hangs = hanging_of n.rocks job low high balance left
 
-  pub peeling_ends : v ≡ n.benches → Placed d (peel d.jobs d s) left place
-  peeling_ends stop =
-      subst (λ (x : State). Placed d x left place) (sym (P.same ∙ peel-stops k d P.at (sym peeling_at ∙ stop ∙ R.benches))) P.shown
+  next_is : least n.benches hangs ≡ next_bench d P.at
+  next_is = hanging-least d n low high R job J P.at left place P.shown balance C
 
-  pub peeling_goes_on : (r j : ℕ) {left' : List Bool} {place' : List ℕ} → v ≢ n.benches → 0 < k → r ≡ least n.rocks (left_rock job low high left v)
-      → j ≡ get_or job r 0 → left' ≡ set left j false → place' ≡ set place j v → Peeling d s (k - 1) left' place'
-  peeling_goes_on r j ne more first at el ep =
-      let below : v < d.benches = elim (lt-or-le v d.benches) [
-        | inl l ↦ l
-        | inr l ↦
-            let most : v ≤ d.benches = subst (λ (x : ℕ). x ≤ d.benches) (sym peeling_at) (least-le d.benches (hanging d P.at.left)) in
-            let same : v ≡ d.benches = omega arith in absurd (ne (same ∙ sym R.benches))
-      ] in
-      let hang : hanging d P.at.left v ≡ true =
-      subst (λ (x : ℕ). hanging d P.at.left x ≡ true) (sym peeling_at)
-      (least-holds d.benches (hanging d P.at.left) (subst (λ (x : ℕ). x < d.benches) peeling_at below)) in
-      let found = left_first d n low high R job J P.at left place P.shown v r below hang first in
-      let is : j ≡ next_job d P.at v = at ∙ J r found.0 ∙ found.1 in
-      let small : j < d.jobs = subst (λ (x : ℕ). x < d.jobs) (sym (at ∙ J r found.0)) (day-rock-below d n low high R r found.0) in
-      record {
-        at = peeled P.at j v;
-        shown = rw (el, ep) (shown-peeled d n low high R job J P.at left place P.shown j v small);
-        same = P.same ∙ peel-turns k d P.at v more peeling_at below ∙ ap (λ (x : ℕ). peel (k - 1) d (peeled P.at x v)) (sym is);
-      }
+  pub peeling_ends : {o : Option ℕ} → o ≡ first n.benches hangs → o ≡ None → Placed d (peel d.jobs d s) left place
+  peeling_ends e none =
+      let far : next_bench d P.at ≡ d.benches =
+      omega (arith, first-none n.benches hangs e none, next_is, R.benches, least-le d.benches (hanging d P.at.left)) in
+      subst (λ (x : State). Placed d x left place) (sym (P.same ∙ peel-stops k d P.at far)) P.shown
+
+  module _ {o : Option ℕ} {v : ℕ} (e : o ≡ first n.benches hangs) (some : o ≡ Some v) where
+    found : (v ≡ least n.benches hangs) × (v < n.benches)
+    found = first-some n.benches hangs e some
+
+    bench_is : v ≡ next_bench d P.at
+    bench_is = found.0 ∙ next_is
+
+    below : v < d.benches
+    below = omega (arith, found.1, R.benches)
+
+    abbrev lefts : ℕ → Bool
+    lefts = left_rock job low high left v
+
+    first_left : (r : ℕ) → r ≡ least n.rocks lefts → (r < day_rocks d) × (day_rock d r ≡ next_job d P.at v)
+    first_left r at =
+        let hang : hanging d P.at.left v ≡ true =
+        subst (λ (x : ℕ). hanging d P.at.left x ≡ true) (sym bench_is)
+        (least-holds d.benches (hanging d P.at.left) (subst (λ (x : ℕ). x < d.benches) bench_is below)) in
+        left_first d n low high R job J P.at left place P.shown v r below hang at
+
+    pub some_rock : {q : Option ℕ} → q ≡ first n.rocks lefts → q ≡ None → ⊥
+    some_rock is none =
+        omega (arith, (first_left (least n.rocks lefts) refl).0, first-none n.rocks lefts is none, R.rocks)
+
+    pub peeling_goes_on : {q : Option ℕ} {r j l : ℕ} {left' : List Bool} {place' : List ℕ} → k ≡ l + 1
+        → q ≡ first n.rocks lefts → q ≡ Some r → j ≡ get_or job r 0 → left' ≡ set left j false → place' ≡ set place j v
+        → Peeling d s l left' place'
+    peeling_goes_on {q} {r} {j} {l} more is rock at el ep =
+        let first = first_left r (first-some n.rocks lefts is rock).0 in
+        let here : j ≡ next_job d P.at v = at ∙ J r first.0 ∙ first.1 in
+        let small : j < d.jobs =
+        subst (λ (x : ℕ). x < d.jobs) (sym (at ∙ J r first.0)) (day-rock-below d n low high R r first.0) in
+        record {
+          at = peeled P.at j v;
+          shown = rw (el, ep) (shown-peeled d n low high R job J P.at left place P.shown j v small);
+          same = P.same ∙ peel-turns k l d P.at v more bench_is below
+              ∙ ap (λ (x : ℕ). peel l d (peeled P.at x v)) (sym here);
+        }
 
 -- ── what the tables of a day's start show ──
 

@@ -6,7 +6,8 @@
 --     JobsOf d job              the array holds the jobs of the day's rocks
 --     left_rock, left_count, hanging_of  left_at, its count, and hanging, in arrays
 --     Placed d s left place      the arrays show this state
-use Rattle.std.specs.Prelude.{ℕ, ◌-◌, ◌≤◌, ◌<◌, ◌^◌, ◌≡◌, Bool, true, false, not, ◌&&◌, List, length, get_or, eqb, leb, ltb}
+use Rattle.std.specs.Prelude.{ℕ, ◌-◌, ◌≤◌, ◌<◌, ◌^◌, ◌≡◌, Bool, true, false}
+use Rattle.std.specs.Prelude.{not, ◌&&◌, List, length, get_or, eqb, leb, ltb}
 use Rattle.sums.specs.Sum.{count}
 use Rattle.bits.specs.Bits.{is_set}
 use Rattle.rocks.specs.declared.rocks.Limits.{Limits}
@@ -15,7 +16,9 @@ use Rattle.algorithm.specs.Rocks.{rock}
 use Rattle.algorithm.specs.Start.{State}
 use Rattle.arrays.specs.Arrays.{plus_of, times_of}
 use Rattle.rocks.specs.RockArrays.{touches_at}
-use Rattle.rocks.specs.SpreadArrays.{cycle_balance}
+use Rattle.rocks.specs.SpreadArrays.{is_cycle}
+use Rattle.rocks.specs.declared.balancing.Balance.{Balance}
+use Rattle.rocks.specs.declared.balancing.Balance.TheVariants.{Tree}
 use Rattle.sets.specs.Sets.{choices_of}
 use Rattle.rocks.specs.DayArrays.{day_rocks, day_rock}
 
@@ -74,9 +77,9 @@ left_rock job low high left v r = touches_at low high r v && get_or left (get_or
 abbrev pub left_count : ℕ → List ℕ → List ℕ → List ℕ → List Bool → ℕ → ℕ
 left_count rocks job low high left v = count rocks (left_rock job low high left v)
 
-abbrev pub hanging_of : ℕ → List ℕ → List ℕ → List ℕ → List ℕ → List Bool → ℕ → Bool
+abbrev pub hanging_of : ℕ → List ℕ → List ℕ → List ℕ → List Balance → List Bool → ℕ → Bool
 hanging_of rocks job low high balance left v =
-    eqb (get_or balance v 0) cycle_balance && eqb (left_count rocks job low high left v) 1
+    is_cycle (get_or balance v Tree) && eqb (left_count rocks job low high left v) 1
 
 -- One entry for each job. Only rocks are left.
 pub record Placed (d : Day) (s : State) (left : List Bool) (place : List ℕ) : Type 0 where

@@ -1,24 +1,17 @@
 -- An array of which a call gets the front, and leaves numbers at the front of it.
 --     front_length        the length of an array's front
---     still_inside        what lies inside an array does so after a call that got its front
 --     front-taken         the numbers that the call left, taken out of the array again
 --     left_put            they are put to a table that has room for them: they stand at its front
 use Prim.Native.Nat.{ℕ, ◌*◌, ◌≤◌}
-use native.Mathlib.Omega.{arith}
 use mathlib.Core.Path.{◌≡◌, sym, ap, ◌∙◌}
 use mathlib.Core.List.{List, ◌++◌, append_assoc}
-use lib.ListN.{length, take, drop, length-append, length-drop}
+use lib.ListN.{length, take}
 use lib.Seq.{length-take-le, take_at}
 use Rattle.tables.specs.Tables.{put_numbers, put_fitting}
 use Rattle.tables.proofs.FrontSteps.{front_put}
 
 pub front_length : (n : ℕ) (xs : List ℕ) → n ≤ length xs → n ≡ length (take n xs)
 front_length n xs h = sym (length-take-le n xs h)
-
-pub still_inside : (n : ℕ) (xs front : List ℕ) {k : ℕ} → n ≤ length xs → length front ≡ length (take n xs)
-    → k ≤ length xs → k ≤ length (front ++ drop n xs)
-still_inside n xs front h e inside =
-    omega (arith, length-append front (drop n xs), length-take-le n xs h, length-drop n xs)
 
 -- What was lent behind the numbers, and what stands behind the part that was lent.
 module _ (ns lent rest : List ℕ) {after : List ℕ} {k : ℕ} (e : after ≡ ns ++ lent) (count : k ≡ length ns) where

@@ -5,7 +5,6 @@
 -- The same for as many numbers as there is room for:
 --     fitting_all           all of them, where there is room for all
 --     fitting_nothing, fitting_more    no number; and one more
---     three_put             three numbers
 use Prim.Native.Nat.{ℕ, ◌+◌, ◌*◌, ◌≤◌}
 use native.Mathlib.Omega.{arith}
 use mathlib.Core.Path.{◌≡◌, refl, sym, ap, ◌∙◌}
@@ -67,10 +66,3 @@ fitting_more ns t v = elim (lt-or-le (length ns) (room_of t)) [
       sym (put_none (put_fitting ns t) (length ns) v (omega (arith, length-put_fitting ns t)))
       ∙ ap (λ (xs : List ℕ). put_numbers xs t) (sym (take-append-le (room_of t) ns (v ∷ []) h))
 ]
-
-pub three_put : (t : List ℕ) (a b e : ℕ) {one two three : List ℕ} → one ≡ put_entry t 0 a → two ≡ put_entry one 1 b
-    → three ≡ put_entry two 2 e → three ≡ put_fitting (a ∷ b ∷ e ∷ []) t
-three_put t a b e first second third =
-    let begun = first ∙ ap (λ (xs : List ℕ). put_entry xs 0 a) (sym (fitting_nothing t)) ∙ fitting_more [] t a in
-    let more = second ∙ ap (λ (xs : List ℕ). put_entry xs 1 b) begun ∙ fitting_more (a ∷ []) t b in
-    third ∙ ap (λ (xs : List ℕ). put_entry xs 2 e) more ∙ fitting_more (a ∷ b ∷ []) t e

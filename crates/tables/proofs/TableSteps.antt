@@ -1,5 +1,5 @@
 -- What each step of the table functions does. A law's premises are what the code has tested, and what the calls before it ensure.
---     little8_sum             eight bytes, the last one highest, make the number of the first eight
+--     little_front, little_short      the library's number of eight bytes is the definition's, also where some are missing
 --     entry_over              an entry that the table has not begun is 0
 --     entry_here              an entry is the number of the bytes from its first on
 --     length-numbers_of       a table has as many numbers as entries
@@ -13,18 +13,22 @@
 --     loaded_front            into an array of k numbers the first k entries are loaded
 --     loaded-length, loaded_fits    they have the length that the load returns, and stand inside the array
 --     given_front, given-length     the same where a 0 that lacks bytes is not given
---     put_byte, put_all       a turn of the loop that puts a number stores the next of its bytes; after eight turns they all stand there
+--     bytes_little            the library's bytes of a number are the eight of the definition
 --     put_none, put_some      a table without room for an entry, and one with room
-use Prim.Native.Nat.{ℕ, suc, ◌+◌, ◌-◌, ◌*◌, ◌/◌, ◌%◌, ◌^◌, ◌≤◌, ◌<◌, min}
+use Prim.Native.Nat.{ℕ, suc, ◌+◌, ◌-◌, ◌*◌, ◌/◌, ◌≤◌, ◌<◌, min}
 use native.Mathlib.Numerals.{add-one}
+use native.Mathlib.Nat.{div-div-eq-div-mul}
+use Rattle.std.specs.Int.{w64, to_le_bytes, from_le_bytes}
 use native.Mathlib.Omega.{arith}
 use mathlib.Core.Path.{◌≡◌, sym, ap, subst, ◌∙◌}
 use mathlib.Core.Logic.{inl, inr}
 use mathlib.Core.Bool.{cond}
 use mathlib.Core.List.{List, [], ◌++◌}
 use lib.ListN.{length, get_or, take, drop, set, replicate, length-take, length-drop, length-replicate, drop_of_length-le}
-use lib.ListN.{get_or-append}
-use lib.Seq.{take_all, take_at, paste, paste-suc, set-append_left}
+use lib.ListN.{get_or-append, get_or-replicate, get_or-eq_default}
+use lib.Seq.{get_or-take, get_or-drop, get_or-append_right, take_all, take_at, paste, paste-suc, set-append_left}
+use borrow.Rule.Slice.PartMut.{put_mid}
+use Rattle.std.proofs.lemmas.Slice.{put_mid-paste}
 use lib.Dec.{eqb}
 use Rattle.bools.proofs.BoolLaws.{and-false_right}
 use Rattle.bools.proofs.OrderLaws.{lt-or-le, eq-or-ne}
@@ -32,18 +36,54 @@ use borrow.Author.Tests.{le-leb, lt-leb, le-ltb, lt-ltb, eq-eqb, ne_eqb}
 use Rattle.sums.specs.Table.{table}
 use Rattle.sums.proofs.TableLaws.{length-table, get_or-table, table_cong, take-table-min, set-table}
 use Rattle.bits.specs.Little.{little, little_of}
-use Rattle.bits.proofs.BitsLaws.{pow_256}
-use Rattle.bits.proofs.LittleLaws.{length-little_of, get_or-little_of, little-over}
+use Rattle.bits.proofs.LittleLaws.{length-little_of, little-over}
 use Rattle.tables.specs.Tables.{entries_of, entry_of, numbers_of, lacks_bytes, given_at, given_numbers, loaded_into}
 use Rattle.tables.specs.Tables.{put_entry}
 
 -- ── an entry ──
 
-pub little8_sum : (s : List ℕ) {a b c d e f g h : ℕ} → a ≡ get_or s 7 0 → b ≡ get_or s 6 0 → c ≡ get_or s 5 0 → d ≡ get_or s 4 0
-    → e ≡ get_or s 3 0 → f ≡ get_or s 2 0 → g ≡ get_or s 1 0 → h ≡ get_or s 0 0
-    → ((((((a * 256 + b) * 256 + c) * 256 + d) * 256 + e) * 256 + f) * 256 + g) * 256 + h ≡ little s 8
+-- The library's number of eight bytes is the definition's.
+little_whole : (s bytes : List ℕ) {n : ℕ} → ((k : ℕ) → k < 8 → get_or bytes k 0 ≡ get_or s k 0)
+    → n ≡ from_le_bytes w64 bytes → n ≡ little s 8
 unfolding little
-little8_sum s p7 p6 p5 p4 p3 p2 p1 p0 = omega arith
+little_whole s bytes same e =
+    omega (
+      arith,
+      e,
+      same 0 (omega arith),
+      same 1 (omega arith),
+      same 2 (omega arith),
+      same 3 (omega arith),
+      same 4 (omega arith),
+      same 5 (omega arith),
+      same 6 (omega arith),
+      same 7 (omega arith),
+    )
+
+-- The first eight bytes of s.
+pub little_front : (s bytes : List ℕ) {n : ℕ} → bytes ≡ take 8 s → n ≡ from_le_bytes w64 bytes → n ≡ little s 8
+little_front s bytes front e =
+    little_whole s bytes (λ k l. ap (λ (xs : List ℕ). get_or xs k 0) front ∙ get_or-take 8 s k 0 l) e
+
+-- Fewer bytes than eight, over eight zeros.
+pub little_short : (s front bytes : List ℕ) {n : ℕ} → length s < 8 → front ≡ s
+    → bytes ≡ front ++ drop (length s) (replicate 8 0) → n ≡ from_le_bytes w64 bytes → n ≡ little s 8
+little_short s front bytes short same e is = little_whole s bytes padded is
+  where
+    count : length front ≡ length s
+    count = ap length same
+
+    padded : (k : ℕ) → k < 8 → get_or bytes k 0 ≡ get_or s k 0
+    padded k l = ap (λ (xs : List ℕ). get_or xs k 0) e ∙ elim (lt-or-le k (length s)) [
+      | inl inside ↦
+          get_or-append front (drop (length s) (replicate 8 0)) 0 k (omega (arith, count))
+          ∙ ap (λ (xs : List ℕ). get_or xs k 0) same
+      | inr past ↦
+          get_or-append_right front (drop (length s) (replicate 8 0)) k 0 (omega (arith, count))
+          ∙ get_or-drop (length s) (replicate 8 0) (k - length front) 0
+          ∙ get_or-replicate 8 (length s + (k - length front)) 0 0 (omega (arith, count))
+          ∙ sym (get_or-eq_default s 0 past)
+    ]
 
 pub entry_over : (t : List ℕ) (n : ℕ) → length t / 8 < n → 0 ≡ entry_of t n
 unfolding entry_of
@@ -203,14 +243,18 @@ module _ (t into : List ℕ) (n : ℕ) {k : ℕ} {after : List ℕ} (room : leng
 
 -- ── the bytes of an entry ──
 
-pub put_byte : (t : List ℕ) (at v i : ℕ) → i < 8 → at + 8 ≤ length t
-    → set (paste t at (little_of 8 v) i) (at + i) (v / 2 ^ (8 * i) % 256) ≡ paste t at (little_of 8 v) (i + 1)
-put_byte t at v i l h =
-    rw (← pow_256 i, ← get_or-little_of 8 v i l, add-one i)
-    (paste-suc t at (little_of 8 v) i 0 (omega arith) (omega (arith, length-little_of 8 v)))
+pub bytes_little : (v : ℕ) → to_le_bytes w64 v ≡ little_of 8 v
+unfolding little_of
+bytes_little v = simp div-div-eq-div-mul
 
-pub put_all : (t : List ℕ) (at v i : ℕ) → i ≡ 8 → paste t at (little_of 8 v) i ≡ take at t ++ little_of 8 v ++ drop (at + 8) t
-put_all t at v i e = rw (e, take_all 8 (little_of 8 v) (omega (arith, length-little_of 8 v)))
+-- The bytes of v, written over those of entry n.
+pub put_over : (t : List ℕ) (n v : ℕ) {bytes : List ℕ} → 8 * n + 8 ≤ length t → bytes ≡ to_le_bytes w64 v
+    → put_mid (8 * n) (8 * n + 8 - 8 * n) t bytes ≡ put_entry t n v
+unfolding put_entry
+put_over t n v {bytes} room e =
+    let little : bytes ≡ little_of 8 v = e ∙ bytes_little v in
+    put_mid-paste (8 * n) (8 * n + 8 - 8 * n) t bytes (little_of 8 v) 8 little (omega arith) (sym (length-little_of 8 v))
+    ∙ rw (take_all 8 (little_of 8 v) (omega (arith, length-little_of 8 v)), le-leb (8 * n + 8) (length t) room)
 
 pub put_none : (t : List ℕ) (n v : ℕ) → length t < 8 * n + 8 → t ≡ put_entry t n v
 unfolding put_entry

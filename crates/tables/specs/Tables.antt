@@ -7,6 +7,7 @@
 --     given_at t missing n    entry n; where it lacks bytes and those that are there are 0, the number `missing`
 --     given_numbers t missing  all entries so
 --     first_from t from  its first entry from number `from` on that is not 0; the number of entries where there is none
+--     found_from t from  the same, and none where there is none
 --     loaded_into ns xs  the numbers xs with ns in front, as many as there is room for; the others stay
 -- A table that is written:
 --     put_entry t n v   the table with v as entry n; without room for the entry, the table as it is
@@ -14,6 +15,7 @@
 --     put_numbers ns t  the table with the numbers ns as its first entries; every other byte keeps its contents
 --     put_fitting ns t  the same with as many of the numbers as the table has room for
 use Rattle.std.specs.Prelude.{ℕ, ◌+◌, ◌*◌, ◌/◌, Bool, cond, not, ◌&&◌, List, ◌++◌, length, take, drop, eqb, leb, ltb}
+use Rattle.std.specs.Prelude.{Option, Some, None}
 use Rattle.sums.specs.Search.{least}
 use Rattle.sums.specs.Table.{table}
 use Rattle.bits.specs.Little.{little, little_of, little_all}
@@ -39,6 +41,9 @@ given_numbers t missing = table (entries_of t) (given_at t missing)
 
 unfoldable pub first_from : List ℕ → ℕ → ℕ
 first_from t from = least (entries_of t) (λ n. leb from n && not (eqb (entry_of t n) 0))
+
+unfoldable pub found_from : List ℕ → ℕ → Option ℕ
+found_from t from = cond (ltb (first_from t from) (entries_of t)) (Some (first_from t from)) None
 
 unfoldable pub loaded_into : List ℕ → List ℕ → List ℕ
 loaded_into ns xs = take (length xs) ns ++ drop (length ns) xs

@@ -8,18 +8,15 @@ use crate::table;
 pub fn room(bytes: usize, k: usize) -> usize
     ensures { result ≡ min (bytes / 8) k }
 {
-    let n = bytes / 8;
-    if n < k { n } else { k }
+    (bytes / 8).min(k)
 }
 
 // The numbers, to the front of a table, as many as it has room for.
 pub fn put_front(from: &[u64], t: &mut [u8])
     ensures { t.new ≡ put_fitting from.now t.old }
 {
-    let mut i = 0;
-    while i < from.len() {
-        table::put(t, i, from[i]);
-        i += 1;
+    for (i, &number) in from.iter().enumerate() {
+        table::put(t, i, number);
     }
 }
 
@@ -27,7 +24,5 @@ pub fn put_front(from: &[u64], t: &mut [u8])
 pub fn put_three(t: &mut [u8], first: u64, second: u64, third: u64)
     ensures { t.new ≡ put_fitting (first ∷ second ∷ third ∷ []) t.old }
 {
-    table::put(t, 0, first);
-    table::put(t, 1, second);
-    table::put(t, 2, third);
+    put_front(&[first, second, third], t);
 }

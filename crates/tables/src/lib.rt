@@ -7,4 +7,4 @@ mod words;
 
 pub use front::{put_front, put_three, room};
 pub use table::put;
-pub use words::fault_word;
+pub use words::{BEST, DIFFERENT, LONG, NONE, NOT_PASSED, NOTHING, PASSED, PLAN, SAME, fault_word};

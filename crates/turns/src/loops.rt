@@ -5,21 +5,22 @@ ghost use Rattle.algorithm.specs.Start.{start as start_of};
 ghost use Rattle.algorithm.specs.Run.{budget as budget_of};
 ghost use Rattle.run.specs.Held.{Ready, Holds, Last};
 
+use rock_graph::Graph;
 use rocks::Limits;
 use run::State;
 
 // Explorations and pushes one after another, until no bench is overloaded or no push is possible. The tables that every
 // turn reads are made first; those of the state are lent to each turn and stay where they are.
-pub fn turns<'a>(
+pub fn turns(
     first: State,
     budget: usize,
     n: Limits,
-    low: &'a [usize],
-    high: &'a [usize],
-    weight: &'a [usize],
-    amount: &'a [usize],
-    pebble: &'a [bool],
-    allowed: &'a [usize],
+    low: &[usize],
+    high: &[usize],
+    weight: &[usize],
+    amount: &[usize],
+    pebble: &[bool],
+    allowed: &[usize],
     place: &mut [u8],
     own: &mut [usize],
     reach: &mut [usize],
@@ -31,8 +32,7 @@ pub fn turns<'a>(
         → Holds d 0 (start_of d) first place.old own.old reach.old
         → length dir.old ≡ 64 → budget ≡ budget_of d → Last d result place.new dir.new }
 {
-    let mut graph = [0usize; 323];
-    rock_graph::fill_graph(n, low, high, weight, &mut graph);
+    let graph = Graph::new(n, low, high, weight);
     let mut choice = [0usize; 512];
     start::choose(n.jobs, pebble, allowed, &mut choice);
     let mut load = [0usize; 64];
@@ -40,8 +40,7 @@ pub fn turns<'a>(
     let mut level = [0usize; 64];
     let mut s = first;
     // One exploration more than there can be moves.
-    let mut left = arrays::plus(budget, 1);
-    while 0 < left {
+    for _ in 0..budget.saturating_add(1) {
         s = s.orient(
             n,
             &graph,
@@ -52,19 +51,15 @@ pub fn turns<'a>(
             &mut joined,
             &mut level,
         );
-        let active = s.active;
-        if active == 0 {
+        if s.active == 0 {
             return s;
         }
-        let before = s.moves;
-        s = s.push(
+        let Some(next) = s.push(
             n, &graph, amount, &choice, dir, &load, &joined, &level, place, own, reach,
-        );
-        let after = s.moves;
-        if after == before {
+        ) else {
             return s;
-        }
-        left -= 1;
+        };
+        s = next;
     }
     s
 }

@@ -1,13 +1,11 @@
 -- What weighs inside a set, from the arrays.
 --     inside_is         a difference of sets is empty where the one is within the other
---     heavy-job, inside_job, outside_job    the minutes of a job that count
---     on_in, on_out     those booked on a bench
---     confined_is       they are those of the day's light jobs that can go nowhere else
+--     confined_is       the minutes of a job that count are those of the day's light jobs that can go nowhere else
 --     light-more, light-ends      their sum, job by job
 --     booked_more, booked_ends    what is booked inside the set, bench by bench
 --     blocks-none, blocks-weighed     the answers
 use Prim.Native.Nat.{ℕ, ◌+◌, ◌*◌, ◌≤◌, ◌<◌, ◌^◌}
-use mathlib.Core.Path.{◌≡◌, refl, sym, ap, ap₂, subst, ◌∙◌}
+use mathlib.Core.Path.{◌≡◌, refl, sym, ap, ap₂, ◌∙◌}
 use mathlib.Core.Bool.{Bool, true, false, not, ◌&&◌, ◌||◌}
 use mathlib.Core.Logic.{inl, inr}
 use mathlib.Core.List.{List}
@@ -16,16 +14,16 @@ use native.Mathlib.Numerals.{unary_clauses}
 use lib.Dec.{eqb, ltb}
 use lib.ListN.{get_or}
 use borrow.Author.Tests.{eq-eqb, eqb-true, lt-ltb}
-use Rattle.bools.proofs.BoolLaws.{split, clash, bool_ext, and_intro, and_left, and_right, or_left, or_right, or_elim}
-use Rattle.bools.proofs.BoolLaws.{not-true, not_intro_true}
+use Rattle.bools.proofs.BoolLaws.{split, clash, bool_ext, or_left}
+use Rattle.bools.proofs.BoolLaws.{not_intro_true}
 use Rattle.bools.proofs.OrderLaws.{lt-or-le}
 use Rattle.sums.specs.Sum.{on, sum, count}
-use Rattle.sums.specs.Search.{all, any}
-use Rattle.sums.proofs.SearchLaws.{all_intro, all_elim, any_intro, any_false, any_elim}
-use Rattle.sums.proofs.SumLaws.{on-le, sum_bound, sum_cong}
+use Rattle.sums.specs.Search.{any}
+use Rattle.sums.proofs.SearchLaws.{all_intro, all_elim, any_false, any_elim}
+use Rattle.sums.proofs.SumLaws.{on-le, sum_bound}
 use Rattle.sums.proofs.CountLaws.{count-pos}
 use Rattle.bits.specs.Bits.{is_set}
-use Rattle.bits.proofs.SetBits.{is_set-zero, is_set-past, any-is_set, any-is_set-zero}
+use Rattle.bits.proofs.SetBits.{is_set-zero, any-is_set-zero}
 use Rattle.day.specs.Day.{Day, heavy, light}
 use Rattle.demand.specs.Demand.{kept_inside, lies_inside}
 use Rattle.arrays.specs.Arrays.{plus_of, times_of}
@@ -34,8 +32,7 @@ use Rattle.sets.specs.Sets.{choices_of}
 use Rattle.sets.proofs.SetLaws.{choices_below}
 use Rattle.start.specs.StartArrays.{heavy_of}
 use Rattle.start.proofs.StartLaws.{heavy-is}
-use Rattle.placements.specs.declared.least.Least.{Least}
-use Rattle.placements.specs.declared.least.Least.TheVariants.{NoPlacement, Weight}
+use Rattle.std.specs.Prelude.{Option, Some, None}
 use Rattle.placements.specs.LeastWeight.{confined_inside, least_heavy, outweighs, blocks}
 use Rattle.placements.proofs.LeastLaws.{least_small}
 use Rattle.placing.specs.declared.classes.Bay.{Bay}
@@ -64,23 +61,6 @@ inside_is a b r small less =
     gone true true e = refl
     gone true false e = clash e refl
     gone false y e = refl
-
--- ── the minutes of a job that count ──
-
-pub heavy-job : {h t : Bool} (w : Bool) (n : ℕ) → t ≡ h → t ≡ true → 0 ≡ on (not h && w) n
-heavy-job w n e p = rw (sym e ∙ p) refl
-
-pub inside_job : {h t w i : Bool} (n : ℕ) → t ≡ h → t ≡ false → i ≡ w → i ≡ true → n ≡ on (not h && w) n
-inside_job n e p f q = rw (sym e ∙ p, sym f ∙ q) refl
-
-pub outside_job : {h t w i : Bool} (n : ℕ) → t ≡ h → t ≡ false → i ≡ w → i ≡ false → 0 ≡ on (not h && w) n
-outside_job n e p f q = rw (sym e ∙ p, sym f ∙ q) refl
-
-pub on_in : {t b : Bool} {x n : ℕ} → t ≡ b → t ≡ true → x ≡ n → x ≡ on b n
-on_in e p f = rw (sym e ∙ p) f
-
-pub on_out : {t b : Bool} (n : ℕ) → t ≡ b → t ≡ false → 0 ≡ on b n
-on_out n e p = rw (sym e ∙ p) refl
 
 -- ── light jobs ──
 
@@ -210,15 +190,15 @@ module _ (d : Day) (bay : Bay) (jobs : ℕ) (minutes allowed booked : List ℕ)
     | inr p ↦ absurd (omega (arith, any-is_set-zero 64 bay.set O.of_64_bits p, O.some_bench))
   ]
 
-  blocks_is : (r : Least) → r ≡ least_heavy d its → blocks d its ≡ outweighs d its r
+  blocks_is : (r : Option ℕ) → r ≡ least_heavy d its → blocks d its ≡ outweighs d its r
   unfolding blocks
   blocks_is r e = rw (lt-ltb 0 (count d.benches its) some, e) refl
 
-  pub blocks-none : {r : Least} → r ≡ least_heavy d its → r ≡ NoPlacement → true ≡ blocks d its
+  pub blocks-none : {r : Option ℕ} → r ≡ least_heavy d its → r ≡ None → true ≡ blocks d its
   blocks-none {r} e p = sym (blocks_is r e ∙ ap (outweighs d its) p)
 
-  pub blocks-weighed : {r : Least} (w : ℕ) {lights bookings fixed k product weight : ℕ}
-      → r ≡ least_heavy d its → r ≡ Weight w
+  pub blocks-weighed : {r : Option ℕ} (w : ℕ) {lights bookings fixed k product weight : ℕ}
+      → r ≡ least_heavy d its → r ≡ Some w
       → lights ≡ sum d.jobs (λ j. on (light d j && lies_inside d its j) (d.minutes j))
       → bookings ≡ sum d.benches (λ v. on (its v) (d.booked v))
       → fixed ≡ plus_of bookings lights → k ≡ choices_of bay.set → product ≡ times_of k bay.target
@@ -248,7 +228,7 @@ module _ (d : Day) (bay : Bay) (jobs : ℕ) (minutes allowed booked : List ℕ)
       target_small : bay.target < 1073741824
       target_small = omega (arith, W.holds.target_is, W.holds.fields.bounded.target_small)
 
-      least-few : (w : ℕ) → least_heavy d its ≡ Weight w → w < 2 ^ 30
+      least-few : (w : ℕ) → least_heavy d its ≡ Some w → w < 2 ^ 30
       least-few w q =
           omega (
             arith,

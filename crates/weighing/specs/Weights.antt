@@ -5,7 +5,6 @@
 --     OfTheDay d set        the set has a bench, and none but the day's
 use Rattle.std.specs.Prelude.{ℕ, ◌<◌, ◌^◌, ◌≡◌, Bool, true, not, ◌||◌, List, get_or}
 use Rattle.bits.specs.Bits.{is_set}
-use Rattle.sums.specs.Sum.{count}
 use Rattle.sums.specs.Search.{all}
 use Rattle.day.specs.Day.{Day}
 use Rattle.start.specs.StartArrays.{Bounded}

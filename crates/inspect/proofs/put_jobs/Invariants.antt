@@ -1,7 +1,6 @@
--- The loop's invariant: the numbers of the first i jobs stand from byte 544 on, and all else is as it was.
-use Prim.Native.Nat.{◌+◌, ◌*◌, ◌-◌, ◌≤◌}
+-- The numbers of the first i jobs stand from byte 544 on, and all else is as it was.
+use Prim.Native.Nat.{◌+◌, ◌*◌}
 use mathlib.Core.Path.{◌≡◌}
-use lib.ListN.{length}
 use Rattle.bits.specs.Little.{little_all}
 use Rattle.fields.specs.Tests.{job_table}
 use Rattle.frame.proofs.WriterSteps.{written}
@@ -9,7 +8,6 @@ use Rattle.inspect.specs.Inspect.{job_numbers}
 use Rattle.inspect.proofs.put_jobs.Given as goal
 
 abbrev pub invariant-loop-i : goal.invariant-loop-i
-invariant-loop-i l = (l.i ≤ l.n) × (length l.table ≡ length l.initial.table) × (l.table ≡ written l.initial.table 544 (little_all 8 (job_numbers (job_table l.i l.minutes l.allowed))) (544 + 16 * l.i))
-
-abbrev pub decreases-loop-i : goal.decreases-loop-i
-decreases-loop-i l = l.n - l.i
+invariant-loop-i l =
+    l.table ≡ written l.initial.table 544 (little_all 8 (job_numbers (job_table l.i l.minutes l.allowed)))
+    (544 + 16 * l.i)

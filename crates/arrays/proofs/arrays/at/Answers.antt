@@ -1,7 +1,7 @@
--- Past its end the list reads 0.
-use mathlib.Core.Path.{sym}
+-- Past its end the list reads the blank.
+use mathlib.Core.Path.{◌∙◌, sym}
 use lib.ListN.{get_or-eq_default}
 use Rattle.arrays.proofs.arrays.at.Goals as goal
 
 pub returns-else-i-t : goal.returns-else-i-t
-returns-else-i-t c = sym (get_or-eq_default c.args.t.now 0 c.if-i-t.false)
+returns-else-i-t g c = c.blank.ensures ∙ sym (get_or-eq_default c.args.t.now _ c.if-i-t.false)

@@ -1,5 +1,4 @@
 -- k counts the entries passed.
-use Prim.Native.Nat.{◌≤◌, ◌-◌}
 use mathlib.Core.Path.{◌≡◌}
 use mathlib.Core.Bool.{false}
 use lib.ListN.{get_or}
@@ -7,7 +6,4 @@ use Rattle.sums.specs.Sum.{count}
 use Rattle.arrays.proofs.arrays.count.Given as goal
 
 abbrev pub invariant-loop-i : goal.invariant-loop-i
-invariant-loop-i l = (l.i ≤ l.n) × (l.k ≡ count l.i (λ j. get_or l.t j false))
-
-abbrev pub decreases-loop-i : goal.decreases-loop-i
-decreases-loop-i l = l.n - l.i
+invariant-loop-i l = l.k ≡ count l.i (λ j. get_or l.t j false)

@@ -4,4 +4,4 @@ use lib.Seq.{set_out}
 use Rattle.arrays.proofs.arrays.put.Goals as goal
 
 pub returns-else-i-t : goal.returns-else-i-t
-returns-else-i-t c = sym (set_out c.args.t.now c.args.i c.args.v c.if-i-t.false)
+returns-else-i-t g c = sym (set_out c.args.t.now c.args.i c.args.v c.if-i-t.false)

@@ -3,8 +3,8 @@ use mathlib.Core.Path.{refl, sym, ◌∙◌}
 use Rattle.arrays.proofs.ArrayLaws.{cond_yes, cond_no}
 use Rattle.arrays.proofs.arrays.where_marked.Goals as goal
 
-pub returns-then-holds : goal.returns-then-holds
-returns-then-holds c = cond_yes _ _ (sym c.holds.ensures ∙ c.if-holds.true) refl
+pub returns-then-at : goal.returns-then-at
+returns-then-at c = cond_yes _ _ (sym c.at.ensures ∙ c.if-at.true) refl
 
-pub returns-else-holds : goal.returns-else-holds
-returns-else-holds c = cond_no _ _ (sym c.holds.ensures ∙ c.if-holds.false)
+pub returns-else-at : goal.returns-else-at
+returns-else-at c = cond_no _ _ (sym c.at.ensures ∙ c.if-at.false)

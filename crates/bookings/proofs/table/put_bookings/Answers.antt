@@ -9,32 +9,29 @@ returns-then-out-count_bookings c =
     let a = c.args in
     entries_short a.booked.now a.out.now (omega (arith, c.count_bookings.ensures))
 
-pub loop-b-init : goal.loop-b-init
-loop-b-init c =
+pub loop-bench-init : goal.loop-bench-init
+loop-bench-init c =
     let a = c.args in
     entries_none a.booked.now a.out.now
 
 pub put_entry-at-requires : goal.put_entry-at-requires
 put_entry-at-requires c =
-    let l = c.loop-b in
+    let l = c.loop-bench in
     let a = c.args in
-    entry_room a.booked.now a.out.now l.b l.at l.out c.loop-b-test.true
+    entry_room a.booked.now a.out.now l.bench l.at l.out c.loop-bench-test.true
     (omega (arith, c.count_bookings.ensures)) l.invariant
 
-pub loop-b-preserved : goal.loop-b-preserved
-loop-b-preserved c =
+pub loop-bench-preserved : goal.loop-bench-preserved
+loop-bench-preserved c =
     let put = c.put_entry-at in
-    let l = c.loop-b in
+    let l = c.loop-bench in
     let a = c.args in
-    entries_more a.booked.now a.out.now l.b l.at put.result l.out _ c.loop-b-test.true
+    entries_more a.booked.now a.out.now l.bench l.at put.result l.out _ c.loop-bench-test.true
     l.invariant put.auto.out put.ensures.0 put.ensures.1
-
-pub shape_of-out : goal.shape_of-out
-shape_of-out c = c.loop-b.invariant.same_length
 
 pub returns : goal.returns
 returns c =
-    let l = c.loop-b in
+    let l = c.loop-bench in
     let a = c.args in
-    entries_put a.booked.now a.out.now l.b l.at l.out c.loop-b-test.false
+    entries_put a.booked.now a.out.now l.bench l.at l.out c.loop-bench-test.false
     (omega (arith, c.count_bookings.ensures)) l.invariant

@@ -28,7 +28,7 @@ returns-then-w-ge1048576 c =
     sym (wide_minutes a.minutes.now a.allowed.now a.count a.h w.result w.ensures (omega arith))
 
 pub loop-n-init : goal.loop-n-init
-loop-n-init c = (omega arith, λ k below. absurd (omega arith))
+loop-n-init c = λ k below. absurd (omega arith)
 
 pub overflow_mul-h : goal.overflow_mul-h
 overflow_mul-h c =
@@ -64,7 +64,7 @@ returns-then-allowed_at-ge3 c =
     (heavy-job a.h w.result (table_job ms bs l.n) (omega (arith, narrow))
     (rw (← c.allowed_at.ensures) c.if-allowed_at-ge3.true)
     (rw (← c.minutes_at.ensures) c.if-h-w.true))
-    l.invariant.1 in
+    l.invariant in
     sym (none_wide ms bs a.count a.h w.result w.ensures (omega arith) (omega arith) (omega arith) ∙ found)
 
 pub returns : goal.returns
@@ -74,7 +74,7 @@ returns c =
     let bs = a.allowed.now in
     let w = c.longest-w in
     let none = heavy_none ms bs a.count a.h w.result w.ensures
-    (λ k lt. c.loop-n.invariant.1 k (omega arith)) in
+    (λ k lt. c.loop-n.invariant k (omega arith)) in
     sym (none_wide ms bs a.count a.h w.result w.ensures (omega arith) (omega arith) (omega arith) ∙ none)
 
 pub loop-n-preserved : goal.loop-n-preserved
@@ -85,12 +85,10 @@ loop-n-preserved c =
     let n = at-loop.n in
     let w = c.longest-w.result in
     let job = table_job a.minutes.now bs n in
-    let fits : get_or bs n 0 < 2 ^ 64 = omega (arith, c.type_inv.allowed n) in (
-      omega arith,
-      below_more _ _ at-loop.invariant.1
-          (elim c.if-h-w.branch [
-            | then-h-w+else-allowed_at-ge3 k ↦
-                light_benches a.h w job fits (rw (← k.allowed_at.ensures) k.if-allowed_at-ge3.false)
-            | else-h-w k ↦ light_minutes a.h w job fits (rw (← c.minutes_at.ensures) k.if-h-w.false)
-          ]),
-    )
+    let fits : get_or bs n 0 < 2 ^ 64 = omega (arith, c.type_inv.allowed n) in
+    below_more _ _ at-loop.invariant
+    (elim c.if-h-w.branch [
+      | then-h-w+else-allowed_at-ge3 k ↦
+          light_benches a.h w job fits (rw (← k.allowed_at.ensures) k.if-allowed_at-ge3.false)
+      | else-h-w k ↦ light_minutes a.h w job fits (rw (← c.minutes_at.ensures) k.if-h-w.false)
+    ])

@@ -1,6 +1,4 @@
 -- `entry_or`: past its end the list reads as the number given for that.
-use mathlib.Core.Path.{sym}
-use lib.ListN.{get_or-eq_default}
 use Rattle.sums.proofs.TableLaws.{get_or-there}
 use Rattle.checks.proofs.hyper_edges.entry_or.Goals as goal
 
@@ -8,6 +6,3 @@ pub returns-then-n-t : goal.returns-then-n-t
 returns-then-n-t c =
     let a = c.args in
     get_or-there a.t.now a.n 0 a.missing c.if-n-t.true
-
-pub returns-else-n-t : goal.returns-else-n-t
-returns-else-n-t c = sym (get_or-eq_default c.args.t.now c.args.missing c.if-n-t.false)

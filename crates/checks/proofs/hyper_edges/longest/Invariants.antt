@@ -1,5 +1,4 @@
 -- `longest`: w is the greatest of the entries passed.
-use Prim.Native.Nat.{◌≤◌, ◌-◌}
 use mathlib.Core.Path.{◌≡◌}
 use lib.ListN.{get_or}
 use Rattle.sums.specs.Sum.{largest}
@@ -7,7 +6,4 @@ use Rattle.fields.specs.Tests.{no_minutes}
 use Rattle.checks.proofs.hyper_edges.longest.Given as goal
 
 abbrev pub invariant-loop-n : goal.invariant-loop-n
-invariant-loop-n l = (l.n ≤ l.count) × (l.w ≡ largest l.n (λ i. get_or l.minutes i no_minutes))
-
-abbrev pub decreases-loop-n : goal.decreases-loop-n
-decreases-loop-n l = l.count - l.n
+invariant-loop-n l = l.w ≡ largest l.n (λ i. get_or l.minutes i no_minutes)

@@ -1,26 +1,16 @@
--- Every job passed is on the same bench.
-use Prim.Native.Nat.{◌-◌}
-use mathlib.Core.Bool.{true}
+-- Each job is compared.
+use mathlib.Core.Path.{◌≡◌, refl}
+use mathlib.Core.Bool.{true, false}
 use native.Mathlib.Omega.{arith}
-use Rattle.lists.proofs.ListRun.{all-fails_here, all_more, all-holds}
+use Rattle.std.proofs.Common.{rules}
+use Rattle.std.proofs.lemmas.Iterator.{cases_from_all, YieldsList-from_range}
+use Rattle.lists.proofs.ListRun.{all_over}
 use Rattle.comparison.specs.Comparison.{same_place}
 use Rattle.comparison.proofs.comparison.same_places.Goals as goal
 
-pub loop-j-init : goal.loop-j-init
-loop-j-init c = (omega arith, λ i l. absurd (omega arith))
-
-pub returns-then-not-same_place : goal.returns-then-not-same_place
-returns-then-not-same_place c =
-    all-fails_here _ _ _ c.loop-j-test.true c.same_place.ensures
-    (c.if-not-same_place.true)
-
-pub loop-j-preserved : goal.loop-j-preserved
-loop-j-preserved c =
-    let at-loop = c.loop-j in (
-      omega arith,
-      all_more _ at-loop.j at-loop.invariant.1 c.same_place.ensures
-          (c.if-not-same_place.false),
-    )
-
 pub returns : goal.returns
-returns c = all-holds _ _ _ c.loop-j-test.false c.loop-j.invariant.1
+returns c =
+    let f = same_place c.args.first.now c.args.second.now in
+    all_over c.args.jobs f c.all.result
+    (cases_from_all _ _ _ (λ j. f j ≡ true) (λ j. f j ≡ false) c.all.ensures.ran
+    (YieldsList-from_range 0 c.args.jobs c.args.jobs refl (omega arith)) (λ x q k. search rules) (λ x q k. search rules))

@@ -3,8 +3,5 @@ use Rattle.decisions.proofs.DayRun.{crowded_set}
 use Rattle.deciding.proofs.deciding.crowded.Goals as goal
 
 pub returns : goal.returns
-returns c =
-    let at-component = c.component-set in
-    let at-args = c.args in
-    λ d R below.
-    crowded_set d at-args.v at-component.result at-component.type_inv (at-component.ensures d R below)
+returns c d R below =
+    crowded_set d c.args.v c.component-set.result c.component-set.type_inv (c.component-set.ensures d R below)

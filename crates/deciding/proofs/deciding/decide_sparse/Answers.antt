@@ -7,14 +7,12 @@ use Rattle.decisions.proofs.DayRun.{pebble-marks, weighed, burdened}
 use Rattle.deciding.proofs.deciding.decide_sparse.Goals as goal
 
 pub returns : goal.returns
-returns c =
-    let at-args = c.args in
-    let h = at-args.h in
-    let n = at-args.n in
-    let minutes = at-args.minutes.now in
-    let allowed = at-args.allowed.now in
-    let booked = at-args.booked in
-    λ d L S.
+returns c d L S =
+    let h = c.args.h in
+    let n = c.args.n in
+    let minutes = c.args.minutes.now in
+    let allowed = c.args.allowed.now in
+    let booked = c.args.booked in
     let F = L.fields in
     let nb = S.day_rocks.benches in
     c.decide_run.ensures d minutes (record {

@@ -6,4 +6,4 @@ pub returns-then-t-n : goal.returns-then-t-n
 returns-then-t-n c = entry_over c.args.t.now c.args.n c.if-t-n.true
 
 pub returns : goal.returns
-returns c = let a = c.args in entry_here a.t.now a.n c.little8.ensures
+returns c = entry_here c.args.t.now c.args.n c.little8.ensures

@@ -1,30 +1,15 @@
--- The loop's invariant: the entries passed so far are 0.
-use native.Mathlib.Omega.{arith}
-use mathlib.Core.Path.{sym, ◌∙◌}
-use Rattle.tables.proofs.FirstSteps.{passed_none, passed_more, first_here, first_none}
+-- The search is over the numbers of the entries.
+use Rattle.std.proofs.Common.{◌≡◌, arith, rules, tests}
+use mathlib.Core.Logic.{◌≢◌}
+use Rattle.std.proofs.lemmas.Iterator.{first_from_Range}
+use Rattle.tables.specs.Tables.{entry_of}
+use Rattle.tables.proofs.FirstSteps.{search_found}
 use Rattle.entries.proofs.table.first_from.Goals as goal
-
-pub loop-i-init : goal.loop-i-init
-loop-i-init c =
-    let a = c.args in
-    (omega arith, c.entries-all.ensures, passed_none a.t.now a.from)
-
-pub returns-then-entry-ne0 : goal.returns-then-entry-ne0
-returns-then-entry-ne0 c =
-    let a = c.args in
-    let l = c.loop-i in
-    first_here a.t.now a.from l.i l.invariant.2 l.invariant.0 (omega (arith, l.invariant.1))
-    (λ e. c.if-entry-ne0.true (c.entry.ensures ∙ e))
-
-pub loop-i-preserved : goal.loop-i-preserved
-loop-i-preserved c =
-    let a = c.args in
-    let l = c.loop-i in
-    let zero = sym c.entry.ensures ∙ c.if-entry-ne0.false in
-    (omega (arith, l.invariant.0), l.invariant.1, passed_more a.t.now a.from l.i l.invariant.2 zero)
 
 pub returns : goal.returns
 returns c =
-    let a = c.args in
-    let l = c.loop-i in
-    l.invariant.1 ∙ first_none a.t.now a.from l.i l.invariant.2 (omega (arith, l.invariant.1))
+    let t = c.args.t.now in
+    search_found t c.args.from c.entries.result c.find.result c.entries.ensures
+    (first_from_Range _ _ _ _ (λ n. entry_of t n ≢ 0) (λ n. entry_of t n ≡ 0) c.find.ensures.ran
+    (λ x q k. grind (arith, tests))
+    (λ x q k. (search rules, grind (arith, tests))))

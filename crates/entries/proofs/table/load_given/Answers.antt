@@ -6,44 +6,28 @@ use Prim.Native.Nat.{ℕ, ◌/◌}
 use lib.ListN.{length, get_or, set}
 use Rattle.tables.proofs.TableSteps.{given_kept, given_marked, loaded_entry}
 use Rattle.entries.proofs.table.load_given.Goals as goal
+use Rattle.entries.proofs.table.load_given.Goals.{else-last-n-via-then-last-n+else-into-last-eq0, else-last-n-via-else-last-n}
 
-pub returns-then-into-last-eq0 : goal.returns-then-into-last-eq0
-returns-then-into-last-eq0 c =
-    let a = c.args in
-    let x = c.load-n in
-    let t = a.t.now in
-    let into = a.into.now in
+pub returns-then-into-last-eq0-clause-loaded : goal.returns-then-into-last-eq0-clause-loaded
+returns-then-into-last-eq0-clause-loaded c =
+    let t = c.args.t.now in
+    let into = c.args.into.now in
     let last = length t / 8 in
-    let entry = loaded_entry t a.missing into last (omega (arith, x.ensures.counted, c.if-last-n.true)) in
-    let zero = sym entry ∙ sym (ap (λ (xs : List ℕ). get_or xs last 0) x.ensures.loaded) ∙ c.if-into-last-eq0.true in
-    record {
-      counted = x.ensures.counted;
-      loaded = ap (λ (xs : List ℕ). set xs last a.missing) x.ensures.loaded
-          ∙ given_marked t a.missing into x.result last x.ensures.counted refl c.if-last-n.true zero;
-    }
+    let entry = loaded_entry t c.args.missing into last (omega (arith, c.load-n.ensures.counted, c.if-last-n.true)) in
+    let zero = sym entry ∙ sym (ap (λ (xs : List ℕ). get_or xs last 0) c.load-n.ensures.loaded) ∙ c.if-into-last-eq0.true in
+    ap (λ (xs : List ℕ). set xs last c.args.missing) c.load-n.ensures.loaded
+    ∙ given_marked t c.args.missing into c.load-n.result last c.load-n.ensures.counted refl c.if-last-n.true zero
 
-pub returns-else-into-last-eq0 : goal.returns-else-into-last-eq0
-returns-else-into-last-eq0 c =
-    let a = c.args in
-    let x = c.load-n in
-    let t = a.t.now in
-    let into = a.into.now in
+pub returns-else-last-n-clause-loaded : goal.returns-else-last-n-clause-loaded
+returns-else-last-n-clause-loaded c =
+    let t = c.args.t.now in
+    let into = c.args.into.now in
     let last = length t / 8 in
-    let entry = loaded_entry t a.missing into last (omega (arith, x.ensures.counted, c.if-last-n.true)) in
-    record {
-      counted = x.ensures.counted;
-      loaded = x.ensures.loaded ∙ given_kept t a.missing into x.result last x.ensures.counted refl
-          (λ l zero. c.if-into-last-eq0.false (ap (λ (xs : List ℕ). get_or xs last 0) x.ensures.loaded ∙ entry ∙ zero));
-    }
-
-pub returns-else-last-n : goal.returns-else-last-n
-returns-else-last-n c =
-    let a = c.args in
-    let x = c.load-n in
-    let t = a.t.now in
-    let into = a.into.now in
-    record {
-      counted = x.ensures.counted;
-      loaded = x.ensures.loaded ∙ given_kept t a.missing into x.result (length t / 8) x.ensures.counted refl
-          (λ l zero. omega (arith, c.if-last-n.false));
-    }
+    c.load-n.ensures.loaded
+    ∙ given_kept t c.args.missing into c.load-n.result last c.load-n.ensures.counted refl
+    (λ l zero. elim c.else-last-n.branch [
+      | else-last-n-via-then-last-n+else-into-last-eq0 w ↦
+          let entry = loaded_entry t c.args.missing into last (omega (arith, c.load-n.ensures.counted, l)) in
+          w.if-into-last-eq0.false (ap (λ (xs : List ℕ). get_or xs last 0) c.load-n.ensures.loaded ∙ entry ∙ zero)
+      | else-last-n-via-else-last-n w ↦ omega (arith, w.if-last-n.false)
+    ])

@@ -1,11 +1,10 @@
 -- The arrays show a state from which the rounds that are left give what the exploration gives (ExploreSets).
-use Prim.Native.Nat.{◌-◌}
 use mathlib.Core.Path.{◌≡◌}
-use lib.ListN.{length, replicate}
+use lib.ListN.{replicate}
 use Rattle.algorithm.specs.Board.{Board}
 use Rattle.algorithm.specs.Forced.{forced_orientations}
 use Rattle.arrays.specs.Arrays.{plus_of}
-use Rattle.rocks.specs.BoardArrays.{Seen, Owned}
+use Rattle.rocks.specs.BoardArrays.{Owned, Seen}
 use Rattle.explore.specs.ExploreArrays.{Reaches}
 use Rattle.forced.specs.SetArrays.{Nowhere, forces_at}
 use Rattle.forced.specs.CandidateArrays.{Neutral}
@@ -14,7 +13,10 @@ use Rattle.rock_graph.specs.Graph.{lows, highs, weights, RockGraph}
 use Rattle.explore.proofs.rounds.explore.Given as goal
 
 abbrev pub invariant-loop-i : goal.invariant-loop-i
-invariant-loop-i l = (length l.dir ≡ length l.initial.dir) × (length l.load ≡ length l.initial.load) × (length l.joined ≡ length l.initial.joined) × (length l.level ≡ length l.initial.level) × ((b : Board) (G : RockGraph b l.n l.graph) → Owned b l.own → Reaches b l.reach → Seen b (forced_orientations b (replicate b.jobs 0)) l.initial.dir l.initial.load → Nowhere l.n (lows l.graph) (highs l.graph) (forces_at l.n.bound (weights l.graph) l.initial.dir l.initial.load) → Neutral l.n l.initial.dir l.initial.neutral → l.initial.joined ≡ replicate 64 (plus_of l.n.benches 1) → l.initial.level ≡ replicate 64 (plus_of l.n.benches 1) → Exploration b l.n (lows l.graph) (highs l.graph) (weights l.graph) G.rocks l.i l.all l.dir l.load l.joined l.level l.neutral l.active l.fresh l.wait)
-
-abbrev pub decreases-loop-i : goal.decreases-loop-i
-decreases-loop-i l = l.turns - l.i
+invariant-loop-i l =
+    (b : Board) (G : RockGraph b l.n l.graph) → Owned b l.own → Reaches b l.reach
+    → Seen b (forced_orientations b (replicate b.jobs 0)) l.initial.dir l.initial.load
+    → Nowhere l.n (lows l.graph) (highs l.graph) (forces_at l.n.bound (weights l.graph) l.initial.dir l.initial.load)
+    → Neutral l.n l.initial.dir l.initial.neutral → l.initial.joined ≡ replicate 64 (plus_of l.n.benches 1)
+    → l.initial.level ≡ replicate 64 (plus_of l.n.benches 1)
+    → Exploration b l.n _ _ _ G.rocks l.i l.all l.dir l.load l.joined l.level l.neutral l.active l.fresh l.wait

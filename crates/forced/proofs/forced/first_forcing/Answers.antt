@@ -2,63 +2,44 @@
 use native.Mathlib.Omega.{arith}
 use Rattle.forced.specs.SetArrays.{forces_at}
 use Rattle.forced.specs.CandidateArrays.{some_rock}
-use Rattle.sets.proofs.SetRun.{lowest-below, searched_starts, searched_goes_on}
+use Rattle.sets.proofs.SetRun.{first_below, searched_goes_on}
 use Rattle.forced.proofs.CandidateLaws.{rock_found, rock_none, bench_found, bench_none, bench_left}
 use Rattle.rock_graph.specs.Graph.{incidents, weights}
 use Rattle.forced.proofs.forced.first_forcing.Goals as goal
 
-pub loop-left-init : goal.loop-left-init
-loop-left-init c =
-    let at-args = c.args in (
-      omega arith,
-      λ n dir H N. searched_starts at-args.cand (some_rock (incidents at-args.graph.now)
-          (forces_at at-args.bound (weights at-args.graph.now) dir at-args.load.now)),
+pub returns-in-Some : goal.returns-in-Some
+returns-in-Some c = λ n dir H N.
+    let P = forces_at c.args.bound (weights c.args.graph.now) dir c.args.load.now in
+    let S = c.loop-left.invariant.1 n dir H N in
+    let below = first_below c.args.cand c.loop-left.left c.lowest-bench.result c.lowest-bench.ensures
+    c.loop-left-test.true c.loop-left.invariant.0 c.ranges.cand.fits in
+    let rock = c.in-Some.ensures n dir H N below in (
+      bench_found (incidents c.args.graph.now) P c.args.cand c.loop-left.left S c.lowest-bench.result
+          c.lowest-bench.ensures below (rock_found (incidents c.args.graph.now) P c.lowest-bench.result c.in-Some.rock rock),
+      rock,
+      bench_left (incidents c.args.graph.now) P c.args.cand c.loop-left.left S,
     )
-
-pub returns-then-r-lt64 : goal.returns-then-r-lt64
-returns-then-r-lt64 c = λ n dir H N.
-    let at-args = c.args in
-    let at-loop = c.loop-left in
-    let at-lowest = c.lowest-v in
-    let at-forced-rock = c.forced_rock-r in
-    let P = forces_at at-args.bound (weights at-args.graph.now) dir at-args.load.now in
-    let S = at-loop.invariant.1 n dir H N in
-    let below = lowest-below at-loop.left at-lowest.result at-lowest.ensures (omega arith) (omega (arith, at-loop.invariant.0, c.ranges.cand.fits)) in
-    let rock = at-forced-rock.ensures n dir H N below in
-    (bench_found (incidents at-args.graph.now) P at-args.cand at-loop.left S at-lowest.result at-lowest.ensures below (rock_found (incidents at-args.graph.now) P at-lowest.result at-forced-rock.result rock (omega arith)), (λ h. (omega arith, rock)), bench_left (incidents at-args.graph.now) P at-args.cand at-loop.left S)
 
 pub loop-left-smaller : goal.loop-left-smaller
 loop-left-smaller c =
-    let at-lowest = c.lowest-v in
-    let at-loop = c.loop-left in
-    let at-fits = c.ranges in
-    c.after-left.ensures.1 at-lowest.ensures (lowest-below at-loop.left at-lowest.result at-lowest.ensures
-    (omega arith) (omega (arith, at-loop.invariant.0, at-fits.cand.fits)))
+    c.after-left.ensures.1 c.lowest-bench.ensures (first_below c.args.cand c.loop-left.left c.lowest-bench.result
+    c.lowest-bench.ensures c.loop-left-test.true c.loop-left.invariant.0 c.ranges.cand.fits)
 
 pub loop-left-preserved : goal.loop-left-preserved
 loop-left-preserved c =
-    let at_after = c.after-left in
-    let at-forced-rock = c.forced_rock-r in
-    let at-lowest = c.lowest-v in
-    let at-loop = c.loop-left in
-    let at-args = c.args in
-    let at-fits = c.ranges in
-    let below = lowest-below at-loop.left at-lowest.result at-lowest.ensures (omega arith)
-    (omega (arith, at-loop.invariant.0, at-fits.cand.fits)) in
-    let less = at_after.ensures.1 at-lowest.ensures below in (
-      omega (arith, less, at-loop.invariant.0),
-      λ n dir H N. let P = forces_at at-args.bound
-          (weights at-args.graph.now) dir at-args.load.now in searched_goes_on at-args.cand
-          (some_rock (incidents at-args.graph.now) P) at-loop.left at-lowest.result (at-loop.invariant.1 n dir H N)
-          at-lowest.ensures below at_after.result (at_after.ensures.0 at-lowest.ensures) less
-          (rock_none (incidents at-args.graph.now) P at-lowest.result at-forced-rock.result
-          (at-forced-rock.ensures n dir H N below) (omega arith)),
+    let below = first_below c.args.cand c.loop-left.left c.lowest-bench.result c.lowest-bench.ensures
+    c.loop-left-test.true c.loop-left.invariant.0 c.ranges.cand.fits in
+    let less = c.after-left.ensures.1 c.lowest-bench.ensures below in (
+      omega (arith, less, c.loop-left.invariant.0),
+      λ n dir H N.
+          let P = forces_at c.args.bound (weights c.args.graph.now) dir c.args.load.now in
+          searched_goes_on c.args.cand (some_rock (incidents c.args.graph.now) P) c.loop-left.left c.lowest-bench.result
+          (c.loop-left.invariant.1 n dir H N) c.lowest-bench.ensures below c.after-left.result
+          (c.after-left.ensures.0 c.lowest-bench.ensures) less
+          (rock_none (incidents c.args.graph.now) P c.lowest-bench.result (c.in_default.ensures n dir H N below)),
     )
 
 pub returns : goal.returns
 returns c = λ n dir H N.
-    let at-args = c.args in
-    let at-loop = c.loop-left in
-    let P = forces_at at-args.bound (weights at-args.graph.now) dir at-args.load.now in
-    let S = at-loop.invariant.1 n dir H N in
-    (bench_none (incidents at-args.graph.now) P at-args.cand at-loop.left S (omega arith), (λ h. absurd (omega arith)), bench_left (incidents at-args.graph.now) P at-args.cand at-loop.left S)
+    bench_none (incidents c.args.graph.now) (forces_at c.args.bound (weights c.args.graph.now) dir c.args.load.now)
+    c.args.cand c.loop-left.left (c.loop-left.invariant.1 n dir H N) (omega arith)

@@ -1,16 +1,17 @@
 -- The arrays, the candidates and the neutral rocks follow the outer loop (ForcedLoops).
-use mathlib.Core.Path.{◌≡◌}
-use lib.ListN.{length}
+use Prim.Native.Nat.{◌-◌}
 use Rattle.algorithm.specs.Board.{Board, Directions}
 use Rattle.rocks.specs.BoardArrays.{Seen}
 use Rattle.forced.specs.SetArrays.{forces_at, Covers}
 use Rattle.forced.specs.CandidateArrays.{Neutral}
 use Rattle.forced.proofs.ForcedLoops.{OuterSets}
-use Rattle.rock_graph.specs.Graph.{incidents, lows, highs, weights, RockGraph}
+use Rattle.rock_graph.specs.Graph.{lows, highs, weights, RockGraph}
 use Rattle.forced.proofs.forced.force.Given as goal
 
-abbrev pub invariant-loop-turns : goal.invariant-loop-turns
-invariant-loop-turns l = (length l.dir ≡ length l.initial.dir) × (length l.load ≡ length l.initial.load) × ((b : Board) (dirs : Directions) (G : RockGraph b l.n l.graph) → Neutral l.n l.initial.dir l.before → Covers l.n (lows l.graph) (highs l.graph) (forces_at l.n.bound (weights l.graph) l.initial.dir l.initial.load) l.watch → Seen b dirs l.initial.dir l.initial.load → OuterSets b l.n (lows l.graph) (highs l.graph) (weights l.graph) G.rocks (incidents l.graph) G.few_rocks G.maps.incidence dirs l.initial.dir l.turns l.dir l.load l.left l.tails l.neutral)
-
-abbrev pub decreases-loop-turns : goal.decreases-loop-turns
-decreases-loop-turns l = l.turns
+abbrev pub invariant-loop : goal.invariant-loop
+invariant-loop l =
+    (b : Board) (dirs : Directions) (G : RockGraph b l.n l.graph) → Neutral l.n l.initial.dir l.neutral
+    → Covers l.n (lows l.graph) (highs l.graph) (forces_at l.n.bound (weights l.graph) l.initial.dir l.initial.load) l.watch
+    → Seen b dirs l.initial.dir l.initial.load
+    → OuterSets b l.n (lows l.graph) (highs l.graph) (weights l.graph) G.rocks _ G.few_rocks G.maps.incidence dirs
+    l.initial.dir (l.n.jobs - l.counter) l.dir l.load l.left l.changed.benches l.changed.neutral

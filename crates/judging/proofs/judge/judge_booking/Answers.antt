@@ -1,7 +1,8 @@
 -- `judge_booking`: at each return the tests that led there decide which of the faults 4 to 6, 14 and 15 is first.
-use Rattle.fields.specs.declared.fault.Verdict.{Verdict}
+use Rattle.std.specs.Prelude.{Ok}
+use Rattle.std.proofs.lemmas.Result.{err_from_is_err_and}
 use Rattle.judging.specs.declared.judge.Frame.TheVariants.{Booking}
-use Rattle.fields.specs.Tests.{first_fault, booking_faults}
+use Rattle.fields.specs.Tests.{Verdict, first_fault, booking_faults}
 use borrow.Author.Tests.{eq-eqb, ne_eqb, lt-ltb, le-ltb}
 use mathlib.Core.Path.{sym, ap, ◌∙◌}
 use lib.ListN.{length}
@@ -38,9 +39,9 @@ returns-then-booking_spare-ne0 c =
       ne_eqb (field booking_layout 2 a.body.now) 0 (λ e. c.if-booking_spare-ne0.true (c.booking_spare.ensures ∙ e)),
     )
 
-pub returns-in-Refused : goal.returns-in-Refused
+pub returns-in_err-check_booking : goal.returns-in_err-check_booking
 unfolding frame_of frame_faults
-returns-in-Refused c =
+returns-in_err-check_booking c =
     let at-if3 = c.if-booking_spare-ne0 in
     let at-spare = c.booking_spare in
     let at-if2 = c.if-body-ne-BOOKING_LENGTH in
@@ -48,19 +49,22 @@ returns-in-Refused c =
     let a = c.args in
     let body = a.body.now in
     let read = c.read_booking-b.ensures in
+    let p = err_from_is_err_and c.from_residual.result c.from_residual.ensures.1 in
     rw (
+      p.1,
+      p.2,
       c.in-Open.is,
       le-ltb 0 a.n at-if1.false,
       eq-eqb (length body) 4 at-if2.false,
       eq-eqb (field booking_layout 2 body) 0 (sym at-spare.ensures ∙ at-if3.false),
     )
     (ap (λ (v : Verdict). sound v (Booking (booking_of body)))
-    (sym c.in-Refused.is ∙ c.check_booking.ensures
+    (sym c.in_err-check_booking.was ∙ c.check_booking.ensures
     ∙ ap (λ x. first_fault (booking_faults a.benches (is_set 64 a.had) x a.at)) read))
 
-pub returns-in-Accepted : goal.returns-in-Accepted
+pub returns : goal.returns
 unfolding frame_of frame_faults
-returns-in-Accepted c =
+returns c =
     let at-if3 = c.if-booking_spare-ne0 in
     let at-spare = c.booking_spare in
     let at-if2 = c.if-body-ne-BOOKING_LENGTH in
@@ -74,9 +78,9 @@ returns-in-Accepted c =
       eq-eqb (length body) 4 at-if2.false,
       eq-eqb (field booking_layout 2 body) 0 (sym at-spare.ensures ∙ at-if3.false),
     )
-    (ap (λ b. Booking b) read
+    (ap (λ b. Ok (Booking b)) read
     ∙ ap (λ (v : Verdict). sound v (Booking (booking_of body)))
-    (sym c.in-Accepted.is ∙ c.check_booking.ensures
+    (sym c.in_ok-check_booking.was ∙ c.check_booking.ensures
     ∙ ap (λ x. first_fault (booking_faults a.benches (is_set 64 a.had) x a.at)) read))
 
 pub returns-in_default : goal.returns-in_default

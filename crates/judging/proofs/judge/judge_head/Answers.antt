@@ -1,7 +1,8 @@
 -- `judge_head`: at each return the tests that led there decide which of the faults 4 to 8 is first.
-use Rattle.fields.specs.declared.fault.Verdict.{Verdict}
+use Rattle.std.specs.Prelude.{Ok}
+use Rattle.std.proofs.lemmas.Result.{err_from_is_err_and}
 use Rattle.judging.specs.declared.judge.Frame.TheVariants.{Head}
-use Rattle.fields.specs.Tests.{first_fault, head_faults}
+use Rattle.fields.specs.Tests.{Verdict, first_fault, head_faults}
 use borrow.Author.Tests.{eq-eqb, ne_eqb}
 use mathlib.Core.Path.{sym, ap, ◌∙◌}
 use lib.ListN.{length}
@@ -29,27 +30,30 @@ returns-then-head_spare-ne0 c =
       ne_eqb (field head_layout 4 body) 0 (λ e. c.if-head_spare-ne0.true (c.head_spare.ensures ∙ e)),
     )
 
-pub returns-in-Refused : goal.returns-in-Refused
+pub returns-in_err-check_head : goal.returns-in_err-check_head
 unfolding frame_of frame_faults
-returns-in-Refused c =
+returns-in_err-check_head c =
     let at-if2 = c.if-head_spare-ne0 in
     let at-spare = c.head_spare in
     let at-if1 = c.if-body-ne-HEAD_LENGTH in
     let a = c.args in
     let body = a.body.now in
     let read = c.read_head-h.ensures in
+    let p = err_from_is_err_and c.from_residual.result c.from_residual.ensures.1 in
     rw (
+      p.1,
+      p.2,
       c.in-Start.is,
       eq-eqb (length body) 7 at-if1.false,
       eq-eqb (field head_layout 4 body) 0 (sym at-spare.ensures ∙ at-if2.false),
     )
     (ap (λ (v : Verdict). sound v (Head (head_of body)))
-    (sym c.in-Refused.is ∙ c.check_head.ensures
+    (sym c.in_err-check_head.was ∙ c.check_head.ensures
     ∙ ap (λ x. first_fault (head_faults x a.at)) read))
 
-pub returns-in-Accepted : goal.returns-in-Accepted
+pub returns : goal.returns
 unfolding frame_of frame_faults
-returns-in-Accepted c =
+returns c =
     let at-if2 = c.if-head_spare-ne0 in
     let at-spare = c.head_spare in
     let at-if1 = c.if-body-ne-HEAD_LENGTH in
@@ -61,9 +65,9 @@ returns-in-Accepted c =
       eq-eqb (length body) 7 at-if1.false,
       eq-eqb (field head_layout 4 body) 0 (sym at-spare.ensures ∙ at-if2.false),
     )
-    (ap (λ h. Head h) read
+    (ap (λ h. Ok (Head h)) read
     ∙ ap (λ (v : Verdict). sound v (Head (head_of body)))
-    (sym c.in-Accepted.is ∙ c.check_head.ensures
+    (sym c.in_ok-check_head.was ∙ c.check_head.ensures
     ∙ ap (λ x. first_fault (head_faults x a.at)) read))
 
 pub returns-in_default : goal.returns-in_default

@@ -1,7 +1,8 @@
 -- `judge_job`: at each return the tests that led there decide which of the faults 4 to 6 and 9 to 11 is first.
-use Rattle.fields.specs.declared.fault.Verdict.{Verdict}
+use Rattle.std.specs.Prelude.{Ok}
+use Rattle.std.proofs.lemmas.Result.{err_from_is_err_and}
 use Rattle.judging.specs.declared.judge.Frame.TheVariants.{Job}
-use Rattle.fields.specs.Tests.{first_fault, job_faults}
+use Rattle.fields.specs.Tests.{Verdict, first_fault, job_faults}
 use borrow.Author.Tests.{eq-eqb, ne_eqb}
 use mathlib.Core.Path.{sym, ap, ◌∙◌}
 use lib.ListN.{length}
@@ -29,27 +30,30 @@ returns-then-job_spare-ne0 c =
       ne_eqb (field job_layout 2 body) 0 (λ e. c.if-job_spare-ne0.true (c.job_spare.ensures ∙ e)),
     )
 
-pub returns-in-Refused : goal.returns-in-Refused
+pub returns-in_err-check_job : goal.returns-in_err-check_job
 unfolding frame_of frame_faults
-returns-in-Refused c =
+returns-in_err-check_job c =
     let at-if2 = c.if-job_spare-ne0 in
     let at-spare = c.job_spare in
     let at-if1 = c.if-body-ne-JOB_LENGTH in
     let a = c.args in
     let body = a.body.now in
     let read = c.read_job-j.ensures in
+    let p = err_from_is_err_and c.from_residual.result c.from_residual.ensures.1 in
     rw (
+      p.1,
+      p.2,
       c.in-Open.is,
       eq-eqb (length body) 11 at-if1.false,
       eq-eqb (field job_layout 2 body) 0 (sym at-spare.ensures ∙ at-if2.false),
     )
     (ap (λ (v : Verdict). sound v (Job (job_of body)))
-    (sym c.in-Refused.is ∙ c.check_job.ensures
+    (sym c.in_err-check_job.was ∙ c.check_job.ensures
     ∙ ap (λ x. first_fault (job_faults a.benches a.n x a.at)) read))
 
-pub returns-in-Accepted : goal.returns-in-Accepted
+pub returns : goal.returns
 unfolding frame_of frame_faults
-returns-in-Accepted c =
+returns c =
     let at-if2 = c.if-job_spare-ne0 in
     let at-spare = c.job_spare in
     let at-if1 = c.if-body-ne-JOB_LENGTH in
@@ -61,9 +65,9 @@ returns-in-Accepted c =
       eq-eqb (length body) 11 at-if1.false,
       eq-eqb (field job_layout 2 body) 0 (sym at-spare.ensures ∙ at-if2.false),
     )
-    (ap (λ h. Job h) read
+    (ap (λ j. Ok (Job j)) read
     ∙ ap (λ (v : Verdict). sound v (Job (job_of body)))
-    (sym c.in-Accepted.is ∙ c.check_job.ensures
+    (sym c.in_ok-check_job.was ∙ c.check_job.ensures
     ∙ ap (λ x. first_fault (job_faults a.benches a.n x a.at)) read))
 
 pub returns-in_default : goal.returns-in_default

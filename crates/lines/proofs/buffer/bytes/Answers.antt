@@ -1,25 +1,15 @@
--- The loop's invariant: the first i bytes of s are put.
-use native.Mathlib.Omega.{arith}
+-- The loop's invariant: the bytes of s passed are put.
 use lib.Seq.{take_all}
-use Rattle.lines.proofs.BufferLaws.{puts-length, puts_none, puts_then, puts_as}
+use Rattle.lines.proofs.BufferLaws.{puts_none, puts_then, puts_as}
 use Rattle.lines.proofs.LineSteps.{take_more}
 use Rattle.lines.proofs.buffer.bytes.Goals as goal
 
-pub loop-i-init : goal.loop-i-init
-loop-i-init c =
-    let a = c.args in
-    (omega arith, puts_none a.out.now a.at c.within-end.ensures)
+pub loop-b-init : goal.loop-b-init
+loop-b-init c = puts_none c.args.out.now c.args.at c.min-end.ensures
 
-pub loop-i-preserved : goal.loop-i-preserved
-loop-i-preserved c =
-    let l = c.loop-i in
-    let s = c.args.s.now in
-    (omega arith, puts_as (take_more s l.i (omega arith)) (puts_then l.invariant.1 c.byte-end.ensures))
-
-pub shape_of-out : goal.shape_of-out
-shape_of-out c = puts-length c.loop-i.invariant.1
+pub loop-b-preserved : goal.loop-b-preserved
+loop-b-preserved c =
+    puts_as (take_more c.args.s.now c.loop-b.b-index c.loop-b-test.true) (puts_then c.loop-b.invariant c.byte-end.ensures)
 
 pub returns : goal.returns
-returns c =
-    let l = c.loop-i in
-    puts_as (take_all l.i c.args.s.now (omega arith)) l.invariant.1
+returns c = puts_as (take_all c.loop-b.b-index c.args.s.now c.loop-b-test.false) c.loop-b.invariant

@@ -6,6 +6,5 @@ use Rattle.lines.proofs.line.pair.Goals as goal
 
 pub returns : goal.returns
 returns c =
-    let a = c.args in
-    puts_as (line-pair (digits a.x) (digits a.y)) (puts_then (puts_then c.number-end.ensures
+    puts_as (line-pair (digits c.args.x) (digits c.args.y)) (puts_then (puts_then c.number-end.ensures
     c.word-end.ensures) c.end_line.ensures)

@@ -7,6 +7,5 @@ use Rattle.lines.proofs.line.triple.Goals as goal
 
 pub returns : goal.returns
 returns c =
-    let a = c.args in
-    puts_as (line_word (digits a.x) (digits a.y) (digits a.z ∷ []))
+    puts_as (line_word (digits c.args.x) (digits c.args.y) (digits c.args.z ∷ []))
     (puts_then (puts_then c.number-end.ensures c.byte-end.ensures) c.pair.ensures)

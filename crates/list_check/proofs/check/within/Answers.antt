@@ -4,6 +4,5 @@ use Rattle.list_check.proofs.check.within.Goals as goal
 
 pub returns : goal.returns
 returns c =
-    let x = c.args in
-    λ s sound e small. within_exact s sound x.h e x.load small c.times-scale.ensures
-    c.times.ensures c.plus-share.ensures c.times-2.ensures c.times-3.ensures
+    λ s sound e small. within_exact s sound c.args.h e c.args.load small c.times-scale.ensures
+    c.times.ensures c.saturating_add-share.ensures c.times-2.ensures c.times-3.ensures

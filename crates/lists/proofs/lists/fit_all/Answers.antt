@@ -1,30 +1,16 @@
--- Every job passed has a bench of its set.
+-- Each job is tried.
+use mathlib.Core.Path.{◌≡◌, refl}
+use mathlib.Core.Bool.{true, false}
 use native.Mathlib.Omega.{arith}
+use Rattle.std.proofs.Common.{rules}
+use Rattle.std.proofs.lemmas.Iterator.{cases_from_all, YieldsList-from_range}
 use Rattle.lists.specs.Lists.{fits_at}
-use Rattle.lists.proofs.ListRun.{all-fails_here, all_more, all-holds}
+use Rattle.lists.proofs.ListRun.{all_over}
 use Rattle.lists.proofs.lists.fit_all.Goals as goal
-
-pub loop-j-init : goal.loop-j-init
-loop-j-init c = (omega arith, λ i l. absurd (omega arith))
-
-pub returns-then-not-fit : goal.returns-then-not-fit
-returns-then-not-fit c =
-    let x = c.args in
-    all-fails_here x.jobs (fits_at x.allowed.now x.list.now)
-    c.loop-j.j (omega arith) c.fit.ensures
-    (c.if-not-fit.true)
-
-pub loop-j-preserved : goal.loop-j-preserved
-loop-j-preserved c =
-    let x = c.args in
-    let at-loop = c.loop-j in (
-      omega arith,
-      all_more (fits_at x.allowed.now x.list.now) at-loop.j at-loop.invariant.1 c.fit.ensures
-          (c.if-not-fit.false),
-    )
 
 pub returns : goal.returns
 returns c =
-    let x = c.args in
-    all-holds x.jobs (fits_at x.allowed.now x.list.now) c.loop-j.j
-    (omega arith) c.loop-j.invariant.1
+    let f = fits_at c.args.allowed.now c.args.list.now in
+    all_over c.args.jobs f c.all.result
+    (cases_from_all _ _ _ (λ j. f j ≡ true) (λ j. f j ≡ false) c.all.ensures.ran
+    (YieldsList-from_range 0 c.args.jobs c.args.jobs refl (omega arith)) (λ x q k. search rules) (λ x q k. search rules))

@@ -4,10 +4,8 @@ use Rattle.lists.proofs.lists.sum_list.Goals as goal
 
 pub returns : goal.returns
 returns c =
-    let at_sum = c.sum_benches in
-    let x = c.args in
     record {
-      loads = λ few. list_summed 512 x.jobs x.minutes.now x.list.now few c.narrow.ensures
-          c.narrow-2.ensures x.load.now at_sum.ensures.loads;
-      fullest = at_sum.ensures.fullest;
+      loads = λ few. list_summed 512 c.args.jobs c.args.minutes.now c.args.list.now few c.to_numbers.ensures
+          c.to_numbers-2.ensures c.args.load.now c.sum_benches.ensures.loads;
+      fullest = c.sum_benches.ensures.fullest;
     }

@@ -2,11 +2,6 @@
 use Rattle.loads.proofs.BenchSumLaws.{all_summed}
 use Rattle.loads.proofs.bench_sum.sum_benches.Goals as goal
 
-pub returns : goal.returns
-returns c =
-    let at-args = c.args in
-    record {
-      loads = all_summed at-args.jobs at-args.minutes.now at-args.place.now at-args.load.now 512
-          c.own_loads.ensures;
-      fullest = c.fullest.ensures;
-    }
+pub returns-clause-loads : goal.returns-clause-loads
+returns-clause-loads c =
+    all_summed c.args.jobs c.args.minutes.now c.args.place.now c.args.load.now 512 c.own_loads.ensures

@@ -2,19 +2,15 @@
 use Rattle.page_check.proofs.PageRun.{by_fault, by_long, by_none}
 use Rattle.page_check.proofs.check.first_answer.Goals as goal
 
-pub returns-then-long-jobs : goal.returns-then-long-jobs
-returns-then-long-jobs c d allowed F eb et =
-    let at-args = c.args in
-    by_long d at-args.page.now eb c.page_verdict-verdict.ensures c.in-Accepted.is
-    at-args.jobs at-args.minutes.now allowed F et c.long_job-long.ensures c.if-long-jobs.true
+pub returns-in-Err : goal.returns-in-Err
+returns-in-Err c d allowed F eb et = by_fault d c.args.page.now eb c.page_verdict.ensures c.in-Err.is
 
-pub returns-in-Refused : goal.returns-in-Refused
-returns-in-Refused c d allowed F eb et =
-    by_fault d c.args.page.now eb c.page_verdict-verdict.ensures
-    c.in-Refused.is
+pub returns-in-Some : goal.returns-in-Some
+returns-in-Some c d allowed F eb et =
+    by_long d c.args.page.now eb c.page_verdict.ensures c.in_default.is c.args.jobs c.args.minutes.now allowed F et
+    c.long_job.ensures c.in-Some.is
 
-pub returns-else-long-jobs : goal.returns-else-long-jobs
-returns-else-long-jobs c d allowed F eb et =
-    let at-args = c.args in
-    by_none d at-args.page.now eb c.page_verdict-verdict.ensures c.in-Accepted.is
-    at-args.jobs at-args.minutes.now allowed F et c.long_job-long.ensures c.if-long-jobs.false
+pub returns : goal.returns
+returns c d allowed F eb et =
+    by_none d c.args.page.now eb c.page_verdict.ensures c.in_default.is c.args.jobs c.args.minutes.now allowed F et
+    c.long_job.ensures c.in_default-long_job.is

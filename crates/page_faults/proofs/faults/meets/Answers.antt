@@ -4,5 +4,4 @@ use Rattle.page_faults.proofs.faults.meets.Goals as goal
 
 pub returns : goal.returns
 returns c =
-    let at-args = c.args in
-    meets_is at-args.seen at-args.set c.common.result c.common.type_inv c.common.ensures
+    meets_is c.args.seen c.args.set c.common.result c.common.type_inv c.common.ensures

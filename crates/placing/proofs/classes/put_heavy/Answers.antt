@@ -1,25 +1,21 @@
 -- By whether both ends are shut.
+use mathlib.Core.Path.{sym, ◌∙◌}
+use Rattle.bools.proofs.BoolLaws.{and-false_left, and-false_right}
 use Rattle.placing.proofs.PlaceRun.{stuck_tried, placed-tried}
 use Rattle.placing.proofs.classes.put_heavy.Goals as goal
+use Rattle.placing.proofs.classes.put_heavy.Goals.{else-has-via-then-has+else-has-2, else-has-via-else-has}
 
-pub returns-then-both : goal.returns-then-both
-returns-then-both c g s i job few heavy shows =
-    let at_both = c.both in
-    let at-has2 = c.has-2 in
-    let at_has = c.has in
-    let at-args = c.args in
-    stuck_tried g s i at-args.bay at-args.c at-args.labels.now at-args.extra.now shows
-    at-args.low at-args.high at-args.minutes job heavy at_has.ensures at-has2.ensures at_both.ensures
-    c.if-both.true
+pub returns-then-has-2 : goal.returns-then-has-2
+returns-then-has-2 c g s i job few heavy shows =
+    stuck_tried g s i c.args.bay c.args.c c.args.labels.now c.args.extra.now shows c.args.low c.args.high
+    c.args.minutes job heavy (sym c.has.ensures ∙ c.if-has.true) (sym c.has-then-has.ensures ∙ c.if-has-2.true)
 
 pub returns : goal.returns
 returns c g s i job few heavy shows =
-    let at_place = c.place in
-    let at-if1 = c.if-both in
-    let at_both = c.both in
-    let at-has2 = c.has-2 in
-    let at_has = c.has in
-    let at-args = c.args in
-    placed-tried g s i at-args.bay at-args.c at-args.labels.now at-args.extra.now shows
-    at-args.low at-args.high at-args.minutes job heavy at_has.ensures at-has2.ensures at_both.ensures
-    at-if1.false (at_place.ensures g s i job few shows)
+    placed-tried g s i c.args.bay c.args.c c.args.labels.now c.args.extra.now shows c.args.low c.args.high
+    c.args.minutes job heavy
+    (elim c.else-has.branch [
+      | else-has-via-then-has+else-has-2 w ↦ and-false_right _ (sym w.has-then-has.ensures ∙ w.if-has-2.false)
+      | else-has-via-else-has w ↦ and-false_left _ (sym c.has.ensures ∙ w.if-has.false)
+    ])
+    (c.place.ensures g s i job few shows)

@@ -3,18 +3,15 @@
 use Prim.Native.Nat.{ℕ, ◌≤◌, min}
 use native.Mathlib.Omega.{arith}
 use mathlib.Core.Path.{◌≡◌, refl, sym, ◌∙◌}
-use mathlib.Core.Logic.{inl, inr}
 use mathlib.Core.Bool.{Bool, true, false, cond}
-use mathlib.Core.List.{List, ◌++◌}
+use mathlib.Core.List.{List}
 use lib.Dec.{ltb}
 use lib.ListN.{length, take, drop, replicate}
 use Rattle.answers.specs.declared.answer.Answer.TheVariants.{Plan, Long, None}
 use Rattle.tables.specs.Tables.{room_of}
-use Rattle.tables.proofs.LentSteps.{front_length, still_inside}
+use Rattle.tables.proofs.LentSteps.{front_length}
 use Rattle.door.proofs.DoorDemand.{with_claim}
-use Rattle.door.proofs.RoomLaws.{loads_room}
-use Rattle.plan_door.proofs.PlanSteps.{jobs_fit, benches_fit, answer_called, fault_called}
-use Rattle.plan_door.proofs.call.plan.Goals.{then-answer-lt24, else-answer-lt24}
+use Rattle.plan_door.proofs.PlanSteps.{answer_called, fault_called}
 use Rattle.plan_door.proofs.call.plan.Goals as goal
 
 few-handed : (b : Bool) (n : ℕ) → n ≤ 64 → cond b 0 n ≤ 64
@@ -37,102 +34,13 @@ module _ (n : ℕ) (loads answer : List ℕ) (e : n ≡ cond (ltb (room_of answe
   loads-handed : length (take n (replicate {A = ℕ} 64 0)) ≡ cond (ltb (room_of answer) 3) 0 (min (room_of loads) 64)
   loads-handed = sym (front_length n (replicate 64 0) loads-fit) ∙ e
 
-pub slice_bounds-plan-end : goal.slice_bounds-plan-end
-slice_bounds-plan-end c =
-    let a = c.args in
-    front_length _ (replicate 512 0) (places-fit _ a.places.now c.room-np.ensures)
-
-pub slice_bounds-l-end : goal.slice_bounds-l-end
-slice_bounds-l-end c =
-    let a = c.args in
-    let handed : c.if-answer-lt24.nl ≡ cond (ltb (room_of a.answer.now) 3) 0 (min (room_of a.loads.now) 64) =
-    loads_room 3 a.loads.now a.answer.now (elim c.if-answer-lt24.branch [
-      | then-answer-lt24 w ↦ inl (omega (arith, w.if-answer-lt24.true), w.nl-is)
-      | else-answer-lt24 w ↦ inr (omega (arith, w.if-answer-lt24.false), w.nl-is ∙ w.room-nl.ensures)
-    ]) in
-    loads-fit _ a.loads.now a.answer.now handed
-
-pub slice_bounds-plan-end-2 : goal.slice_bounds-plan-end-2
-slice_bounds-plan-end-2 c =
-    let a = c.args in
-    let handed : c.if-answer-lt24.nl ≡ cond (ltb (room_of a.answer.now) 3) 0 (min (room_of a.loads.now) 64) =
-    loads_room 3 a.loads.now a.answer.now (elim c.if-answer-lt24.branch [
-      | then-answer-lt24 w ↦ inl (omega (arith, w.if-answer-lt24.true), w.nl-is)
-      | else-answer-lt24 w ↦ inr (omega (arith, w.if-answer-lt24.false), w.nl-is ∙ w.room-nl.ensures)
-    ]) in
-    front_length _ (replicate 64 0) (loads-fit _ a.loads.now a.answer.now handed)
-
-pub slice_bounds-p-end-2 : goal.slice_bounds-p-end-2
-slice_bounds-p-end-2 c =
-    let a = c.args in
-    let handed : c.if-answer-lt24.nl ≡ cond (ltb (room_of a.answer.now) 3) 0 (min (room_of a.loads.now) 64) =
-    loads_room 3 a.loads.now a.answer.now (elim c.if-answer-lt24.branch [
-      | then-answer-lt24 w ↦ inl (omega (arith, w.if-answer-lt24.true), w.nl-is)
-      | else-answer-lt24 w ↦ inr (omega (arith, w.if-answer-lt24.false), w.nl-is ∙ w.room-nl.ensures)
-    ]) in
-    still_inside _ (replicate 512 0) c.plan-filled.new.places
-    (places-fit _ a.places.now c.room-np.ensures) c.plan-filled.auto.places
-    (jobs_fit a.sheet.now a.places.now a.loads.now a.answer.now
-    (places-handed _ a.places.now c.room-np.ensures) (loads-handed _ a.loads.now a.answer.now handed)
-    c.plan-filled.ensures.equation)
-
-pub slice_bounds-put_front-end : goal.slice_bounds-put_front-end
-slice_bounds-put_front-end c =
-    let a = c.args in
-    let handed : c.if-answer-lt24.nl ≡ cond (ltb (room_of a.answer.now) 3) 0 (min (room_of a.loads.now) 64) =
-    loads_room 3 a.loads.now a.answer.now (elim c.if-answer-lt24.branch [
-      | then-answer-lt24 w ↦ inl (omega (arith, w.if-answer-lt24.true), w.nl-is)
-      | else-answer-lt24 w ↦ inr (omega (arith, w.if-answer-lt24.false), w.nl-is ∙ w.room-nl.ensures)
-    ]) in
-    let whole : List ℕ = c.plan-filled.new.places ++ drop c.room-np.result (replicate 512 0) in
-    front_length _ whole (still_inside _ (replicate 512 0) c.plan-filled.new.places
-    (places-fit _ a.places.now c.room-np.ensures) c.plan-filled.auto.places
-    (jobs_fit a.sheet.now a.places.now a.loads.now a.answer.now
-    (places-handed _ a.places.now c.room-np.ensures) (loads-handed _ a.loads.now a.answer.now handed)
-    c.plan-filled.ensures.equation))
-
-pub slice_bounds-l-end-2 : goal.slice_bounds-l-end-2
-slice_bounds-l-end-2 c =
-    let a = c.args in
-    let handed : c.if-answer-lt24.nl ≡ cond (ltb (room_of a.answer.now) 3) 0 (min (room_of a.loads.now) 64) =
-    loads_room 3 a.loads.now a.answer.now (elim c.if-answer-lt24.branch [
-      | then-answer-lt24 w ↦ inl (omega (arith, w.if-answer-lt24.true), w.nl-is)
-      | else-answer-lt24 w ↦ inr (omega (arith, w.if-answer-lt24.false), w.nl-is ∙ w.room-nl.ensures)
-    ]) in
-    still_inside _ (replicate 64 0) c.plan-filled.new.loads
-    (loads-fit _ a.loads.now a.answer.now handed) c.plan-filled.auto.loads
-    (benches_fit a.sheet.now a.places.now a.loads.now a.answer.now
-    (places-handed _ a.places.now c.room-np.ensures) (loads-handed _ a.loads.now a.answer.now handed)
-    c.plan-filled.ensures.equation)
-
-pub slice_bounds-put_front-end-2 : goal.slice_bounds-put_front-end-2
-slice_bounds-put_front-end-2 c =
-    let a = c.args in
-    let handed : c.if-answer-lt24.nl ≡ cond (ltb (room_of a.answer.now) 3) 0 (min (room_of a.loads.now) 64) =
-    loads_room 3 a.loads.now a.answer.now (elim c.if-answer-lt24.branch [
-      | then-answer-lt24 w ↦ inl (omega (arith, w.if-answer-lt24.true), w.nl-is)
-      | else-answer-lt24 w ↦ inr (omega (arith, w.if-answer-lt24.false), w.nl-is ∙ w.room-nl.ensures)
-    ]) in
-    let whole : List ℕ = c.plan-filled.new.loads ++ drop c.if-answer-lt24.nl (replicate 64 0) in
-    front_length _ whole (still_inside _ (replicate 64 0) c.plan-filled.new.loads
-    (loads-fit _ a.loads.now a.answer.now handed) c.plan-filled.auto.loads
-    (benches_fit a.sheet.now a.places.now a.loads.now a.answer.now
-    (places-handed _ a.places.now c.room-np.ensures) (loads-handed _ a.loads.now a.answer.now handed)
-    c.plan-filled.ensures.equation))
-
 pub returns-in-Plan : goal.returns-in-Plan
 returns-in-Plan c =
-    let a = c.args in
-    let handed : c.if-answer-lt24.nl ≡ cond (ltb (room_of a.answer.now) 3) 0 (min (room_of a.loads.now) 64) =
-    loads_room 3 a.loads.now a.answer.now (elim c.if-answer-lt24.branch [
-      | then-answer-lt24 w ↦ inl (omega (arith, w.if-answer-lt24.true), w.nl-is)
-      | else-answer-lt24 w ↦ inr (omega (arith, w.if-answer-lt24.false), w.nl-is ∙ w.room-nl.ensures)
-    ]) in
-    let whole = with_claim a.sheet.now a.places.now a.loads.now a.answer.now
-    (answer_called a.sheet.now a.places.now a.loads.now a.answer.now
-    (places-handed _ a.places.now c.room-np.ensures) (loads-handed _ a.loads.now a.answer.now handed)
+    let whole = with_claim c.args.sheet.now c.args.places.now c.args.loads.now c.args.answer.now
+    (answer_called c.args.sheet.now c.args.places.now c.args.loads.now c.args.answer.now
+    (places-handed _ c.args.places.now c.room-np.ensures) (loads-handed _ c.args.loads.now c.args.answer.now c.loads_room-nl.ensures)
     c.plan-filled.ensures.equation
-    (drop c.room-np.result (replicate 512 0)) (drop c.if-answer-lt24.nl (replicate 64 0))
+    (drop c.room-np.result (replicate 512 0)) (drop c.loads_room-nl.result (replicate 64 0))
     c.put_front.ensures c.put_front-2.ensures
     (Plan _) c.in-Plan.is refl refl
     c.put_three.ensures) in
@@ -140,17 +48,11 @@ returns-in-Plan c =
 
 pub returns-in-Long : goal.returns-in-Long
 returns-in-Long c =
-    let a = c.args in
-    let handed : c.if-answer-lt24.nl ≡ cond (ltb (room_of a.answer.now) 3) 0 (min (room_of a.loads.now) 64) =
-    loads_room 3 a.loads.now a.answer.now (elim c.if-answer-lt24.branch [
-      | then-answer-lt24 w ↦ inl (omega (arith, w.if-answer-lt24.true), w.nl-is)
-      | else-answer-lt24 w ↦ inr (omega (arith, w.if-answer-lt24.false), w.nl-is ∙ w.room-nl.ensures)
-    ]) in
-    let whole = with_claim a.sheet.now a.places.now a.loads.now a.answer.now
-    (answer_called a.sheet.now a.places.now a.loads.now a.answer.now
-    (places-handed _ a.places.now c.room-np.ensures) (loads-handed _ a.loads.now a.answer.now handed)
+    let whole = with_claim c.args.sheet.now c.args.places.now c.args.loads.now c.args.answer.now
+    (answer_called c.args.sheet.now c.args.places.now c.args.loads.now c.args.answer.now
+    (places-handed _ c.args.places.now c.room-np.ensures) (loads-handed _ c.args.loads.now c.args.answer.now c.loads_room-nl.ensures)
     c.plan-filled.ensures.equation
-    (drop c.room-np.result (replicate 512 0)) (drop c.if-answer-lt24.nl (replicate 64 0))
+    (drop c.room-np.result (replicate 512 0)) (drop c.loads_room-nl.result (replicate 64 0))
     c.put_front.ensures c.put_front-2.ensures
     (Long _) c.in-Long.is refl refl
     c.put_three-in-Long.ensures) in
@@ -158,17 +60,11 @@ returns-in-Long c =
 
 pub returns-in-None : goal.returns-in-None
 returns-in-None c =
-    let a = c.args in
-    let handed : c.if-answer-lt24.nl ≡ cond (ltb (room_of a.answer.now) 3) 0 (min (room_of a.loads.now) 64) =
-    loads_room 3 a.loads.now a.answer.now (elim c.if-answer-lt24.branch [
-      | then-answer-lt24 w ↦ inl (omega (arith, w.if-answer-lt24.true), w.nl-is)
-      | else-answer-lt24 w ↦ inr (omega (arith, w.if-answer-lt24.false), w.nl-is ∙ w.room-nl.ensures)
-    ]) in
-    let whole = with_claim a.sheet.now a.places.now a.loads.now a.answer.now
-    (answer_called a.sheet.now a.places.now a.loads.now a.answer.now
-    (places-handed _ a.places.now c.room-np.ensures) (loads-handed _ a.loads.now a.answer.now handed)
+    let whole = with_claim c.args.sheet.now c.args.places.now c.args.loads.now c.args.answer.now
+    (answer_called c.args.sheet.now c.args.places.now c.args.loads.now c.args.answer.now
+    (places-handed _ c.args.places.now c.room-np.ensures) (loads-handed _ c.args.loads.now c.args.answer.now c.loads_room-nl.ensures)
     c.plan-filled.ensures.equation
-    (drop c.room-np.result (replicate 512 0)) (drop c.if-answer-lt24.nl (replicate 64 0))
+    (drop c.room-np.result (replicate 512 0)) (drop c.loads_room-nl.result (replicate 64 0))
     c.put_front.ensures c.put_front-2.ensures
     (None _) c.in-None.is refl refl
     c.put_three-in-None.ensures) in
@@ -176,17 +72,11 @@ returns-in-None c =
 
 pub returns-in-Fault : goal.returns-in-Fault
 returns-in-Fault c =
-    let a = c.args in
-    let handed : c.if-answer-lt24.nl ≡ cond (ltb (room_of a.answer.now) 3) 0 (min (room_of a.loads.now) 64) =
-    loads_room 3 a.loads.now a.answer.now (elim c.if-answer-lt24.branch [
-      | then-answer-lt24 w ↦ inl (omega (arith, w.if-answer-lt24.true), w.nl-is)
-      | else-answer-lt24 w ↦ inr (omega (arith, w.if-answer-lt24.false), w.nl-is ∙ w.room-nl.ensures)
-    ]) in
-    let whole = with_claim a.sheet.now a.places.now a.loads.now a.answer.now
-    (fault_called a.sheet.now a.places.now a.loads.now a.answer.now
-    (places-handed _ a.places.now c.room-np.ensures) (loads-handed _ a.loads.now a.answer.now handed)
+    let whole = with_claim c.args.sheet.now c.args.places.now c.args.loads.now c.args.answer.now
+    (fault_called c.args.sheet.now c.args.places.now c.args.loads.now c.args.answer.now
+    (places-handed _ c.args.places.now c.room-np.ensures) (loads-handed _ c.args.loads.now c.args.answer.now c.loads_room-nl.ensures)
     c.plan-filled.ensures.equation
-    (drop c.room-np.result (replicate 512 0)) (drop c.if-answer-lt24.nl (replicate 64 0))
+    (drop c.room-np.result (replicate 512 0)) (drop c.loads_room-nl.result (replicate 64 0))
     c.put_front.ensures c.put_front-2.ensures
     c.in-Fault.is c.fault_word.ensures) in
     record { called = whole.0; demand = whole.1 }

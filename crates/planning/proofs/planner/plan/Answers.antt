@@ -2,16 +2,11 @@
 use Rattle.planning.proofs.SheetRun.{refused_answer, accepted_answer}
 use Rattle.planning.proofs.planner.plan.Goals as goal
 
-pub returns-in-Refused : goal.returns-in-Refused
-returns-in-Refused c =
-    let at-args = c.args in
+pub returns-in-Err : goal.returns-in-Err
+returns-in-Err c =
     rw c.unwritten.ensures
-    (refused_answer at-args.s.now _ _ at-args.places.now at-args.loads.now
-    c.read-reading.ensures c.in-Refused.is)
+    (refused_answer c.args.s.now _ _ c.args.places.now c.args.loads.now c.read.ensures c.in-Err.is)
 
-pub returns-in-Accepted : goal.returns-in-Accepted
-returns-in-Accepted c =
-    let at-args = c.args in
-    accepted_answer at-args.s.now _ _ at-args.places.now at-args.loads.now
-    c.read-reading.result c.read-reading.ensures c.in-Accepted.is
-    c.plan_sheet.ensures
+pub returns-in-Ok : goal.returns-in-Ok
+returns-in-Ok c =
+    accepted_answer c.args.s.now _ _ c.args.places.now c.args.loads.now c.read.ensures c.in-Ok.is c.plan_sheet.ensures

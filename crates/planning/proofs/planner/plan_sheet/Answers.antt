@@ -1,5 +1,5 @@
 -- Fault 13, what is decided, and the tables of a plan (SheetRun).
-use mathlib.Core.Path.{◌≡◌, sym, ◌∙◌}
+use mathlib.Core.Path.{sym, ◌∙◌}
 use native.Mathlib.Omega.{arith}
 use lib.ListN.{length}
 use Rattle.day.specs.Day.{day_of}
@@ -11,36 +11,30 @@ use Rattle.planning.proofs.SheetRun.{decided_long, decided_none, decided_plan}
 use Rattle.planning.proofs.planner.plan_sheet.Goals as goal
 
 pub returns-then-places-jobs : goal.returns-then-places-jobs
-returns-then-places-jobs c =
-    let at-args = c.args in
-    let places = at-args.places.now in
-    let loads = at-args.loads.now in
-    λ bytes sheet read same.
+returns-then-places-jobs c bytes sheet read same =
+    let places = c.args.places.now in
+    let loads = c.args.loads.now in
     rw c.unwritten.ensures
-    (short_answer bytes sheet at-args.s read same (length places) (length loads)
-    (places_short bytes sheet at-args.s read same (length places) (length loads)
+    (short_answer bytes sheet c.args.s read same (length places) (length loads)
+    (places_short bytes sheet c.args.s read same (length places) (length loads)
     (omega (arith, c.if-places-jobs.true))) places loads)
 
 pub returns-then-loads-benches : goal.returns-then-loads-benches
-returns-then-loads-benches c =
-    let at-args = c.args in
-    let places = at-args.places.now in
-    let loads = at-args.loads.now in
-    λ bytes sheet read same.
+returns-then-loads-benches c bytes sheet read same =
+    let places = c.args.places.now in
+    let loads = c.args.loads.now in
     rw c.unwritten-then-loads-benches.ensures
-    (short_answer bytes sheet at-args.s read same (length places) (length loads)
-    (loads_short bytes sheet at-args.s read same (length places) (length loads)
+    (short_answer bytes sheet c.args.s read same (length places) (length loads)
+    (loads_short bytes sheet c.args.s read same (length places) (length loads)
     (omega (arith, c.if-loads-benches.true))) places loads)
 
 pub returns-in-Long : goal.returns-in-Long
-returns-in-Long c =
-    let at-args = c.args in
-    let s = at-args.s in
-    let places = at-args.places.now in
-    let loads = at-args.loads.now in
-    λ bytes sheet read same.
-    let L = day_lent bytes sheet s read same c.narrow.ensures c.narrow-2.ensures
-    c.narrow-3.ensures in
+returns-in-Long c bytes sheet read same =
+    let s = c.args.s in
+    let places = c.args.places.now in
+    let loads = c.args.loads.now in
+    let L = day_lent bytes sheet s read same c.to_numbers.ensures c.to_numbers-2.ensures
+    c.to_numbers-3.ensures in
     let D = c.decide-decided.ensures (day_of sheet) L in
     let enough = long_enough bytes sheet s read same (length places) (length loads)
     (tables_fit bytes sheet s read same (length places) (length loads)
@@ -49,14 +43,12 @@ returns-in-Long c =
     rw c.unwritten-in-Long.ensures (enough _ places loads places loads (decided_long (day_of sheet) _ told places loads))
 
 pub returns-in-None : goal.returns-in-None
-returns-in-None c =
-    let at-args = c.args in
-    let s = at-args.s in
-    let places = at-args.places.now in
-    let loads = at-args.loads.now in
-    λ bytes sheet read same.
-    let L = day_lent bytes sheet s read same c.narrow.ensures c.narrow-2.ensures
-    c.narrow-3.ensures in
+returns-in-None c bytes sheet read same =
+    let s = c.args.s in
+    let places = c.args.places.now in
+    let loads = c.args.loads.now in
+    let L = day_lent bytes sheet s read same c.to_numbers.ensures c.to_numbers-2.ensures
+    c.to_numbers-3.ensures in
     let D = c.decide-decided.ensures (day_of sheet) L in
     let enough = long_enough bytes sheet s read same (length places) (length loads)
     (tables_fit bytes sheet s read same (length places) (length loads)
@@ -65,17 +57,14 @@ returns-in-None c =
     rw c.unwritten-in-None.ensures (enough _ places loads places loads (decided_none (day_of sheet) _ told places loads))
 
 pub returns-in-Plan : goal.returns-in-Plan
-returns-in-Plan c =
-    let at-args = c.args in
-    let s = at-args.s in
-    let places = at-args.places.now in
-    let loads = at-args.loads.now in
+returns-in-Plan c bytes sheet read same =
+    let s = c.args.s in
+    let places = c.args.places.now in
+    let loads = c.args.loads.now in
     let told = c.in-Plan.is in
     let place = c.decide-decided.result.places in
-    let sized : length place ≡ 512 = omega arith in
-    λ bytes sheet read same.
-    let L = day_lent bytes sheet s read same c.narrow.ensures c.narrow-2.ensures
-    c.narrow-3.ensures in
+    let L = day_lent bytes sheet s read same c.to_numbers.ensures c.to_numbers-2.ensures
+    c.to_numbers-3.ensures in
     let D = c.decide-decided.ensures (day_of sheet) L in
     let enough = long_enough bytes sheet s read same (length places) (length loads)
     (tables_fit bytes sheet s read same (length places) (length loads)
@@ -91,7 +80,6 @@ returns-in-Plan c =
       places_are = D.places;
     } in
     let written = c.write_plan-plan.ensures (day_of sheet) ps P
-    (omega (arith, sized, F.jobs_are, F.bounded.few_jobs))
     (omega (arith, c.if-places-jobs.false, F.jobs_are)) (omega (arith, c.if-loads-benches.false, L.benches_are)) in
     enough _ places loads _ _
     (decided_plan (day_of sheet) _ (sym told ∙ D.decision) (D.one_to_a_job _ told) F.jobs_are L.benches_are

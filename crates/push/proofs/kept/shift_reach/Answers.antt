@@ -6,13 +6,6 @@ use Rattle.push.proofs.kept.shift_reach.Goals as goal
 
 pub returns : goal.returns
 returns c =
-    let at-put = c.put in
-    let at-at3 = c.at-3 in
-    let at-at2 = c.at-2 in
-    let at-reach-from = c.reach_from-there in
-    let at_at = c.at in
-    let at-args = c.args in
-    reach_shifted at-args.jobs at-args.choice.now at-args.place.now at-args.reach.now at-args.u
-    at-args.v at-args.j at_at.result _ at-reach-from.result at-put.new.t at_at.ensures
-    at-reach-from.ensures (ap₂ bit_or at-at2.ensures at-at3.ensures) at-put.ensures
-    c.put-2.ensures
+    reach_shifted c.args.jobs c.args.choice.now c.args.place.now c.args.reach.now c.args.u c.args.v c.args.j c.at.result _
+    c.reach_from-there.result c.put.new.t c.at.ensures c.reach_from-there.ensures (ap₂ bit_or c.at-2.ensures c.at-3.ensures)
+    c.put.ensures c.put-2.ensures

@@ -1,44 +1,20 @@
 -- By where the rock leads.
-use Rattle.push.proofs.ReceiverLaws.{to_low, to_high, to_none}
+use Rattle.push.proofs.ReceiverLaws.{to_low, to_high}
 use Rattle.rock_graph.specs.Graph.{lows, highs, weights}
 use Rattle.push.proofs.push.mark_rock.Goals as goal
 
-pub returns-then-d-plus : goal.returns-then-d-plus
-returns-then-d-plus c =
-    let at-weight = c.weight-w in
-    let at_high = c.high-hi in
-    let at_low = c.low-lo in
-    let at_at = c.at-d in
-    let at-args = c.args in
-    to_low at-args.n.benches at-args.n.limit (lows at-args.graph.now) (highs at-args.graph.now)
-    (weights at-args.graph.now) at-args.own.now at-args.dir.now at-args.joined.now
-    at-args.m.children at-args.m.heavy at-args.r at_at.ensures at_low.ensures at_high.ensures
-    c.mark_edge.result.children c.mark_edge.result.heavy at-weight.ensures
-    c.plus.ensures c.if-d-plus.true c.mark_edge.ensures
+pub returns-then-d-saturating_add : goal.returns-then-d-saturating_add
+returns-then-d-saturating_add c =
+    to_low c.args.n.benches c.args.n.limit (lows c.args.graph.now) (highs c.args.graph.now) (weights c.args.graph.now)
+    c.args.own.now c.args.dir.now c.args.joined.now c.args.m.children c.args.m.heavy c.args.r c.at-d.ensures c.low-lo.ensures
+    c.high-hi.ensures c.mark_edge.result.children c.mark_edge.result.heavy c.weight-w.ensures
+    c.saturating_add.ensures c.if-d-saturating_add.true c.mark_edge.ensures
 
-pub returns-then-d-plus-2 : goal.returns-then-d-plus-2
-returns-then-d-plus-2 c =
-    let at-if1 = c.if-d-plus in
-    let at-plus = c.plus in
-    let at-weight = c.weight-w in
-    let at_high = c.high-hi in
-    let at_low = c.low-lo in
-    let at_at = c.at-d in
-    let at-args = c.args in
-    to_high at-args.n.benches at-args.n.limit (lows at-args.graph.now) (highs at-args.graph.now)
-    (weights at-args.graph.now) at-args.own.now at-args.dir.now at-args.joined.now
-    at-args.m.children at-args.m.heavy at-args.r at_at.ensures at_low.ensures at_high.ensures
-    c.mark_edge-then-d-plus-2.result.children c.mark_edge-then-d-plus-2.result.heavy at-weight.ensures at-plus.ensures
-    at-if1.false c.plus-2.ensures c.if-d-plus-2.true c.mark_edge-then-d-plus-2.ensures
-
-pub returns : goal.returns
-returns c =
-    let at-plus = c.plus in
-    let at_high = c.high-hi in
-    let at_low = c.low-lo in
-    let at_at = c.at-d in
-    let at-args = c.args in
-    to_none at-args.n.benches at-args.n.limit (lows at-args.graph.now) (highs at-args.graph.now)
-    (weights at-args.graph.now) at-args.own.now at-args.dir.now at-args.joined.now
-    at-args.m.children at-args.m.heavy at-args.r at_at.ensures at_low.ensures at_high.ensures
-    at-plus.ensures c.if-d-plus.false c.plus-2.ensures c.if-d-plus-2.false
+pub returns-then-d-saturating_add-2 : goal.returns-then-d-saturating_add-2
+returns-then-d-saturating_add-2 c =
+    to_high c.args.n.benches c.args.n.limit (lows c.args.graph.now) (highs c.args.graph.now) (weights c.args.graph.now)
+    c.args.own.now c.args.dir.now c.args.joined.now c.args.m.children c.args.m.heavy c.args.r c.at-d.ensures c.low-lo.ensures
+    c.high-hi.ensures c.mark_edge-then-d-saturating_add-2.result.children
+    c.mark_edge-then-d-saturating_add-2.result.heavy c.weight-w.ensures c.saturating_add.ensures
+    c.if-d-saturating_add.false c.saturating_add-2.ensures c.if-d-saturating_add-2.true
+    c.mark_edge-then-d-saturating_add-2.ensures

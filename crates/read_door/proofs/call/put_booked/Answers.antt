@@ -3,6 +3,4 @@ use Rattle.read_door.proofs.ReadSteps.{booked_put}
 use Rattle.read_door.proofs.call.put_booked.Goals as goal
 
 pub returns : goal.returns
-returns c =
-    booked_put c.args.contents.now c.args.booked.now c.requires.0 c.requires.1
-    c.put_front.ensures
+returns c = booked_put c.args.contents.now c.args.booked.now c.requires.0 c.requires.1 c.put_front.ensures

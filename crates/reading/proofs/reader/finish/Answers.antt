@@ -8,9 +8,3 @@ returns-in-Closed c bs =
     let a = c.args in
     rw c.in-Closed.is
     (c.check_hyper_edges.ensures ∙ checked_fits a.minutes.now a.allowed.now a.count a.h c.requires)
-
-pub returns-in-Start : goal.returns-in-Start
-returns-in-Start c bs = rw c.in-Start.is
-
-pub returns-in-Open : goal.returns-in-Open
-returns-in-Open c bs = rw c.in-Open.is

@@ -1,19 +1,19 @@
 -- `read`: the loop keeps ReadState: what reading the sheet gives is what reading on from here gives. Each way through
 -- the body is a law of ReadState.
-use Rattle.fields.specs.declared.fault.Verdict.{Verdict}
+use Rattle.fields.specs.Tests.{Verdict}
 use mathlib.Core.Path.{sym, ap, ◌∙◌}
 use native.Mathlib.Omega.{arith}
-use Rattle.frame.specs.Reading.{stored, reading_of}
+use Rattle.std.specs.Prelude.{Ok}
+use Rattle.std.proofs.lemmas.Result.{err_from_is_err_and}
+use Rattle.frame.proofs.Stored.{fault_stored}
 use Rattle.frame.proofs.FirstFault.{read_too_long}
 use Rattle.frame.proofs.ReadState.{next_is, found-is, job_room, state_start, state_foreign}
-use Rattle.frame.proofs.ReadState.{state_fault, state_head}
+use Rattle.frame.proofs.ReadState.{reading_of, state_fault, state_head}
 use Rattle.frame.proofs.ReadState.{state_booking, bench_room, state_job, state_end, state_minutes, state_over}
 use Rattle.reading.proofs.reader.read.Goals as goal
 
 pub returns-then-s-gt65536 : goal.returns-then-s-gt65536
-returns-then-s-gt65536 c =
-    let at-args = c.args in
-    rw c.refusal.ensures (ap stored (sym (read_too_long at-args.s.now c.if-s-gt65536.true)))
+returns-then-s-gt65536 c = fault_stored (read_too_long c.args.s.now c.if-s-gt65536.true)
 
 pub loop-at-init : goal.loop-at-init
 loop-at-init c =
@@ -23,15 +23,15 @@ loop-at-init c =
 pub overflow_add-next : goal.overflow_add-next
 overflow_add-next c = omega (arith, c.frame_size.ensures.1)
 
-pub returns-in-Faulty : goal.returns-in-Faulty
-returns-in-Faulty c =
-    let at-loop-test = c.loop-at-test in
+pub returns-in_err-frame_at : goal.returns-in_err-frame_at
+returns-in_err-frame_at c =
     let l = c.loop-at in
     let s = c.args.s.now in
     let is = found-is s l.sheet l.stage l.had l.at l.invariant _ _ c.frame_at.ensures in
-    let faulty = is c.in-Faulty.is in
-    c.refusal-in-Faulty.ensures
-    ∙ ap stored (sym (state_fault s l.sheet l.stage l.had l.at l.invariant at-loop-test.true _ faulty))
+    let faulty = is c.in_err-frame_at.was in
+    let p = err_from_is_err_and c.from_residual.result c.from_residual.ensures.1 in
+    rw (p.1, p.2)
+    (fault_stored (state_fault s l.sheet l.stage l.had l.at l.invariant c.loop-at-test.true _ faulty))
 
 -- The bench of a booking has an entry.
 pub bounds-sheet-bench : goal.bounds-sheet-bench
@@ -43,7 +43,7 @@ bounds-sheet-bench c =
     let next = next_is s l.at at-frame-size.result at-frame-size.ensures.0 in
     let is = found-is s l.sheet l.stage l.had l.at l.invariant _ _ c.frame_at.ensures in
     bench_room s l.sheet l.stage l.had l.at l.invariant at-loop-test.true _ next _
-    (is c.in-Booking.is)
+    (is (c.in_ok-frame_at.was ∙ ap Ok c.in-Booking.is))
 
 -- A sound job is not the 513th.
 pub offset_bounds-sheet-n : goal.offset_bounds-sheet-n
@@ -53,7 +53,7 @@ offset_bounds-sheet-n c =
     let s = c.args.s.now in
     let next = next_is s l.at size.result size.ensures.0 in
     let is = found-is s l.sheet l.stage l.had l.at l.invariant _ _ c.frame_at.ensures in
-    omega (arith, job_room s l.sheet l.stage l.had l.at l.invariant c.loop-at-test.true _ next _ (is c.in-Job.is))
+    omega (arith, job_room s l.sheet l.stage l.had l.at l.invariant c.loop-at-test.true _ next _ (is (c.in_ok-frame_at.was ∙ ap Ok c.in-Job.is)))
 
 pub bounds-sheet-n : goal.bounds-sheet-n
 bounds-sheet-n c =
@@ -62,7 +62,7 @@ bounds-sheet-n c =
     let s = c.args.s.now in
     let next = next_is s l.at size.result size.ensures.0 in
     let is = found-is s l.sheet l.stage l.had l.at l.invariant _ _ c.frame_at.ensures in
-    job_room s l.sheet l.stage l.had l.at l.invariant c.loop-at-test.true _ next _ (is c.in-Job.is)
+    job_room s l.sheet l.stage l.had l.at l.invariant c.loop-at-test.true _ next _ (is (c.in_ok-frame_at.was ∙ ap Ok c.in-Job.is))
 
 pub offset_bounds-sheet-n-in-Job : goal.offset_bounds-sheet-n-in-Job
 offset_bounds-sheet-n-in-Job c =
@@ -71,7 +71,7 @@ offset_bounds-sheet-n-in-Job c =
     let s = c.args.s.now in
     let next = next_is s l.at size.result size.ensures.0 in
     let is = found-is s l.sheet l.stage l.had l.at l.invariant _ _ c.frame_at.ensures in
-    omega (arith, job_room s l.sheet l.stage l.had l.at l.invariant c.loop-at-test.true _ next _ (is c.in-Job.is))
+    omega (arith, job_room s l.sheet l.stage l.had l.at l.invariant c.loop-at-test.true _ next _ (is (c.in_ok-frame_at.was ∙ ap Ok c.in-Job.is)))
 
 pub bounds-sheet-n-in-Job : goal.bounds-sheet-n-in-Job
 bounds-sheet-n-in-Job c =
@@ -80,7 +80,7 @@ bounds-sheet-n-in-Job c =
     let s = c.args.s.now in
     let next = next_is s l.at size.result size.ensures.0 in
     let is = found-is s l.sheet l.stage l.had l.at l.invariant _ _ c.frame_at.ensures in
-    job_room s l.sheet l.stage l.had l.at l.invariant c.loop-at-test.true _ next _ (is c.in-Job.is)
+    job_room s l.sheet l.stage l.had l.at l.invariant c.loop-at-test.true _ next _ (is (c.in_ok-frame_at.was ∙ ap Ok c.in-Job.is))
 
 pub overflow_add-sheet : goal.overflow_add-sheet
 overflow_add-sheet c =
@@ -89,7 +89,7 @@ overflow_add-sheet c =
     let s = c.args.s.now in
     let next = next_is s l.at size.result size.ensures.0 in
     let is = found-is s l.sheet l.stage l.had l.at l.invariant _ _ c.frame_at.ensures in
-    omega (arith, job_room s l.sheet l.stage l.had l.at l.invariant c.loop-at-test.true _ next _ (is c.in-Job.is))
+    omega (arith, job_room s l.sheet l.stage l.had l.at l.invariant c.loop-at-test.true _ next _ (is (c.in_ok-frame_at.was ∙ ap Ok c.in-Job.is)))
 
 pub loop-at-preserved-in-Foreign : goal.loop-at-preserved-in-Foreign
 loop-at-preserved-in-Foreign c =
@@ -100,7 +100,7 @@ loop-at-preserved-in-Foreign c =
     let next = next_is s l.at at-frame-size.result at-frame-size.ensures.0 in
     let is = found-is s l.sheet l.stage l.had l.at l.invariant _ _ c.frame_at.ensures in
     state_foreign s l.sheet l.stage l.had l.at l.invariant at-loop-test.true _ next
-    (is c.in-Foreign.is)
+    (is (c.in_ok-frame_at.was ∙ ap Ok c.in-Foreign.is))
 
 pub loop-at-preserved-in-Head : goal.loop-at-preserved-in-Head
 loop-at-preserved-in-Head c =
@@ -111,7 +111,7 @@ loop-at-preserved-in-Head c =
     let next = next_is s l.at at-frame-size.result at-frame-size.ensures.0 in
     let is = found-is s l.sheet l.stage l.had l.at l.invariant _ _ c.frame_at.ensures in
     state_head s l.sheet l.stage l.had l.at l.invariant at-loop-test.true _ next _
-    (is c.in-Head.is)
+    (is (c.in_ok-frame_at.was ∙ ap Ok c.in-Head.is))
 
 pub loop-at-preserved-in-Booking : goal.loop-at-preserved-in-Booking
 loop-at-preserved-in-Booking c =
@@ -122,7 +122,7 @@ loop-at-preserved-in-Booking c =
     let next = next_is s l.at at-frame-size.result at-frame-size.ensures.0 in
     let is = found-is s l.sheet l.stage l.had l.at l.invariant _ _ c.frame_at.ensures in
     state_booking s l.sheet l.stage l.had l.at l.invariant at-loop-test.true _ next _
-    (is c.in-Booking.is) _ c.add-had.ensures
+    (is (c.in_ok-frame_at.was ∙ ap Ok c.in-Booking.is)) _ c.add-had.ensures
 
 pub loop-at-preserved-in-Job : goal.loop-at-preserved-in-Job
 loop-at-preserved-in-Job c =
@@ -133,7 +133,7 @@ loop-at-preserved-in-Job c =
     let next = next_is s l.at at-frame-size.result at-frame-size.ensures.0 in
     let is = found-is s l.sheet l.stage l.had l.at l.invariant _ _ c.frame_at.ensures in
     state_job s l.sheet l.stage l.had l.at l.invariant at-loop-test.true _ next _
-    (is c.in-Job.is)
+    (is (c.in_ok-frame_at.was ∙ ap Ok c.in-Job.is))
 
 pub loop-at-preserved : goal.loop-at-preserved
 loop-at-preserved c =
@@ -144,7 +144,7 @@ loop-at-preserved c =
     let next = next_is s l.at at-frame-size.result at-frame-size.ensures.0 in
     let is = found-is s l.sheet l.stage l.had l.at l.invariant _ _ c.frame_at.ensures in
     state_end s l.sheet l.stage l.had l.at l.invariant at-loop-test.true _ next
-    (is c.in-End.is)
+    (is (c.in_ok-frame_at.was ∙ ap Ok c.in-End.is))
 
 pub finish-requires : goal.finish-requires
 finish-requires c =
@@ -152,19 +152,20 @@ finish-requires c =
     let l = c.loop-at in
     (l.invariant.p_fits, l.invariant.q_fits, state_minutes s l.sheet l.stage l.had l.at l.invariant)
 
-pub returns-in-Refused : goal.returns-in-Refused
-returns-in-Refused c =
+pub returns-in_err-finish : goal.returns-in_err-finish
+returns-in_err-finish c =
     let l = c.loop-at in
     let s = c.args.s.now in
-    let told = sym (c.finish.ensures l.sheet.booked) ∙ c.in-Refused.is in
+    let told = sym (c.finish.ensures l.sheet.booked) ∙ c.in_err-finish.was in
+    let p = err_from_is_err_and c.from_residual-in_err-finish.result c.from_residual-in_err-finish.ensures.1 in
     state_over s l.sheet l.stage l.had l.at l.invariant c.loop-at-test.false _
-    (c.refusal-in-Refused.ensures ∙ sym (ap (λ (v : Verdict). reading_of v l.sheet) told))
+    (rw (p.1, p.2) (sym (ap (λ (v : Verdict). reading_of v l.sheet) told)))
 
-pub returns-in-Accepted : goal.returns-in-Accepted
-returns-in-Accepted c =
+pub returns : goal.returns
+returns c =
     let l = c.loop-at in
     let s = c.args.s.now in
-    let told = sym (c.finish.ensures l.sheet.booked) ∙ c.in-Accepted.is in
+    let told = sym (c.finish.ensures l.sheet.booked) ∙ c.in_ok-finish.was in
     state_over s l.sheet l.stage l.had l.at l.invariant c.loop-at-test.false _
     (sym (ap (λ (v : Verdict). reading_of v l.sheet) told))
 

@@ -1,12 +1,8 @@
 -- The benches passed have the other ends of their rocks (NeighbourLaws).
-use Prim.Native.Nat.{◌≤◌, ◌-◌}
 use mathlib.Core.Path.{◌≡◌}
 use lib.ListN.{length}
 use Rattle.rock_graph.proofs.NeighbourLaws.{Nearing}
 use Rattle.rock_graph.proofs.maps.fill_neighbours.Given as goal
 
 abbrev pub invariant-loop-v : goal.invariant-loop-v
-invariant-loop-v l = (length l.neighbours ≡ length l.initial.neighbours) × (l.v ≤ 64) × (length l.initial.neighbours ≡ 64 → Nearing l.low l.high l.incident l.v l.neighbours)
-
-abbrev pub decreases-loop-v : goal.decreases-loop-v
-decreases-loop-v l = 64 - l.v
+invariant-loop-v l = length l.initial.neighbours ≡ 64 → Nearing l.low l.high l.incident l.v l.neighbours

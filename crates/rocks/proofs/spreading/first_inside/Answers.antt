@@ -1,32 +1,14 @@
--- No rock passed is inside.
-use native.Mathlib.Omega.{arith}
+-- The search finds the first rock inside.
+use Rattle.std.proofs.Common.{◌≡◌, true, false, rules, tests}
+use Rattle.std.proofs.lemmas.Iterator.{first_from_Range}
 use Rattle.bits.specs.Bits.{is_set}
 use Rattle.rocks.specs.SpreadArrays.{inside_at}
-use Rattle.arrays.proofs.ArrayLaws.{first_found, first_none, first_more}
+use Rattle.rocks.proofs.FirstLaws.{first_is}
 use Rattle.rocks.proofs.spreading.first_inside.Goals as goal
-
-pub loop-r-init : goal.loop-r-init
-loop-r-init c = (omega arith, λ i l. absurd (omega arith))
-
-pub returns-then-inside : goal.returns-then-inside
-returns-then-inside c =
-    let at-loop = c.loop-r in
-    let at-args = c.args in
-    first_found at-args.n.rocks (inside_at at-args.low.now at-args.dir.now (is_set 64 at-args.chosen))
-    at-loop.r (omega arith) at-loop.invariant.1 c.inside.ensures c.if-inside.true
-
-pub loop-r-preserved : goal.loop-r-preserved
-loop-r-preserved c =
-    let at-loop = c.loop-r in
-    let at-args = c.args in (
-      omega arith,
-      first_more (inside_at at-args.low.now at-args.dir.now (is_set 64 at-args.chosen))
-          at-loop.r at-loop.invariant.1 c.inside.ensures c.if-inside.false,
-    )
 
 pub returns : goal.returns
 returns c =
-    let at-loop = c.loop-r in
-    let at-args = c.args in
-    first_none at-args.n.rocks (inside_at at-args.low.now at-args.dir.now (is_set 64 at-args.chosen))
-    at-loop.r (omega arith) (omega arith) at-loop.invariant.1
+    first_is c.args.n.rocks (inside_at c.args.low.now c.args.dir.now (is_set 64 c.args.chosen))
+    (first_from_Range _ _ _ _ (λ r. inside_at c.args.low.now c.args.dir.now (is_set 64 c.args.chosen) r ≡ true)
+    (λ r. inside_at c.args.low.now c.args.dir.now (is_set 64 c.args.chosen) r ≡ false) c.find.ensures.ran
+    (λ x q k. search (rules, tests)) (λ x q k. (search (rules, tests), search (rules, tests))))

@@ -1,5 +1,4 @@
 -- k counts the rocks passed.
-use Prim.Native.Nat.{◌≤◌, ◌-◌}
 use mathlib.Core.Path.{◌≡◌}
 use Rattle.sums.specs.Sum.{count}
 use Rattle.bits.specs.Bits.{is_set}
@@ -7,7 +6,4 @@ use Rattle.rocks.specs.SpreadArrays.{inside_at}
 use Rattle.rocks.proofs.spreading.rocks_in.Given as goal
 
 abbrev pub invariant-loop-r : goal.invariant-loop-r
-invariant-loop-r l = (l.r ≤ l.n.rocks) × (l.k ≡ count l.r (inside_at l.low l.dir (is_set 64 l.chosen)))
-
-abbrev pub decreases-loop-r : goal.decreases-loop-r
-decreases-loop-r l = l.n.rocks - l.r
+invariant-loop-r l = l.k ≡ count l.r (inside_at l.low l.dir (is_set 64 l.chosen))

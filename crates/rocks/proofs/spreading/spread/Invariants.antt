@@ -5,8 +5,7 @@ use Rattle.rocks.specs.SpreadArrays.{Within, Shows}
 use Rattle.rocks.proofs.SpreadRun.{Spreading}
 use Rattle.rocks.proofs.spreading.spread.Given as goal
 
-abbrev pub invariant-loop-turns : goal.invariant-loop-turns
-invariant-loop-turns l = (S : ℕ → Bool) (ends : Within l.n.benches l.n.rocks l.low l.high) → Shows l.n.benches S l.chosen → Spreading l.n.benches l.n.rocks l.low l.high l.dir ends S l.turns l.set
-
-abbrev pub decreases-loop-turns : goal.decreases-loop-turns
-decreases-loop-turns l = l.turns
+abbrev pub invariant-loop : goal.invariant-loop
+invariant-loop l =
+    (S : ℕ → Bool) (ends : Within l.n.benches l.n.rocks l.low l.high) → Shows l.n.benches S l.chosen
+    → Spreading l.n.benches l.n.rocks l.low l.high l.dir ends S l.counter l.set

@@ -5,11 +5,8 @@ use Rattle.searching.proofs.SearchRun.{lent_at, search_starts}
 use Rattle.searching.proofs.searching.begin.Goals as goal
 
 pub returns : goal.returns
-returns c =
-    let at-args = c.args in
-    let at-decide = c.decide-first in
-    λ d L e.
-    let lent = lent_at d at-args.h at-args.jobs at-args.minutes.now at-args.allowed.now
-    at-args.booked L at-args.start (omega (arith, e, L.start_fits)) c.at_target.ensures in
-    search_starts d L.start_planned at-args.start e
-    (at-decide.ensures (with_target d at-args.start) lent) c.moves_of-moves.ensures
+returns c d L e =
+    let lent = lent_at d c.args.h c.args.jobs c.args.minutes.now c.args.allowed.now c.args.booked L c.args.start
+    (omega (arith, e, L.start_fits)) c.at_target.ensures in
+    search_starts d L.start_planned c.args.start e (c.decide-first.ensures (with_target d c.args.start) lent)
+    c.moves_of.ensures c.unwrap_or-moves.ensures

@@ -4,26 +4,19 @@ use Rattle.searching.specs.Searching.{half}
 use Rattle.searching.proofs.SearchRun.{lent_at, half-small, after_plan_lem, after_refusal_lem}
 use Rattle.searching.proofs.searching.next.Goals as goal
 
-pub returns-then-is_plan-clause-goes_on : goal.returns-then-is_plan-clause-goes_on
-returns-then-is_plan-clause-goes_on c =
-    let at-args = c.args in
-    let k = at-args.k in
-    let apart = c.requires in
-    λ d L S.
-    let small = half-small d L.start_fits k S apart in
-    let lent = lent_at d at-args.h at-args.jobs at-args.minutes.now at-args.allowed.now
-    at-args.booked L (half k) small c.at_target.ensures in
-    let D = c.decide-tried.ensures (with_target d (half k)) lent in
-    after_plan_lem d L.start_fits k S apart D c.is_plan.ensures c.if-is_plan.true c.moves_of-moves.ensures c.lowered.ensures
+pub returns-in-Some-clause-goes_on : goal.returns-in-Some-clause-goes_on
+returns-in-Some-clause-goes_on c d L S =
+    let small = half-small d L.start_fits c.args.k S c.requires in
+    let lent = lent_at d c.args.h c.args.jobs c.args.minutes.now c.args.allowed.now c.args.booked L (half c.args.k)
+    small c.at_target.ensures in
+    let D = c.decide-tried.ensures (with_target d (half c.args.k)) lent in
+    after_plan_lem d L.start_fits c.args.k S c.requires D c.moves_of.ensures c.in-Some.moves c.in-Some.is
+    c.lowered.ensures
 
-pub returns-else-is_plan-clause-goes_on : goal.returns-else-is_plan-clause-goes_on
-returns-else-is_plan-clause-goes_on c =
-    let at-args = c.args in
-    let k = at-args.k in
-    let apart = c.requires in
-    λ d L S.
-    let small = half-small d L.start_fits k S apart in
-    let lent = lent_at d at-args.h at-args.jobs at-args.minutes.now at-args.allowed.now
-    at-args.booked L (half k) small c.at_target.ensures in
-    let D = c.decide-tried.ensures (with_target d (half k)) lent in
-    after_refusal_lem d L.start_fits k S apart D c.is_plan.ensures c.if-is_plan.false c.raised.ensures
+pub returns-in_default-clause-goes_on : goal.returns-in_default-clause-goes_on
+returns-in_default-clause-goes_on c d L S =
+    let small = half-small d L.start_fits c.args.k S c.requires in
+    let lent = lent_at d c.args.h c.args.jobs c.args.minutes.now c.args.allowed.now c.args.booked L (half c.args.k)
+    small c.at_target.ensures in
+    let D = c.decide-tried.ensures (with_target d (half c.args.k)) lent in
+    after_refusal_lem d L.start_fits c.args.k S c.requires D c.moves_of.ensures c.in_default.is c.raised.ensures

@@ -8,4 +8,4 @@ abbrev pub invariant-loop-kept : goal.invariant-loop-kept
 invariant-loop-kept l = (d : Day) → LentSearch d l.h l.jobs l.minutes l.allowed l.booked → Searching d l.kept
 
 abbrev pub decreases-loop-kept : goal.decreases-loop-kept
-decreases-loop-kept l = l.kept.high - l.kept.low
+decreases-loop-kept l = l.kept.found.target - l.kept.low

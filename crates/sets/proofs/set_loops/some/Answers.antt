@@ -1,13 +1,15 @@
--- The entries passed that are not 0 are in the set (OpenRun).
-use native.Mathlib.Omega.{arith}
-use Rattle.sets.proofs.GatherLaws.{gathered_none, gathered_wide, has_some}
+-- The entries passed that are not 0 are in the set.
+use mathlib.Core.Path.{ap}
+use Prim.Native.Nat.{ℕ}
+use lib.Dec.{eqb}
+use mathlib.Core.Bool.{not}
+use Rattle.sets.proofs.GatherLaws.{gathered_none, gathered_more, has_some}
 use Rattle.sets.proofs.set_loops.some.Goals as goal
 
 pub loop-v-init : goal.loop-v-init
-loop-v-init c = (omega arith, gathered_none (has_some c.args.t.now))
+loop-v-init c = gathered_none (has_some c.args.t.now)
 
-pub returns : goal.returns
-returns c =
-    let at-loop = c.loop-v in
-    let at-args = c.args in
-    gathered_wide (has_some at-args.t.now) at-loop.v at-loop.found at-loop.invariant.1 (omega arith)
+pub loop-v-preserved : goal.loop-v-preserved
+loop-v-preserved c =
+    gathered_more (has_some c.args.t.now) c.loop-v.v c.loop-v.found c.add-found.result _ c.loop-v.invariant
+    (ap (λ (x : ℕ). not (eqb x 0)) c.at.ensures) c.add-found.ensures

@@ -1,5 +1,4 @@
 -- v is the lowest end of the rocks passed.
-use Prim.Native.Nat.{◌≤◌, ◌-◌}
 use mathlib.Core.Path.{◌≡◌}
 use Rattle.bits.specs.Bits.{is_set}
 use Rattle.rocks.specs.RockArrays.{lowest_end}
@@ -7,7 +6,4 @@ use Rattle.settle.specs.SettleArrays.{follows_at}
 use Rattle.settle.proofs.settling.first_neutral.Given as goal
 
 abbrev pub invariant-loop-r : goal.invariant-loop-r
-invariant-loop-r l = (l.r ≤ l.n.rocks) × (l.v ≡ lowest_end l.n.benches l.r l.low l.high (follows_at l.dir (is_set 64 l.marked)))
-
-abbrev pub decreases-loop-r : goal.decreases-loop-r
-decreases-loop-r l = l.n.rocks - l.r
+invariant-loop-r l = l.v ≡ lowest_end l.n.benches l.r l.low l.high (follows_at l.dir (is_set 64 l.marked))

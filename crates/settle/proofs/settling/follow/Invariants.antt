@@ -1,17 +1,12 @@
 -- Array and set show a state from which the rest of the loop gives what it gives from the start (SettleRun).
-use Prim.Native.Nat.{ℕ}
-use mathlib.Core.Path.{◌≡◌}
+use Prim.Native.Nat.{ℕ, ◌-◌}
 use mathlib.Core.Bool.{Bool}
 use mathlib.Core.List.{List}
-use lib.ListN.{length}
 use Rattle.algorithm.specs.Board.{Board, Directions}
 use Rattle.rocks.specs.BoardArrays.{Rocks, Directed}
 use Rattle.settle.specs.SettleArrays.{ShowsMarks}
 use Rattle.settle.proofs.SettleRun.{Following}
 use Rattle.settle.proofs.settling.follow.Given as goal
 
-abbrev pub invariant-loop-turns : goal.invariant-loop-turns
-invariant-loop-turns l = (length l.dir ≡ length l.initial.dir) × ((b : Board) (weight : List ℕ) (dirs : Directions) (ms : List Bool) (R : Rocks b l.n l.low l.high weight) → Directed b dirs l.initial.dir → ShowsMarks b ms l.first → Following b l.n l.low l.high weight R dirs ms l.turns l.dir l.marked)
-
-abbrev pub decreases-loop-turns : goal.decreases-loop-turns
-decreases-loop-turns l = l.turns
+abbrev pub invariant-loop : goal.invariant-loop
+invariant-loop l = (b : Board) (weight : List ℕ) (dirs : Directions) (ms : List Bool) (R : Rocks b l.n l.low l.high weight) → Directed b dirs l.initial.dir → ShowsMarks b ms l.first → Following b l.n l.low l.high weight R dirs ms (l.n.jobs - l.counter) l.dir l.marked

@@ -1,36 +1,28 @@
 -- By cases on the balance (SettleRun).
-use Rattle.settle.proofs.SettleRun.{system-shown, settle-tree, settle-cycle}
+use Rattle.std.proofs.Common.{rules}
+use Rattle.settle.proofs.SettleRun.{system-shown, settle-tree, some_cycle, settle-cycle}
 use Rattle.settle.proofs.settling.settle_system.Goals as goal
 
-pub returns-then-kind-eq-TREE : goal.returns-then-kind-eq-TREE
-returns-then-kind-eq-TREE c =
-    let at-if1 = c.if-kind-eq-TREE in
-    let at-balance = c.balance-kind in
-    let at-spread = c.spread-system in
-    let at_with = c.with-alone in
-    let at-args = c.args in
-    λ b weight dirs R D l.
-    let X = system-shown b at-args.n at-args.low.now at-args.high.now weight R dirs at-args.dir.now D
-    at-args.v at_with.result at-spread.result l at_with.ensures at-spread.ensures in
-    settle-tree b at-args.n at-args.low.now at-args.high.now weight R dirs at-args.dir.now D
-    at-args.v l at-spread.result X at-balance.ensures at_with.result at-if1.true at_with.ensures
+pub returns-then-eq : goal.returns-then-eq
+returns-then-eq c = λ b weight dirs R D l.
+    let X = system-shown b c.args.n c.args.low.now c.args.high.now weight R dirs c.args.dir.now D c.args.v
+    c.with-alone.result c.spread-system.result l c.with-alone.ensures c.spread-system.ensures in
+    settle-tree b c.args.n c.args.low.now c.args.high.now weight R dirs c.args.dir.now D c.args.v l
+    c.spread-system.result X c.set_balance.ensures c.with-alone.result (search (c.if-eq.true, c.eq.ensures, rules)) c.with-alone.ensures
     (λ ms M. c.follow.ensures b weight dirs ms R D M)
 
+pub returns-in_default : goal.returns-in_default
+returns-in_default c = λ b weight dirs R D l.
+    let X = system-shown b c.args.n c.args.low.now c.args.high.now weight R dirs c.args.dir.now D c.args.v
+    c.with-alone.result c.spread-system.result l c.with-alone.ensures c.spread-system.ensures in
+    absurd (some_cycle b c.args.n c.args.low.now c.args.high.now weight R dirs c.args.dir.now D c.args.v l
+    c.spread-system.result X c.set_balance.ensures (search (c.if-eq.false, c.eq.ensures, rules)) c.first_inside.ensures c.in_default.is)
+
 pub returns : goal.returns
-returns c =
-    let at-with2 = c.with in
-    let at_turn = c.turn-u in
-    let at_at = c.at in
-    let at-first-inside = c.first_inside-r in
-    let at-if1 = c.if-kind-eq-TREE in
-    let at-balance = c.balance-kind in
-    let at-spread = c.spread-system in
-    let at_with = c.with-alone in
-    let at-args = c.args in
-    λ b weight dirs R D l.
-    let X = system-shown b at-args.n at-args.low.now at-args.high.now weight R dirs at-args.dir.now D
-    at-args.v at_with.result at-spread.result l at_with.ensures at-spread.ensures in
-    settle-cycle b at-args.n at-args.low.now at-args.high.now weight R dirs at-args.dir.now D
-    at-args.v l at-spread.result X at-balance.ensures at-with2.result at-if1.false
-    at-first-inside.ensures at_at.ensures at_turn.ensures.0 at_turn.ensures.1 at-with2.ensures
+returns c = λ b weight dirs R D l.
+    let X = system-shown b c.args.n c.args.low.now c.args.high.now weight R dirs c.args.dir.now D c.args.v
+    c.with-alone.result c.spread-system.result l c.with-alone.ensures c.spread-system.ensures in
+    settle-cycle b c.args.n c.args.low.now c.args.high.now weight R dirs c.args.dir.now D c.args.v l
+    c.spread-system.result X c.set_balance.ensures c.with.result (search (c.if-eq.false, c.eq.ensures, rules)) c.first_inside.ensures
+    c.in-Some.is c.at.ensures c.turn-u.ensures.0 c.turn-u.ensures.1 c.with.ensures
     (λ x ms E M. c.follow-2.ensures b weight x ms R E M)

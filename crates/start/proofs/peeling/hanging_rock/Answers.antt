@@ -1,32 +1,16 @@
--- No rock passed is left at v.
-use native.Mathlib.Omega.{arith}
+-- The search stops at the first rock that is left at v.
+use mathlib.Core.Bool.{true, false}
+use mathlib.Core.Path.{◌≡◌}
+use Rattle.std.proofs.Common.{rules}
+use Rattle.std.proofs.lemmas.Iterator.{first_from_Range}
 use Rattle.start.specs.StartArrays.{left_rock}
-use Rattle.arrays.proofs.ArrayLaws.{first_found, first_more, first_none}
+use Rattle.rocks.proofs.FirstLaws.{first_is}
 use Rattle.start.proofs.peeling.hanging_rock.Goals as goal
-
-pub loop-r-init : goal.loop-r-init
-loop-r-init c = (omega arith, λ i l. absurd (omega arith))
-
-pub returns-then-left_at : goal.returns-then-left_at
-returns-then-left_at c =
-    let at-loop = c.loop-r in
-    let at-args = c.args in
-    first_found at-args.n.rocks (left_rock at-args.job.now at-args.low.now at-args.high.now
-    at-args.left.now at-args.v) at-loop.r (omega arith) at-loop.invariant.1 c.left_at.ensures
-    c.if-left_at.true
-
-pub loop-r-preserved : goal.loop-r-preserved
-loop-r-preserved c =
-    let at-loop = c.loop-r in
-    let at-args = c.args in (
-      omega arith,
-      first_more (left_rock at-args.job.now at-args.low.now at-args.high.now
-          at-args.left.now at-args.v) at-loop.r at-loop.invariant.1 c.left_at.ensures c.if-left_at.false,
-    )
 
 pub returns : goal.returns
 returns c =
-    let at-loop = c.loop-r in
-    let at-args = c.args in
-    first_none at-args.n.rocks (left_rock at-args.job.now at-args.low.now at-args.high.now
-    at-args.left.now at-args.v) at-loop.r (omega arith) (omega arith) at-loop.invariant.1
+    first_is _ _
+    (first_from_Range _ _ _ _
+    (λ r. left_rock c.args.job.now c.args.low.now c.args.high.now c.args.left.now c.args.v r ≡ true)
+    (λ r. left_rock c.args.job.now c.args.low.now c.args.high.now c.args.left.now c.args.v r ≡ false) c.find.ensures.ran
+    (λ x q k. search rules) (λ x q k. (search rules, search rules)))

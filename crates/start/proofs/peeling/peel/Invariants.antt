@@ -1,6 +1,5 @@
 -- The arrays show a state from which the rest of the peeling gives what it gives from the start (StartRun).
-use mathlib.Core.Path.{◌≡◌}
-use lib.ListN.{length}
+use Prim.Native.Nat.{◌-◌}
 use Rattle.day.specs.Day.{Day}
 use Rattle.algorithm.specs.Start.{State}
 use Rattle.rocks.specs.DayArrays.{DayRocks, Cycles}
@@ -8,8 +7,5 @@ use Rattle.start.specs.StartArrays.{JobsOf, Placed}
 use Rattle.start.proofs.StartRun.{Peeling}
 use Rattle.start.proofs.peeling.peel.Given as goal
 
-abbrev pub invariant-loop-turns : goal.invariant-loop-turns
-invariant-loop-turns l = (length l.left ≡ length l.initial.left) × (length l.place ≡ length l.initial.place) × ((d : Day) (s : State) → DayRocks d l.n l.low l.high → JobsOf d l.job → Cycles d l.balance → Placed d s l.initial.left l.initial.place → Peeling d s l.turns l.left l.place)
-
-abbrev pub decreases-loop-turns : goal.decreases-loop-turns
-decreases-loop-turns l = l.turns
+abbrev pub invariant-loop : goal.invariant-loop
+invariant-loop l = (d : Day) (s : State) → DayRocks d l.n l.low l.high → JobsOf d l.job → Cycles d l.balance → Placed d s l.initial.left l.initial.place → Peeling d s (l.n.jobs - l.counter) l.left l.place

@@ -1,52 +1,36 @@
 -- The jobs passed were gathered.
+use mathlib.Core.Path.{sym, ap, ◌∙◌}
 use native.Mathlib.Omega.{arith}
-use Rattle.start.proofs.StartLaws.{gathered_starts, gathered_more, gathered-all, gathered_job, gathered_low, gathered_high}
+use lib.ListN.{set}
+use Rattle.sums.proofs.CountLaws.{count-le}
+use Rattle.sets.specs.Sets.{lowest_of, highest_of}
+use Rattle.start.proofs.StartLaws.{marks, gathered_starts, gathered_more, gathered_past, gathered-all}
+use Rattle.start.proofs.start.gather.Goals.{then-at, else-at}
 use Rattle.start.proofs.start.gather.Goals as goal
 
 pub loop-j-init : goal.loop-j-init
 loop-j-init c =
-    let at-args = c.args in (
-      omega arith,
-      gathered_starts at-args.jobs at-args.marked.now at-args.allowed.now at-args.job.now
-          at-args.low.now at-args.high.now,
-    )
+    gathered_starts c.args.jobs c.args.marked.now c.args.allowed.now c.args.job.now c.args.low.now c.args.high.now
+
+pub overflow_add-k : goal.overflow_add-k
+overflow_add-k c =
+    omega (arith, c.loop-j.invariant.so_many, count-le c.loop-j.j (marks c.args.marked.now), c.loop-j-test.true, c.ranges.jobs)
 
 pub loop-j-preserved : goal.loop-j-preserved
-loop-j-preserved c =
-    let at-gather-job = c.gather_job-k in
-    let at-loop = c.loop-j in
-    let at-args = c.args in (
-      omega arith,
-      gathered_more at-args.jobs at-args.marked.now at-args.allowed.now at-args.job.now
-          at-args.low.now at-args.high.now at-loop.invariant.1 (omega arith) (omega arith) at-gather-job.ensures.0
-          at-gather-job.ensures.1 at-gather-job.ensures.2 at-gather-job.ensures.3,
-    )
-
-pub shape_of-job : goal.shape_of-job
-shape_of-job c =
-    let at-args = c.args in
-    gathered_job at-args.jobs at-args.marked.now at-args.allowed.now at-args.job.now
-    at-args.low.now at-args.high.now c.loop-j.invariant.1
-
-pub shape_of-low : goal.shape_of-low
-shape_of-low c =
-    let at-args = c.args in
-    gathered_low at-args.jobs at-args.marked.now at-args.allowed.now at-args.job.now
-    at-args.low.now at-args.high.now c.loop-j.invariant.1
-
-pub shape_of-high : goal.shape_of-high
-shape_of-high c =
-    let at-args = c.args in
-    gathered_high at-args.jobs at-args.marked.now at-args.allowed.now at-args.job.now
-    at-args.low.now at-args.high.now c.loop-j.invariant.1
+loop-j-preserved c = elim c.if-at.branch [
+  | then-at w ↦
+      gathered_more _ _ _ _ _ _ c.loop-j.invariant c.loop-j-test.true (sym c.at.ensures ∙ w.if-at.true) w.k-is
+      (w.job-is ∙ w.put.ensures)
+      (w.low-is ∙ w.put-then-at.ensures ∙ ap (set c.loop-j.low c.loop-j.k) (w.lowest.ensures ∙ ap lowest_of w.at-set.ensures))
+      (w.high-is ∙ w.put-then-at-2.ensures ∙ ap (set c.loop-j.high c.loop-j.k) (w.highest.ensures ∙ ap highest_of w.at-set.ensures))
+  | else-at w ↦
+      gathered_past _ _ _ _ _ _ c.loop-j.invariant (sym c.at.ensures ∙ w.if-at.false) w.k-is w.job-is w.low-is w.high-is
+]
 
 pub returns : goal.returns
-returns c =
-    let at-loop = c.loop-j in
-    let at-args = c.args in (
-      gathered-all at-args.jobs at-args.marked.now at-args.allowed.now at-args.job.now
-          at-args.low.now at-args.high.now at-loop.invariant.1 at-loop.invariant.0 (omega arith),
-      at-loop.invariant.1.jobs_in,
-      at-loop.invariant.1.lows_in,
-      at-loop.invariant.1.highs_in,
-    )
+returns c = (
+  gathered-all _ _ _ _ _ _ c.loop-j.invariant c.loop-j.auto.j-end (omega arith),
+  c.loop-j.invariant.jobs_in,
+  c.loop-j.invariant.lows_in,
+  c.loop-j.invariant.highs_in,
+)

@@ -1,15 +1,12 @@
 -- `put`: where the table has room for the entry, its eight bytes are put there.
 use native.Mathlib.Omega.{arith}
-use mathlib.Core.Path.{sym, ◌∙◌}
-use Rattle.tables.proofs.TableSteps.{put_none, put_some}
+use mathlib.Core.Path.{◌∙◌}
+use Rattle.tables.proofs.TableSteps.{put_none, put_over}
 use Rattle.tables.proofs.table.put.Goals as goal
 
-pub returns-then-t-n : goal.returns-then-t-n
-returns-then-t-n c =
-    let a = c.args in
-    put_none a.t.now a.n a.v (omega arith)
+pub returns-then-n-t : goal.returns-then-n-t
+returns-then-n-t c =
+    put_over c.args.t.now c.args.n c.args.v (omega arith) (c.copy_from_slice.ensures.after ∙ c.to_le_bytes.ensures)
 
-pub returns : goal.returns
-returns c =
-    let a = c.args in
-    c.put_at.ensures ∙ sym (put_some a.t.now a.n a.v (omega arith))
+pub returns-else-n-t : goal.returns-else-n-t
+returns-else-n-t c = put_none c.args.t.now c.args.n c.args.v (omega arith)

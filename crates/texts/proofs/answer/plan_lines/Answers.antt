@@ -4,5 +4,4 @@ use Rattle.texts.proofs.answer.plan_lines.Goals as goal
 
 pub returns : goal.returns
 returns c =
-    let args = c.args in
-    plan_put args.places.now args.a c.bytes-end.ensures c.triple-end.ensures c.jobs.ensures
+    plan_put c.args.places.now c.args.a c.bytes-end.ensures c.triple-end.ensures c.jobs.ensures

@@ -1,5 +1,4 @@
 -- What is booked on the benches passed (WeightLaws).
-use Prim.Native.Nat.{◌≤◌, ◌-◌}
 use mathlib.Core.Path.{◌≡◌}
 use Rattle.sums.specs.Sum.{sum}
 use Rattle.day.specs.Day.{Day}
@@ -8,8 +7,5 @@ use Rattle.weighing.proofs.WeightLaws.{booked_in}
 use Rattle.weighing.proofs.weighing.booked_weight.Given as goal
 
 abbrev pub invariant-loop-v : goal.invariant-loop-v
-invariant-loop-v l = (l.v ≤ l.benches)
-    × ((d : Day) → (B : Bookings d l.benches l.booked) → l.total ≡ sum l.v (booked_in d l.benches l.booked l.set B))
-
-abbrev pub decreases-loop-v : goal.decreases-loop-v
-decreases-loop-v l = l.benches - l.v
+invariant-loop-v l = (d : Day) → (B : Bookings d l.benches l.booked)
+    → l.total ≡ sum l.v (booked_in d l.benches l.booked l.set B)

@@ -3,6 +3,4 @@ use Rattle.weighing.proofs.WeightLaws.{inside_is}
 use Rattle.weighing.proofs.weighing.inside.Goals as goal
 
 pub returns : goal.returns
-returns c =
-    let at-args = c.args in
-    inside_is at-args.allowed at-args.set c.less.result c.less.type_inv c.less.ensures
+returns c = inside_is c.args.allowed c.args.set c.less.result c.less.type_inv c.less.ensures

@@ -1,15 +1,15 @@
 -- The verdict is that of the head where it refuses, and else that of the bookings.
+use Rattle.std.proofs.lemmas.Result.{err_from_is_err_and}
 use Rattle.frame.proofs.WriterSteps.{opening_refused, opening_passed}
 use Rattle.writing.proofs.writer.check_opening.Goals as goal
 
-pub returns-in-Refused : goal.returns-in-Refused
-returns-in-Refused c =
+pub returns-in_err-check_head : goal.returns-in_err-check_head
+returns-in_err-check_head c =
     let a = c.args in
-    opening_refused a.h a.booked.now c.check_head.ensures c.in-Refused.is
+    let p = err_from_is_err_and c.from_residual.result c.from_residual.ensures.1 in
+    rw (p.1, p.2) (opening_refused a.h a.booked.now c.check_head.ensures c.in_err-check_head.was)
 
-pub returns-in-Accepted : goal.returns-in-Accepted
-returns-in-Accepted c =
+pub returns : goal.returns
+returns c =
     let a = c.args in
-    let at-check-head = c.check_head in
-    opening_passed a.h a.booked.now at-check-head.ensures c.in-Accepted.is
-    c.check_bookings.ensures
+    opening_passed a.h a.booked.now c.check_head.ensures c.in_ok-check_head.was c.check_bookings.ensures

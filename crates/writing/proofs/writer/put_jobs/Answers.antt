@@ -1,10 +1,10 @@
 -- The loop's invariant: the frames of the first i jobs stand from byte start on, and all else is as it was.
 use Prim.Native.Nat.{ℕ, ◌+◌, ◌-◌, ◌*◌, ◌^◌, ◌<◌}
 use native.Mathlib.Omega.{arith}
-use mathlib.Core.Path.{◌≡◌, refl, sym, ap, ◌∙◌}
+use mathlib.Core.Path.{◌≡◌, sym, ap, ◌∙◌}
 use mathlib.Core.List.{List, ◌++◌, append_assoc}
 use lib.ListN.{take, drop}
-use borrow.Rule.Slice.PartMut.{post_of, Post-is, same_len_mid}
+use borrow.Rule.Slice.PartMut.{post_of, Post-is}
 use Rattle.fields.specs.declared.sheet.Job.{Job}
 use Rattle.fields.specs.Format.{job_frame}
 use Rattle.packing.proofs.PutLaws.{job_fits}
@@ -14,7 +14,7 @@ use Rattle.writing.proofs.writer.put_jobs.Goals as goal
 pub loop-i-init : goal.loop-i-init
 loop-i-init c =
     let a = c.args in
-    (omega arith, refl, jobs_none a.start a.out.now)
+    jobs_none a.start a.out.now
 
 pub loop-i-preserved : goal.loop-i-preserved
 loop-i-preserved c =
@@ -31,18 +31,10 @@ loop-i-preserved c =
     let whole = ap (λ (ys : List ℕ). take at out ++ (ys ++ post_of at (at + 14 - at) out)) part ∙ ap
     (λ (rest : List ℕ). take at out ++ (job_frame j ++ rest)) (Post-is at (at + 14) out (omega arith)) ∙ sym
     (append_assoc (take at out) (job_frame j) (drop (at + 14) out)) in
-    let more = jobs_more a.start a.out.now a.minutes.now a.allowed.now c.loop-i.i j (omega arith)
-    c.loop-i.invariant.2 minutes.ensures c.allowed_at.ensures whole in (
-      omega arith,
-      same_len_mid at (at + 14 - at) out c.put_job.new.out c.put_job.auto.out ∙
-          c.loop-i.invariant.1,
-      more,
-    )
-
-pub shape_of-out : goal.shape_of-out
-shape_of-out c = c.loop-i.invariant.1
+    jobs_more a.start a.out.now a.minutes.now a.allowed.now c.loop-i.i j (omega (arith, c.loop-i.auto.out))
+    c.loop-i.invariant minutes.ensures c.allowed_at.ensures whole
 
 pub returns : goal.returns
 returns c =
     let e : c.loop-i.i ≡ c.args.n = omega arith in
-    rw (← e) c.loop-i.invariant.2
+    rw (← e) c.loop-i.invariant

@@ -14,15 +14,9 @@ use Rattle.run.proofs.state.State.start.Goals as goal
 
 pub returns : goal.returns
 returns c =
-    let at-to-bytes = c.to_bytes in
-    let at-fill-reach = c.fill_reach in
-    let at-own-loads = c.own_loads in
-    let at-peel = c.peel in
-    let at-place-lowest = c.place_lowest in
-    let at-args = c.args in
-    let n = at-args.n in
-    let allowed = at-args.allowed.now in
-    let rocks = at-args.left.now in
+    let n = c.args.n in
+    let allowed = c.args.allowed.now in
+    let rocks = c.args.left.now in
     let wide = length-replicate {A = ℕ} 512 0 in
     record {
       unexplored = refl;
@@ -32,27 +26,25 @@ returns c =
           let sound = S.day_rocks.sound in
           let few = F.bounded.few_jobs in
           let P = start-placed d n.jobs minutes allowed (replicate 512 0) rocks F sound
-          (omega (arith, room.left_room, few)) (omega (arith, wide, few)) S.rocky at-place-lowest.ensures
-          (λ s Q. at-peel.ensures d s S.day_rocks S.rock_jobs S.cycles Q) in
-          let fits : n.jobs ≤ length at-args.place.now = omega (arith, room.place_room, F.jobs_are, few) in
-          let bytes = at-to-bytes.ensures (omega (arith, P.place_room, F.jobs_are)) fits
+          (omega (arith, room.left_room, few)) (omega (arith, wide, few)) S.rocky c.place_lowest.ensures
+          (λ s Q. c.peel.ensures d s S.day_rocks S.rock_jobs S.cycles Q) in
+          let fits : n.jobs ≤ length c.args.place.now = omega (arith, room.place_room, F.jobs_are, few) in
+          let shown = placed_copied n.jobs _ _ fits
           (λ i h. omega (
             arith,
             P.places i (omega (arith, F.jobs_are)),
-            start-below d sound i
-                (omega (arith, F.jobs_are)),
+            start-below d sound i (omega (arith, F.jobs_are)),
             F.bounded.few_benches,
-          )) in
-          let shown = placed_copied n.jobs _ _ fits bytes d _ _ F.jobs_are P in (
+          ))
+          c.from_numbers.ensures d _ _ F.jobs_are P in (
             record {
               held = started_places d n minutes allowed _ _ _ _ _ _ _ _ B _ _ shown;
               made = refl;
-              own_room = at-own-loads.auto.own ∙ room.own_room;
-              reach_room = at-fill-reach.auto.reach ∙ ap length room.unreached ∙ length-replicate {A =
-                  ℕ} 64 0;
+              own_room = c.own_loads.auto.own ∙ room.own_room;
+              reach_room = c.fill_reach.auto.reach ∙ ap length room.unreached ∙ length-replicate {A = ℕ} 64 0;
               owned = started_owned d n minutes allowed _ _ _ _ _ _ _ _ B _ _ P room.own_room _
-                  (load_after _ _ _ n.jobs _ at-own-loads.ensures);
-              reaches = at-fill-reach.ensures (board_of d (start d)) F.jobs_are F.bounded.few_benches
+                  (load_after _ _ _ n.jobs _ c.own_loads.ensures);
+              reaches = c.fill_reach.ensures (board_of d (start d)) F.jobs_are F.bounded.few_benches
                   (started_pebbles d n minutes allowed _ _ _ _ _ _ _ _ B _ _ P) room.unreached;
             },
             shown,

@@ -1,6 +1,0 @@
--- Entry by entry of its part.
-use native.Mathlib.Omega.{arith}
-use Rattle.rock_graph.proofs.graph.incident.Goals as goal
-
-pub returns : goal.returns
-returns c = c.part.ensures (omega arith)
