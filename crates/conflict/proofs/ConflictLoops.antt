@@ -1,9 +1,9 @@
 -- The two loops of the construction of the conflict set, each search through its candidates.
---     rock_out, some_out        a search through the rocks of a bench
+--     rock_out, rock_there      a search through the rocks of a bench
 --     fake_lowest, fake_none    the lowest neutral rock of a bench, where it is in the conflict set
 --     Closes, Closed            what the loop that closes the conflict set keeps, and what it leaves behind
 --     Builds, Ends              the same of the loop with the fake orientations, which keeps the neutral rocks too
-use Rattle.std.proofs.Common.{Some, None}
+use Rattle.std.specs.Prelude.{Option, Some, None, is_some}
 use Prim.Native.Nat.{ℕ, suc, ◌≤◌, ◌<◌}
 use mathlib.Core.Path.{◌≡◌, refl, sym, ap, subst, ◌∙◌}
 use mathlib.Core.Bool.{Bool, true, false, ◌&&◌, ◌||◌}
@@ -15,7 +15,7 @@ use lib.ListN.{get_or, set, length}
 use lib.Dec.{eqb, ltb}
 use Rattle.bools.proofs.BoolLaws.{and_right, and-false_right, and_unit}
 use Rattle.sums.specs.Search.{least}
-use Rattle.sums.proofs.SearchLaws.{any_false, least-none, least_cong}
+use Rattle.sums.proofs.SearchLaws.{least-none, least_cong}
 use Rattle.bits.specs.Bits.{is_set}
 use Rattle.rocks.specs.declared.rocks.Limits.{Limits}
 use Rattle.algorithm.specs.Board.{Board, Directions}
@@ -30,7 +30,7 @@ use Rattle.rock_graph.specs.Neighbours.{Incident, Neighbours}
 use Rattle.forced.specs.SetArrays.{Covers, Nowhere, forces_at, Tails}
 use Rattle.forced.specs.CandidateArrays.{Neutral, some_rock, bench_of, rock_of}
 use Rattle.forced.proofs.AnswerLaws.{first_at, first_past}
-use Rattle.forced.proofs.CandidateLaws.{Met, bench_near, rock_met, first_rock, candidate_below, candidate_lowest, candidate_none, rock-ends, few-rocks, few_benches, nowhere as found_nowhere}
+use Rattle.forced.proofs.CandidateLaws.{Met, rock_found, rock_none, bench_near, rock_met, first_rock, candidate_below, candidate_lowest, candidate_none, rock-ends, few-rocks, few_benches, nowhere as found_nowhere}
 use Rattle.forced.proofs.NeutralLaws.{WithOne, LessOne, BothOf, without_one, free-least, neutral_next}
 use Rattle.conflict.proofs.ConflictRun.{Closing, closing_goes_on, closing_ends, closing_spent, Building, building_starts, building_goes_on, building_ends, building_spent, faked, fake-seen}
 use Rattle.conflict.proofs.ConflictSets.{grew_none, grew_join, closed_nowhere, neutral-nowhere, Growing, growing_goes_on, fakes_more, forces-far, joins-tails, fakes_rest}
@@ -45,11 +45,13 @@ module _ (incident : List ℕ) (P : ℕ → ℕ → Bool) (v : ℕ) where
       (λ r l. and-false_right (is_set 64 (get_or incident v 0) r) (none r)) in
       first_past (λ r. is_set 64 (get_or incident v 0) r && P r v) (omega (arith, e))
 
-  pub some_out : ((r : ℕ) → P r v ≡ false) → false ≡ some_rock incident P v
-  unfolding some_rock
-  some_out none =
-      sym (any_false 64 (λ r. is_set 64 (get_or incident v 0) r && P r v)
-      (λ r l. and-false_right (is_set 64 (get_or incident v 0) r) (none r)))
+  -- There is such a rock where one is found.
+  pub rock_there : is_some (rock_of incident P v) ≡ some_rock incident P v
+  rock_there = there (rock_of incident P v) refl
+    where
+      there : (found : Option ℕ) → found ≡ rock_of incident P v → is_some found ≡ some_rock incident P v
+      there None e = sym (rock_none incident P v e)
+      there (Some r) e = sym (rock_found incident P v r e)
 
 module _ (n : Limits) (low high dir incident : List ℕ) (neutral : ℕ) (H : Incident n low high incident) (N : Neutral n dir neutral) (v : ℕ) (hv : v < 64) (set : ℕ)
     (both : BothOf set (get_or incident v 0) neutral) where

@@ -7,31 +7,37 @@ ghost use Rattle.conflict.specs.ConflictArrays.{joins_at, fake_at, Opened, Built
 ghost use Rattle.rock_graph.specs.Neighbours.{Incident};
 ghost use Rattle.rock_graph.specs.Graph.{incidents, lows, highs, RockGraph};
 ghost use Rattle.forced.specs.SetArrays.{Covers, Nowhere};
-ghost use Rattle.forced.specs.CandidateArrays.{Neutral, some_rock, rock_of, bench_of};
+ghost use Rattle.forced.specs.CandidateArrays.{Neutral, rock_of, bench_of};
 
 use forced::Changed;
 use rock_graph::Graph;
 use rocks::Limits;
 
-// Whether v joins the conflict set, by one of its rocks.
-fn joins(benches: usize, graph: &Graph, dir: &[usize], joined: &[usize], v: usize) -> bool
+// The lowest rock by which v joins the conflict set.
+fn joining_rock(
+    benches: usize,
+    graph: &Graph,
+    dir: &[usize],
+    joined: &[usize],
+    v: usize,
+) -> Option<usize>
     ensures { result
-        ≡ some_rock (incidents graph.now)
+        ≡ rock_of (incidents graph.now)
         (joins_at benches (lows graph.now) (highs graph.now) dir.now
         joined.now) v }
 {
     if rocks::within(benches, joined, v) {
-        return false;
+        return None;
     }
     let mut left = graph.incident(v);
     while 0 < left {
         let r = sets::lowest(left);
         if graph.father(benches, dir, joined, r, v) {
-            return true;
+            return Some(r);
         }
         left = sets::after(left, r);
     }
-    false
+    None
 }
 
 // The lowest candidate that joins the conflict set.
@@ -50,7 +56,7 @@ fn first_joining(
     let mut left = cand;
     while 0 < left {
         let v = sets::lowest(left);
-        if joins(benches, graph, dir, joined, v) {
+        if joining_rock(benches, graph, dir, joined, v).is_some() {
             return Some(v);
         }
         left = sets::after(left, v);

@@ -1,5 +1,5 @@
 // The run of a day, and the decision at its last state. Nothing is written.
-ghost use Rattle.std.specs.Prelude.{◌≡◌, ℕ, ◌<◌, Bool, false, List, ltb, get_or, replicate};
+ghost use Rattle.std.specs.Prelude.{◌≡◌, ℕ, ◌<◌, Bool, false, List, map, ltb, get_or, replicate};
 ghost use Rattle.sums.specs.Sum.{count};
 ghost use Rattle.day.specs.Day.{Day, long_job};
 ghost use Rattle.algorithm.specs.Start.{crowded_bench};
@@ -8,7 +8,7 @@ ghost use Rattle.decisions.specs.Decision.{Decides};
 
 use crate::decision::{Decided, Decision, PlanMoves};
 use answers::NoneAnswer;
-use rocks::{Balance, Limits};
+use rocks::{Limits, Standing};
 use run::State;
 
 // A decision that is no plan.
@@ -55,7 +55,7 @@ fn finish(
 }
 
 // The run of a day without a long job or a crowded component.
-pub fn decide_run(
+pub fn decide_run<S: Standing>(
     n: Limits,
     rock: [bool; 512],
     burden: [usize; 64],
@@ -65,11 +65,11 @@ pub fn decide_run(
     job: &[usize],
     low: &[usize],
     high: &[usize],
-    balance: &[Balance],
+    balance: &[S],
 ) -> Decided
     ensures { (d : Day) → (minutes : List ℕ)
         → Begins d n minutes allowed.now amount.now job.now low.now
-        high.now balance.now burden rock pebble.now
+        high.now (map S.balance balance.now) burden rock pebble.now
         → Decides d result }
 {
     let mut left = rock;

@@ -1,5 +1,6 @@
 -- The faults of a page, found set by set.
 --     unfit-empty, unfit-foreign    number 17: an empty set, else by the lowest bench that the head lacks
+--     unfit-found       the same by the search for that bench
 --     meets_is          the benches that two sets have in common are none where they share none
 --     by_17, by_18, by_none     the verdict of a set
 --     Tried benches page seen i     what the loop keeps: no fault before set i, and the benches seen so far
@@ -40,16 +41,22 @@ unfit-empty benches set e =
     any_false 64 (is_set 64 set) (λ v l. ap (λ (n : ℕ). is_set 64 n v) e ∙ is_set-zero 64 v) in
     rw none refl
 
-pub unfit-foreign : (benches set : ℕ) {r : Option ℕ} → set < 2 ^ 64 → set ≢ 0 → r ≡ foreign_of benches set
-    → is_some r ≡ unfit benches set
+pub unfit-foreign : (benches set r : ℕ) → set < 2 ^ 64 → set ≢ 0 → r ≡ foreign_in benches set
+    → ltb r 64 ≡ unfit benches set
 unfolding unfit
-unfit-foreign benches set small some e =
+unfit-foreign benches set r small some e =
     let there : any 64 (is_set 64 set) ≡ true = any-is_set 64 set small ∙ ap not (ne_eqb set 0 some) in
-    rw (there, e) (found (ltb (foreign_in benches set) 64) (foreign_in benches set))
+    rw (there, e) refl
+
+pub unfit-found : (benches set : ℕ) {r : Option ℕ} → set < 2 ^ 64 → set ≢ 0 → r ≡ foreign_of benches set
+    → is_some r ≡ unfit benches set
+unfit-found benches set small some e =
+    ap (λ (found : Option ℕ). is_some found) e ∙ told (ltb (foreign_in benches set) 64) (foreign_in benches set)
+    ∙ unfit-foreign benches set (foreign_in benches set) small some refl
   where
-    found : (b : Bool) (n : ℕ) → is_some (then_some b n) ≡ b
-    found true n = refl
-    found false n = refl
+    told : (b : Bool) (n : ℕ) → is_some (then_some b n) ≡ b
+    told true n = refl
+    told false n = refl
 
 pub meets_is : (a b r : ℕ) → r < 2 ^ 64 → ((u : ℕ) → is_set 64 r u ≡ (is_set 64 a u && is_set 64 b u))
     → not (eqb r 0) ≡ overlap a b

@@ -18,7 +18,6 @@ use Rattle.algorithm.specs.Start.{joined, component, rocks_in}
 use Rattle.algorithm.proofs.Graph.{component_same, edges_mono}
 use Rattle.algorithm.proofs.RockGraph.{rock-graph, rocks-component, component-self}
 use Rattle.rocks.specs.declared.balancing.Balance.{Balance}
-use Rattle.rocks.specs.declared.balancing.Balance.TheVariants.{Tree}
 use Rattle.rocks.specs.SpreadArrays.{balance_of, Shows}
 use Rattle.rocks.specs.DayArrays.{balance_in, BalancesTo}
 use Rattle.rocks.proofs.SpreadRun.{shows_entry}
@@ -37,29 +36,33 @@ module _ (d : Day) where
       ) in
       ap₂ balance_of rocks-same (count_cong d.benches (component d u) (component d v) same)
 
-  module _ (v : ℕ) (hv : v < d.benches) (xs : List Balance) (X : BalancesTo d v xs) where
-    -- One more entry is known, where all that changed is known.
-    step : (ys : List Balance) → length ys ≡ length xs → get_or ys v Tree ≡ balance_in d v
-        → ((u : ℕ) → u < d.benches → (get_or ys u Tree ≡ balance_in d u) ⊎ (get_or ys u Tree ≡ get_or xs u Tree)) → BalancesTo d (v + 1) ys
-    step ys same here each =
-        record {
-          room = omega (arith, X.room);
-          known = λ u l h. elim (eq-or-ne u v) [
-            | inl e ↦ subst (λ (k : ℕ). get_or ys k Tree ≡ balance_in d k) (sym e) here
-            | inr ne ↦ elim (each u h) [ inl q ↦ q | inr q ↦ q ∙ X.known u (lt_of_ne u v (omega arith) ne) h ]
-          ];
-          others = λ u h ne. elim (each u h) [ inl q ↦ q | inr q ↦ q ∙ X.others u h (λ t. ne (q ∙ t)) ];
-        }
+-- Entries stand for balances.
+module _ {A : Type 0} (entry : Balance → A) (blank : A) (d : Day) (v : ℕ) (hv : v < d.benches) (xs : List A)
+    (X : BalancesTo entry blank d v xs) where
+  -- One more entry is known, where all that changed is known.
+  step : (ys : List A) → length ys ≡ length xs → get_or ys v blank ≡ entry (balance_in d v)
+      → ((u : ℕ) → u < d.benches → (get_or ys u blank ≡ entry (balance_in d u)) ⊎ (get_or ys u blank ≡ get_or xs u blank))
+      → BalancesTo entry blank d (v + 1) ys
+  step ys same here each =
+      record {
+        room = omega (arith, X.room);
+        known = λ u l h. elim (eq-or-ne u v) [
+          | inl e ↦ subst (λ (k : ℕ). get_or ys k blank ≡ entry (balance_in d k)) (sym e) here
+          | inr ne ↦ elim (each u h) [ inl q ↦ q | inr q ↦ q ∙ X.known u (lt_of_ne u v (omega arith) ne) h ]
+        ];
+        others = λ u h ne. elim (each u h) [ inl q ↦ q | inr q ↦ q ∙ X.others u h (λ t. ne (q ∙ t)) ];
+      }
 
-    pub balances_fill : (set : ℕ) {ys : List Balance} {b : Balance} → Shows d.benches (component d v) set → b ≡ balance_in d v → length ys ≡ length xs
-        → ((u : ℕ) → u < length xs → get_or ys u Tree ≡ cond (is_set 64 set u) b (get_or xs u Tree)) → BalancesTo d (v + 1) ys
-    balances_fill set {ys} {b} is eb long filled =
-        let entry : (u : ℕ) → u < d.benches → get_or ys u Tree ≡ cond (component d v u) (balance_in d v) (get_or xs u Tree) =
-        λ u h. filled u (omega (arith, X.room))
-        ∙ ap₂ (λ (t : Bool) (k : Balance). cond t k (get_or xs u Tree)) (shows_entry d.benches (component d v) set is u h) eb in
-        step ys long
-        (entry v hv ∙ ap (λ (t : Bool). cond t (balance_in d v) (get_or xs v Tree)) (component-self d v))
-        (λ u h. elim (split (component d v u)) [
-          | inl p ↦ inl (entry u h ∙ ap (λ (t : Bool). cond t (balance_in d v) (get_or xs u Tree)) p ∙ sym (balance_same v u hv h p))
-          | inr p ↦ inr (entry u h ∙ ap (λ (t : Bool). cond t (balance_in d v) (get_or xs u Tree)) p)
-        ])
+  pub balances_fill : (set : ℕ) {ys : List A} {x : A} → Shows d.benches (component d v) set → x ≡ entry (balance_in d v) → length ys ≡ length xs
+      → ((u : ℕ) → u < length xs → get_or ys u blank ≡ cond (is_set 64 set u) x (get_or xs u blank)) → BalancesTo entry blank d (v + 1) ys
+  balances_fill set {ys} {x} is ex long filled =
+      let its : A = entry (balance_in d v) in
+      let filled-entry : (u : ℕ) → u < d.benches → get_or ys u blank ≡ cond (component d v u) its (get_or xs u blank) =
+      λ u h. filled u (omega (arith, X.room))
+      ∙ ap₂ (λ (t : Bool) (k : A). cond t k (get_or xs u blank)) (shows_entry d.benches (component d v) set is u h) ex in
+      step ys long
+      (filled-entry v hv ∙ ap (λ (t : Bool). cond t its (get_or xs v blank)) (component-self d v))
+      (λ u h. elim (split (component d v u)) [
+        | inl p ↦ inl (filled-entry u h ∙ ap (λ (t : Bool). cond t its (get_or xs u blank)) p ∙ ap entry (sym (balance_same d v u hv h p)))
+        | inr p ↦ inr (filled-entry u h ∙ ap (λ (t : Bool). cond t its (get_or xs u blank)) p)
+      ])

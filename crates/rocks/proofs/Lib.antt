@@ -1,5 +1,6 @@
 pub mod FirstLaws
 pub mod RockLaws
+pub mod BalanceNumberLaws
 pub mod BalanceRun
 pub mod ComponentRun
 pub mod BoardLaws

@@ -2,7 +2,8 @@
 --     day_rocks d, day_rock d r  how many rocks a day has, and the job of rock r
 --     DayRocks d n low high     the arrays hold the day's rocks, with their ends
 --     balance_in d v            the balance of the component of v
---     BalancesTo d v xs         entry u is the balance of u for u below v, and else that or unknown
+--     BalancesTo f z d v xs     entry u is f of the balance of u for u below v, and else that or f of unknown; past the
+--                               end z is read
 --     Cycles d balance          the benches whose component has one cycle
 use Rattle.std.specs.Prelude.{ℕ, ◌≤◌, ◌<◌, ◌≡◌, List, length, get_or}
 use Rattle.sums.specs.Sum.{count}
@@ -37,11 +38,12 @@ pub record DayRocks (d : Day) (n : Limits) (low high : List ℕ) : Type 0 where
 abbrev pub balance_in : Day → ℕ → Balance
 balance_in d v = balance_of (rocks_in d v) (count d.benches (component d v))
 
--- Those below v are known.
-pub record BalancesTo (d : Day) (v : ℕ) (xs : List Balance) : Type 0 where
+-- Those below v are known. An entry stands for a balance.
+pub record BalancesTo {A : Type 0} (entry : Balance → A) (blank : A) (d : Day) (v : ℕ) (xs : List A) : Type 0 where
   pub room : d.benches ≤ length xs
-  pub known : (u : ℕ) → u < v → u < d.benches → get_or xs u Tree ≡ balance_in d u
-  pub others : (u : ℕ) → u < d.benches → (get_or xs u Tree ≡ Unknown → ⊥) → get_or xs u Tree ≡ balance_in d u
+  pub known : (u : ℕ) → u < v → u < d.benches → get_or xs u blank ≡ entry (balance_in d u)
+  pub others : (u : ℕ) → u < d.benches → (get_or xs u blank ≡ entry Unknown → ⊥)
+      → get_or xs u blank ≡ entry (balance_in d u)
 
 -- Entry v says where the component of v has one cycle.
 abbrev pub Cycles : Day → List Balance → Type 0

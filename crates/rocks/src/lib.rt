@@ -6,7 +6,7 @@ mod components;
 mod rocks;
 mod spreading;
 
-pub use balancing::Balance;
+pub use balancing::{Balance, Standing};
 pub use components::{balances, component, crowded_bench};
 pub use rocks::{Limits, other, touches, within};
 pub use spreading::{first_inside, set_balance, spread};

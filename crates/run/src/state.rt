@@ -1,5 +1,5 @@
 // The state of the run: where each job is, the moves made, and the last exploration.
-ghost use Rattle.std.specs.Prelude.{◌≡◌, List, Bool, ℕ};
+ghost use Rattle.std.specs.Prelude.{◌≡◌, List, map, Bool, ℕ};
 ghost use Rattle.day.specs.Day.{Day};
 ghost use Rattle.algorithm.specs.Start.{State as RunState, start as start_of};
 ghost use Rattle.rock_graph.specs.Graph.{lows, highs, weights, Mapped};
@@ -10,7 +10,7 @@ ghost use Rattle.run.specs.Held.{Begins, Room, Ready, Holds, Explores, Pushed};
 
 use arrays::Number;
 use rock_graph::Graph;
-use rocks::{Balance, Limits};
+use rocks::{Limits, Standing};
 
 // The moves made, and the benches that the last exploration activated; before the first one there is none. The tables
 // of the state stay where they are, and each method is lent those that it reads or changes:
@@ -27,7 +27,7 @@ pub struct State {
 impl State {
     // start d: every job on its lowest bench, and rocks hanging off a cycle peeled. `left` has the rocks, and then
     // those that are left; `own` the booked load of each bench.
-    pub fn start(
+    pub fn start<S: Standing>(
         n: Limits,
         pebble: &[bool],
         allowed: &[usize],
@@ -35,7 +35,7 @@ impl State {
         job: &[usize],
         low: &[usize],
         high: &[usize],
-        balance: &[Balance],
+        balance: &[S],
         left: &mut [bool],
         place: &mut [u8],
         own: &mut [usize],
@@ -44,7 +44,7 @@ impl State {
         ensures unexplored { result.active ≡ 0 }
         ensures started { (d : Day) → (minutes : List ℕ)
             → Begins d n minutes allowed.now amount.now job.now low.now
-            high.now balance.now own.old left.old pebble.now
+            high.now (map S.balance balance.now) own.old left.old pebble.now
             → Room left.old place.old own.old reach.old
             → Holds d 0 (start_of d) result place.new own.new reach.new
             × Placed d (start_of d) left.new place.new }
@@ -114,7 +114,7 @@ impl State {
     {
         let mut receivers = [0usize; 66];
         push::fill_receivers(n, graph, own, dir, load, joined, level, &mut receivers);
-        let m = push::first_push(n, graph, choice, place, level, &receivers)?;
+        let m = push::first_push(n, choice, place, level, &receivers)?;
         let before = usize::from(arrays::at(place, m.job));
         arrays::put(place, m.job, u8::of(m.bench));
         push::shift(

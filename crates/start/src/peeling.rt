@@ -1,12 +1,12 @@
 // Peeling: jobs that hang off a cycle.
-ghost use Rattle.std.specs.Prelude.{◌≡◌};
+ghost use Rattle.std.specs.Prelude.{◌≡◌, map};
 ghost use Rattle.day.specs.Day.{Day};
 ghost use Rattle.algorithm.specs.Start.{State, peel as peel_of};
 ghost use Rattle.start.specs.StartArrays.{left_rock, left_count, hanging_of, JobsOf, Placed};
 ghost use Rattle.rocks.specs.RockArrays.{first};
 ghost use Rattle.rocks.specs.DayArrays.{DayRocks, Cycles};
 
-use rocks::{Balance, Limits};
+use rocks::{Balance, Limits, Standing};
 
 // left_at d left v j, of the rock r with job j.
 fn left_at(job: &[usize], low: &[usize], high: &[usize], left: &[bool], r: usize, v: usize) -> bool
@@ -37,32 +37,34 @@ fn count_left(
 }
 
 // hanging d left v.
-fn hanging_at(
+fn hanging_at<S: Standing>(
     n: Limits,
     job: &[usize],
     low: &[usize],
     high: &[usize],
-    balance: &[Balance],
+    balance: &[S],
     left: &[bool],
     v: usize,
 ) -> bool
     ensures { result
-        ≡ hanging_of n.rocks job.now low.now high.now balance.now
+        ≡ hanging_of n.rocks job.now low.now high.now (map S.balance balance.now)
         left.now v }
 {
-    arrays::at(balance, v) == Balance::OneCycle && count_left(n, job, low, high, left, v) == 1
+    arrays::at(balance, v).balance() == Balance::OneCycle
+        && count_left(n, job, low, high, left, v) == 1
 }
 
 // The first bench that hangs off a cycle, if there is one.
-fn first_hanging(
+fn first_hanging<S: Standing>(
     n: Limits,
     job: &[usize],
     low: &[usize],
     high: &[usize],
-    balance: &[Balance],
+    balance: &[S],
     left: &[bool],
 ) -> Option<usize>
-    ensures { result ≡ first n.benches (hanging_of n.rocks job.now low.now high.now balance.now left.now) }
+    ensures { result ≡ first n.benches
+        (hanging_of n.rocks job.now low.now high.now (map S.balance balance.now) left.now) }
 {
     (0..n.benches).find(|&v| hanging_at(n, job, low, high, balance, left, v))
 }
@@ -82,17 +84,17 @@ fn hanging_rock(
 }
 
 // peel jobs d (left, place).
-pub fn peel(
+pub fn peel<S: Standing>(
     n: Limits,
     job: &[usize],
     low: &[usize],
     high: &[usize],
-    balance: &[Balance],
+    balance: &[S],
     left: &mut [bool],
     place: &mut [usize],
 )
     ensures { (d : Day) → (s : State) → DayRocks d n low.now high.now
-        → JobsOf d job.now → Cycles d balance.now
+        → JobsOf d job.now → Cycles d (map S.balance balance.now)
         → Placed d s left.old place.old
         → Placed d (peel_of d.jobs d s) left.new place.new }
 {

@@ -10,7 +10,7 @@ use borrow.Author.Rules.{rules}
 use Rattle.decisions.proofs.running.decide_run.Goals as goal
 
 pub returns : goal.returns
-returns c d minutes B =
+returns g c d minutes B =
     let n = c.args.n in
     let allowed = c.args.allowed.now in
     let amount = c.args.amount.now in

@@ -1,7 +1,7 @@
 -- An empty set, else the lowest bench that the head lacks (FaultRun).
 use mathlib.Core.Path.{◌∙◌}
 use borrow.Author.Tests.{eq-eqb}
-use Rattle.page_faults.proofs.FaultRun.{unfit-empty, unfit-foreign}
+use Rattle.page_faults.proofs.FaultRun.{unfit-empty, unfit-found}
 use Rattle.page_faults.proofs.faults.is_unfit.Goals as goal
 
 pub returns-then-set-eq0 : goal.returns-then-set-eq0
@@ -11,4 +11,4 @@ returns-then-set-eq0 c =
 pub returns-else-set-eq0 : goal.returns-else-set-eq0
 returns-else-set-eq0 c =
     c.is_some.ensures
-    ∙ unfit-foreign c.args.benches c.args.set c.ranges.set.fits c.if-set-eq0.false c.foreign.ensures
+    ∙ unfit-found c.args.benches c.args.set c.ranges.set.fits c.if-set-eq0.false c.foreign.ensures

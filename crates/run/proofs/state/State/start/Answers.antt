@@ -13,7 +13,7 @@ use Rattle.run.proofs.StartState.{started_places, started_owned, started_pebbles
 use Rattle.run.proofs.state.State.start.Goals as goal
 
 pub returns : goal.returns
-returns c =
+returns g c =
     let n = c.args.n in
     let allowed = c.args.allowed.now in
     let rocks = c.args.left.now in

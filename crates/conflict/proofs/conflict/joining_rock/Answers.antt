@@ -9,14 +9,14 @@ use Rattle.rocks.specs.RockArrays.{father_at}
 use Rattle.conflict.specs.ConflictArrays.{joins_at}
 use Rattle.arrays.proofs.ArrayLaws.{and_rest}
 use Rattle.sets.proofs.SetRun.{first_below, searched_goes_on}
-use Rattle.forced.proofs.CandidateLaws.{some_yes, some_no}
-use Rattle.conflict.proofs.ConflictLoops.{some_out}
+use Rattle.forced.proofs.CandidateLaws.{listed_found, listed-none}
+use Rattle.conflict.proofs.ConflictLoops.{rock_out}
 use Rattle.rock_graph.specs.Graph.{incidents, lows, highs}
-use Rattle.conflict.proofs.conflict.joins.Goals as goal
+use Rattle.conflict.proofs.conflict.joining_rock.Goals as goal
 
 pub returns-then-within : goal.returns-then-within
 returns-then-within c =
-    some_out (incidents c.args.graph.now)
+    rock_out (incidents c.args.graph.now)
     (joins_at c.args.benches (lows c.args.graph.now) (highs c.args.graph.now) c.args.dir.now c.args.joined.now) c.args.v
     (λ r. and-false_left
     (father_at c.args.benches (lows c.args.graph.now) (highs c.args.graph.now) c.args.dir.now c.args.joined.now r c.args.v)
@@ -24,7 +24,7 @@ returns-then-within c =
 
 pub returns-then-father : goal.returns-then-father
 returns-then-father c =
-    some_yes (incidents c.args.graph.now)
+    listed_found (incidents c.args.graph.now)
     (joins_at c.args.benches (lows c.args.graph.now) (highs c.args.graph.now) c.args.dir.now c.args.joined.now) c.args.v
     c.loop-left.left c.loop-left.invariant c.lowest-r.result c.lowest-r.ensures
     (first_below (get_or (incidents c.args.graph.now) c.args.v 0) c.loop-left.left c.lowest-r.result c.lowest-r.ensures
@@ -53,6 +53,6 @@ loop-left-preserved c =
 
 pub returns : goal.returns
 returns c =
-    some_no (incidents c.args.graph.now)
+    listed-none (incidents c.args.graph.now)
     (joins_at c.args.benches (lows c.args.graph.now) (highs c.args.graph.now) c.args.dir.now c.args.joined.now) c.args.v
     c.loop-left.left c.loop-left.invariant (omega arith)

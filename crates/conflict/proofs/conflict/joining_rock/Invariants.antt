@@ -3,7 +3,7 @@ use lib.ListN.{get_or}
 use Rattle.conflict.specs.ConflictArrays.{joins_at}
 use Rattle.sets.proofs.SetRun.{Searched}
 use Rattle.rock_graph.specs.Graph.{incidents, lows, highs}
-use Rattle.conflict.proofs.conflict.joins.Given as goal
+use Rattle.conflict.proofs.conflict.joining_rock.Given as goal
 
 abbrev pub invariant-loop-left : goal.invariant-loop-left
 invariant-loop-left l =
