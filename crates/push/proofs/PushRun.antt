@@ -1,31 +1,27 @@
 -- The arrays follow PUSH.
---     all_below                all numbers but those from k on, as a set
 --     opens, opens-nowhere, opens_lowest, opens_past, opens-more     the benches to which a job may go, and a job that goes nowhere
 --     levels_end               after the loop the sets of the levels are those of the board
 --     move_some, move_none     what the first move says, and what its absence says
 --     push_none, push_found    no pair meets PUSH, and the first that does
-use Prim.Native.Nat.{ℕ, zero, suc, ◌+◌, ◌-◌, ◌/◌, ◌%◌, ◌^◌, ◌≤◌, ◌<◌}
+use Prim.Native.Nat.{ℕ, zero, suc, ◌+◌, ◌≤◌, ◌<◌, ◌^◌}
 use mathlib.Core.Path.{◌≡◌, refl, sym, ap, ap₂, ◌∙◌}
 use mathlib.Core.Bool.{Bool, true, false, not, ◌&&◌, ◌||◌}
 use mathlib.Core.Logic.{inl, inr, ◌≢◌}
 use mathlib.Core.List.{List}
 use native.Mathlib.Omega.{arith}
-use native.Mathlib.Nat.{zero-div}
 use lib.ListN.{length, get_or, replicate, length-replicate, get_or-replicate, get_or-eq_default}
 use lib.Dec.{eqb, leb, ltb}
 use lib.Bits.{bit_and}
 use borrow.Author.Tests.{eqb-true, eq-eqb, ne_eqb, lt-ltb, le-ltb, leb-true, ltb-true, ltb-false}
 use Rattle.std.specs.Prelude.{Option, Some, None}
 use Rattle.std.specs.Bool.{then_some}
-use Rattle.std.proofs.Common.{w64}
-use Rattle.std.proofs.lemmas.Nat.Bits.{bit_at_not}
 use Rattle.std.proofs.lemmas.Option.{none-some, same_Some}
-use Rattle.bools.proofs.BoolLaws.{split, tests, and-false_left, and-false_right, or_left, or_right, bool_ext, not_intro_true, and_right}
-use Rattle.bools.proofs.OrderLaws.{eq-or-ne, last_or_below, lt-or-le, lt_of_ne}
+use Rattle.bools.proofs.BoolLaws.{split, tests, and-false_left, and-false_right, bool_ext, not_intro_true, and_right}
+use Rattle.bools.proofs.OrderLaws.{last_or_below, lt-or-le}
 use Rattle.sums.specs.Search.{any, all, least}
 use Rattle.sums.proofs.SearchLaws.{any_cong, any_false, any_intro, any-least, least-found, least-none, least-le, least-holds, least-before}
 use Rattle.bits.specs.Bits.{is_set}
-use Rattle.bits.proofs.SetBits.{is_set-digit, is_set-zero, any-is_set}
+use Rattle.bits.proofs.SetBits.{is_set-zero, any-is_set}
 use Rattle.rocks.specs.declared.rocks.Limits.{Limits}
 use Rattle.algorithm.specs.Board.{Board, touches, other, towards, load}
 use Rattle.algorithm.specs.Explore.{Explored, round_of, in_conflict, activated, father, child}
@@ -67,39 +63,6 @@ regroup false at eq ac ll lf h = refl
 regroup true at eq true ll lf h = ap (λ (k : Bool). k && (ll && lf)) (h refl) ∙ sym (and_assoc eq ll lf)
 regroup true at eq false ll lf h = and-false_right at refl
 
--- ── every bench ──
-
--- All benches, as a set.
-abbrev pub AllBenches : ℕ → ℕ → Type 0
-AllBenches benches all = (v : ℕ) → v < 64 → is_set 64 all v ≡ ltb v benches
-
-full_has : (u : ℕ) → u < 64 → is_set 64 18446744073709551615 u ≡ true
-full_has u h =
-    let digit : (18446744073709551615 - 0) / 2 ^ (64 - 1 - u) % 2 ≡ 1 - 0 / 2 ^ (64 - 1 - u) % 2 =
-    bit_at_not w64 0 (64 - 1 - u) (omega arith) (omega arith) in
-    let none : 0 / 2 ^ (64 - 1 - u) ≡ 0 = zero-div (2 ^ (64 - 1 - u)) in
-    is_set-digit 64 18446744073709551615 u h ∙ eq-eqb (18446744073709551615 / 2 ^ (64 - 1 - u) % 2) 1 (omega arith)
-
-not_past : (k u : ℕ) → not (ltb k u || eqb u k) ≡ ltb u k
-not_past k u = elim (lt-or-le u k) [
-  | inl l ↦ rw (le-ltb k u (omega arith), ne_eqb u k (λ e. omega arith), lt-ltb u k l)
-  | inr l ↦ elim (eq-or-ne u k) [
-    | inl e ↦ ap not (or_right (ltb k u) (eq-eqb u k e)) ∙ sym (le-ltb u k l)
-    | inr ne ↦ ap not (or_left (eqb u k) (lt-ltb k u (lt_of_ne k u l (λ e. ne (sym e))))) ∙ sym (le-ltb u k l)
-  ]
-]
-
--- All numbers, the numbers above k, those with k, and the first without the last.
-pub all_below : (k above past all : ℕ)
-    → ((u : ℕ) → u < 64 → is_set 64 above u ≡ (is_set 64 18446744073709551615 u && ltb k u))
-    → ((u : ℕ) → u < 64 → is_set 64 past u ≡ (is_set 64 above u || eqb u k))
-    → ((u : ℕ) → is_set 64 all u ≡ (is_set 64 18446744073709551615 u && not (is_set 64 past u))) → AllBenches k all
-all_below k above past all A P L u h =
-    let full = full_has u h in
-    let from-k : is_set 64 past u ≡ (ltb k u || eqb u k) =
-    P u h ∙ ap (λ (t : Bool). t || eqb u k) (A u h ∙ ap (λ (t : Bool). t && ltb k u) full) in
-    L u ∙ ap₂ (λ (t s : Bool). t && not s) full from-k ∙ not_past k u
-
 -- ── a job that goes nowhere ──
 
 -- The benches to which job j may go.
@@ -116,6 +79,10 @@ opens_at choice place level receivers j {p} {l} {m} ep el ea em er =
 and_true : (t : Bool) → (t && true) ≡ t
 and_true true = refl
 and_true false = refl
+
+-- All benches, as a set.
+abbrev pub AllBenches : ℕ → ℕ → Type 0
+AllBenches benches all = (v : ℕ) → v < 64 → is_set 64 all v ≡ ltb v benches
 
 module _ (k s o all : ℕ) (few : k ≤ 64) (A : AllBenches k all) (same : o ≡ s) where
   open_at : (u : ℕ) → u < k → is_set 64 (bit_and o all) u ≡ is_set 64 s u

@@ -181,33 +181,25 @@ pub fn fill_receivers(
     }
 }
 
-// Every bench, as a set. It is made in constant time, since each search for a push makes it.
-fn all_benches(benches: usize) -> usize
-    ensures { (v : ℕ) → v < 64 → is_set 64 result v ≡ ltb v benches }
-{
-    let past = sets::with(sets::above(usize::MAX, benches), benches);
-    sets::less(usize::MAX, past)
-}
-
 // The first job that may go one level up, and its first bench there.
 pub fn first_push(
     n: Limits,
+    graph: &Graph,
     choice: &[usize],
     place: &[u8],
     level: &[usize],
     receivers: &[usize],
 ) -> Option<Move>
-    ensures { (b : Board) → (x : Explored) → (graph : Graph) → RockGraph b n graph
+    ensures { (b : Board) → (x : Explored) → RockGraph b n graph.now
         → Choices b choice.now place.now → Rounds b x.level level.now
         → Receivers b x receivers.now → result ≡ first_move b x }
 {
-    let all = all_benches(n.benches);
     // A job past the end of the table may go nowhere.
     for j in 0..n.jobs.min(choice.len()) {
         // The benches that job j may choose from and that receive, one level above the bench on which it lies.
         let sender = arrays::at(level, usize::from(arrays::at(place, j)));
         let fit = arrays::at(choice, j) & arrays::at(receivers, sender.saturating_add(1));
-        let open = fit & all;
+        let open = fit & graph.every_bench;
         if open != 0 {
             return Some(Move {
                 job: j,
