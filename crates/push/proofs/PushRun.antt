@@ -1,40 +1,47 @@
 -- The arrays follow PUSH.
---     opens, opens-nowhere, opens_lowest, opens_past, opens-more     the benches to which a job may go, and a job that goes nowhere
+--     all_below                all numbers but those from k on, as a set
+--     opens-nowhere, opens_lowest, opens_past     the benches to which a job may go, and a job that goes nowhere
 --     levels_end               after the loop the sets of the levels are those of the board
 --     move_some, move_none     what the first move says, and what its absence says
 --     push_none, push_found    no pair meets PUSH, and the first that does
-use Prim.Native.Nat.{ℕ, zero, suc, ◌+◌, ◌≤◌, ◌<◌, ◌^◌}
+--     none_goes, one_goes      so where the search finds no job, and where it finds one
+use Prim.Native.Nat.{ℕ, zero, suc, min, ◌+◌, ◌-◌, ◌/◌, ◌%◌, ◌^◌, ◌≤◌, ◌<◌}
 use mathlib.Core.Path.{◌≡◌, refl, sym, ap, ap₂, ◌∙◌}
 use mathlib.Core.Bool.{Bool, true, false, not, ◌&&◌, ◌||◌}
 use mathlib.Core.Logic.{inl, inr, ◌≢◌}
 use mathlib.Core.List.{List}
 use native.Mathlib.Omega.{arith}
+use native.Mathlib.Nat.{zero-div}
 use lib.ListN.{length, get_or, replicate, length-replicate, get_or-replicate, get_or-eq_default}
 use lib.Dec.{eqb, leb, ltb}
 use lib.Bits.{bit_and}
 use borrow.Author.Tests.{eqb-true, eq-eqb, ne_eqb, lt-ltb, le-ltb, leb-true, ltb-true, ltb-false}
 use Rattle.std.specs.Prelude.{Option, Some, None}
 use Rattle.std.specs.Bool.{then_some}
+use Rattle.std.proofs.Common.{w64}
+use Rattle.std.proofs.lemmas.Nat.Bits.{bit_at_not}
+use Rattle.std.proofs.lemmas.Nat.{and_le_r}
 use Rattle.std.proofs.lemmas.Option.{none-some, same_Some}
-use Rattle.bools.proofs.BoolLaws.{split, tests, and-false_left, and-false_right, bool_ext, not_intro_true, and_right}
-use Rattle.bools.proofs.OrderLaws.{last_or_below, lt-or-le}
+use Rattle.bools.proofs.BoolLaws.{split, tests, and-false_left, and-false_right, or_left, or_right, bool_ext, not_intro_true, and_right}
+use Rattle.bools.proofs.OrderLaws.{eq-or-ne, lt-or-le, lt_of_ne}
 use Rattle.sums.specs.Search.{any, all, least}
 use Rattle.sums.proofs.SearchLaws.{any_cong, any_false, any_intro, any-least, least-found, least-none, least-le, least-holds, least-before}
 use Rattle.bits.specs.Bits.{is_set}
-use Rattle.bits.proofs.SetBits.{is_set-zero, any-is_set}
+use Rattle.bits.proofs.SetBits.{is_set-digit, is_set-zero, any-is_set}
 use Rattle.rocks.specs.declared.rocks.Limits.{Limits}
 use Rattle.algorithm.specs.Board.{Board, touches, other, towards, load}
 use Rattle.algorithm.specs.Explore.{Explored, round_of, in_conflict, activated, father, child}
 use Rattle.algorithm.specs.Push.{leaf, light_fathers, can_push, push_job, push_bench}
 use Rattle.arrays.specs.Arrays.{plus_of}
-use Rattle.rocks.specs.RockArrays.{touches_at, other_at, within_at, father_at, child_at}
+use Rattle.rocks.specs.RockArrays.{first, touches_at, other_at, within_at, father_at, child_at}
 use Rattle.rocks.specs.BoardArrays.{rocks_of, rock_at, Rocks, Owned, Rounds}
 use Rattle.rocks.specs.Shown.{Shown}
-use Rattle.push.specs.PushArrays.{heavy_at, receives_at, receiving, Receivers, Choices, first_move}
+use Rattle.push.specs.PushArrays.{heavy_at, receives_at, receiving, Receivers, Choices, opens, goes, first_move}
 use Rattle.push.specs.declared.push.Move.{Move}
 use Rattle.algorithm.proofs.BoardLaws.{other-below}
 use Rattle.rocks.proofs.ScanLaws.{and_assoc, rock_below, board-any}
 use Rattle.arrays.proofs.NumberLaws.{plus_one}
+use Rattle.rocks.proofs.FirstLaws.{first-some, first-none}
 use Rattle.rocks.proofs.BoardLaws.{other_at_lem, within_same}
 use Rattle.sets.specs.Sets.{lowest_of}
 use Rattle.sets.proofs.SetLaws.{and-is_set}
@@ -63,26 +70,44 @@ regroup false at eq ac ll lf h = refl
 regroup true at eq true ll lf h = ap (λ (k : Bool). k && (ll && lf)) (h refl) ∙ sym (and_assoc eq ll lf)
 regroup true at eq false ll lf h = and-false_right at refl
 
--- ── a job that goes nowhere ──
-
--- The benches to which job j may go.
-abbrev pub opens : List ℕ → List ℕ → List ℕ → List ℕ → ℕ → ℕ
-opens choice place level receivers j =
-    bit_and (get_or choice j 0) (get_or receivers (plus_of (get_or level (get_or place j 0) 0) 1) 0)
-
-pub opens_at : (choice place level receivers : List ℕ) (j : ℕ) {p l m a r : ℕ} → p ≡ get_or place j 0 → l ≡ get_or level p 0 → a ≡ get_or choice j 0
-    → m ≡ plus_of l 1 → r ≡ get_or receivers m 0 → bit_and a r ≡ opens choice place level receivers j
-opens_at choice place level receivers j {p} {l} {m} ep el ea em er =
-    let at : l ≡ get_or level (get_or place j 0) 0 = el ∙ ap (λ (k : ℕ). get_or level k 0) ep in
-    ap₂ bit_and ea (er ∙ ap (λ (k : ℕ). get_or receivers k 0) (em ∙ ap (λ (k : ℕ). plus_of k 1) at))
-
-and_true : (t : Bool) → (t && true) ≡ t
-and_true true = refl
-and_true false = refl
+-- ── every bench ──
 
 -- All benches, as a set.
 abbrev pub AllBenches : ℕ → ℕ → Type 0
 AllBenches benches all = (v : ℕ) → v < 64 → is_set 64 all v ≡ ltb v benches
+
+full_has : (u : ℕ) → u < 64 → is_set 64 18446744073709551615 u ≡ true
+full_has u h =
+    let digit : (18446744073709551615 - 0) / 2 ^ (64 - 1 - u) % 2 ≡ 1 - 0 / 2 ^ (64 - 1 - u) % 2 =
+    bit_at_not w64 0 (64 - 1 - u) (omega arith) (omega arith) in
+    let none : 0 / 2 ^ (64 - 1 - u) ≡ 0 = zero-div (2 ^ (64 - 1 - u)) in
+    is_set-digit 64 18446744073709551615 u h ∙ eq-eqb (18446744073709551615 / 2 ^ (64 - 1 - u) % 2) 1 (omega arith)
+
+not_past : (k u : ℕ) → not (ltb k u || eqb u k) ≡ ltb u k
+not_past k u = elim (lt-or-le u k) [
+  | inl l ↦ rw (le-ltb k u (omega arith), ne_eqb u k (λ e. omega arith), lt-ltb u k l)
+  | inr l ↦ elim (eq-or-ne u k) [
+    | inl e ↦ ap not (or_right (ltb k u) (eq-eqb u k e)) ∙ sym (le-ltb u k l)
+    | inr ne ↦ ap not (or_left (eqb u k) (lt-ltb k u (lt_of_ne k u l (λ e. ne (sym e))))) ∙ sym (le-ltb u k l)
+  ]
+]
+
+-- All numbers, the numbers above k, those with k, and the first without the last.
+pub all_below : (k above past all : ℕ)
+    → ((u : ℕ) → u < 64 → is_set 64 above u ≡ (is_set 64 18446744073709551615 u && ltb k u))
+    → ((u : ℕ) → u < 64 → is_set 64 past u ≡ (is_set 64 above u || eqb u k))
+    → ((u : ℕ) → is_set 64 all u ≡ (is_set 64 18446744073709551615 u && not (is_set 64 past u))) → AllBenches k all
+all_below k above past all A P L u h =
+    let full = full_has u h in
+    let from-k : is_set 64 past u ≡ (ltb k u || eqb u k) =
+    P u h ∙ ap (λ (t : Bool). t || eqb u k) (A u h ∙ ap (λ (t : Bool). t && ltb k u) full) in
+    L u ∙ ap₂ (λ (t s : Bool). t && not s) full from-k ∙ not_past k u
+
+-- ── a job that goes nowhere ──
+
+and_true : (t : Bool) → (t && true) ≡ t
+and_true true = refl
+and_true false = refl
 
 module _ (k s o all : ℕ) (few : k ≤ 64) (A : AllBenches k all) (same : o ≡ s) where
   open_at : (u : ℕ) → u < k → is_set 64 (bit_and o all) u ≡ is_set 64 s u
@@ -121,9 +146,6 @@ opens_past choice place level receivers k j past =
     and-is_set (get_or choice j 0) (get_or receivers next 0) u
     ∙ ap (λ (x : ℕ). is_set 64 x u && is_set 64 (get_or receivers next 0) u) (get_or-eq_default choice 0 past)
     ∙ ap (λ (t : Bool). t && is_set 64 (get_or receivers next 0) u) (is_set-zero 64 u))
-
-pub opens-more : (f : ℕ → Bool) (j : ℕ) → ((i : ℕ) → i < j → f i ≡ false) → f j ≡ false → (i : ℕ) → i < j + 1 → f i ≡ false
-opens-more f j before e i l = elim (last_or_below {i = i} {n = j} (omega arith)) [ inl same ↦ ap f same ∙ e | inr below ↦ before i below ]
 
 -- ── the first move ──
 
@@ -319,3 +341,36 @@ module _ (b : Board) (n : Limits) (low high weight : List ℕ) (R : Rocks b n lo
           let moves : ℕ → ℕ → Option Move = λ i u. Some (record { job = i; bench = u }) in
           ap₂ moves job bench
           ∙ sym (ap (λ (t : Bool). then_some t (the_move b x)) (lt-ltb (push_job b x) b.jobs (omega (arith, job))))
+
+      module _ (all : ℕ) (A : AllBenches n.benches all) where
+        abbrev may_go : ℕ → Bool
+        may_go = goes choice place level receivers all
+
+        few : n.benches ≤ 64
+        few = omega (arith, R.few_benches, R.benches)
+
+        stays : (j : ℕ) → may_go j ≡ false → any n.benches (is_set 64 (opens choice place level receivers j)) ≡ false
+        stays j e =
+            let set = opens choice place level receivers j in
+            opens-nowhere n.benches set set all few A refl (eqb-true (bit_and set all) 0 (omega (tests, e)))
+
+        module _ (k : ℕ) (bound : k ≡ min n.jobs (length choice)) where
+          pub none_goes : None ≡ first k may_go → None ≡ first_move b x
+          none_goes e =
+              let past : k ≤ least k may_go = first-none k may_go e refl in
+              push_none n.jobs (omega arith) (λ i l. elim (lt-or-le i (length choice)) [
+                | inl m ↦ stays i (least-before k may_go i (omega (arith, past, l, m, bound)))
+                | inr m ↦ opens_past choice place level receivers n.benches i m
+              ])
+
+          pub one_goes : (j v : ℕ) → all < 2 ^ 64 → Some j ≡ first k may_go
+              → v ≡ lowest_of (bit_and (opens choice place level receivers j) all)
+              → Some (record { job = j; bench = v }) ≡ first_move b x
+          one_goes j v fits e low =
+              let set = opens choice place level receivers j in
+              let at = first-some k may_go {v = j} e refl in
+              let here : may_go j ≡ true = ap may_go at.0 ∙ least-holds k may_go (omega (arith, at.0, at.1)) in
+              let lowest = opens_lowest n.benches set set all few A refl v (omega (arith, and_le_r set all, fits))
+              (λ z. omega (tests, here, z)) low in
+              push_found j v (omega (arith, at.1, bound)) lowest.0
+              (λ i l. stays i (least-before k may_go i (omega (arith, at.0, l)))) lowest.1 lowest.2

@@ -1,15 +1,15 @@
 // PUSH (Definition 4.4.3).
-ghost use Rattle.std.specs.Prelude.{◌≡◌, ℕ, ◌+◌, ◌<◌, ◌&&◌, ◌||◌, List, get_or, length, replicate, eqb, ltb};
+ghost use Rattle.std.specs.Prelude.{◌≡◌, ℕ, ◌+◌, ◌<◌, ◌&&◌, ◌||◌, List, bit_and, get_or, length, replicate, eqb, ltb};
 ghost use Rattle.sums.specs.Search.{any};
 ghost use Rattle.algorithm.specs.Board.{Board};
 ghost use Rattle.algorithm.specs.Explore.{Explored};
-ghost use Rattle.rocks.specs.RockArrays.{within_at, touches_at, child_at};
+ghost use Rattle.rocks.specs.RockArrays.{first, within_at, touches_at, child_at};
 ghost use Rattle.rocks.specs.BoardArrays.{Owned, Rounds};
 ghost use Rattle.rock_graph.specs.declared.lent.Graph.{Graph};
 ghost use Rattle.rock_graph.specs.Graph.{lows, highs, weights, RockGraph};
 ghost use Rattle.rocks.specs.Shown.{Shown};
 ghost use Rattle.bits.specs.Bits.{is_set};
-ghost use Rattle.push.specs.PushArrays.{heavy_at, receives_at, Receivers, Choices, first_move};
+ghost use Rattle.push.specs.PushArrays.{heavy_at, receives_at, opens, goes, Receivers, Choices, first_move};
 
 use rock_graph::Graph;
 use rocks::Limits;
@@ -181,31 +181,60 @@ pub fn fill_receivers(
     }
 }
 
+// Every bench, as a set. It is made in constant time, since each search for a push makes it.
+fn all_benches(benches: usize) -> usize
+    ensures { (v : ℕ) → v < 64 → is_set 64 result v ≡ ltb v benches }
+{
+    let past = sets::with(sets::above(usize::MAX, benches), benches);
+    sets::less(usize::MAX, past)
+}
+
+// The benches of `all` that job j may choose from and that receive, one level above the bench on which it lies.
+fn open_benches(
+    all: usize,
+    choice: &[usize],
+    place: &[u8],
+    level: &[usize],
+    receivers: &[usize],
+    j: usize,
+) -> usize
+    ensures { result ≡ bit_and (opens choice.now place.now level.now receivers.now j) all }
+{
+    let sender = arrays::at(level, usize::from(arrays::at(place, j)));
+    let fit = arrays::at(choice, j) & arrays::at(receivers, sender.saturating_add(1));
+    fit & all
+}
+
+// The first of the jobs that may go to a bench of `all`, if there is one.
+fn first_job(
+    jobs: usize,
+    all: usize,
+    choice: &[usize],
+    place: &[u8],
+    level: &[usize],
+    receivers: &[usize],
+) -> Option<usize>
+    ensures { result ≡ first jobs (goes choice.now place.now level.now receivers.now all) }
+{
+    (0..jobs).find(|&j| open_benches(all, choice, place, level, receivers, j) != 0)
+}
+
 // The first job that may go one level up, and its first bench there.
 pub fn first_push(
     n: Limits,
-    graph: &Graph,
     choice: &[usize],
     place: &[u8],
     level: &[usize],
     receivers: &[usize],
 ) -> Option<Move>
-    ensures { (b : Board) → (x : Explored) → RockGraph b n graph.now
+    ensures { (b : Board) → (x : Explored) → (graph : Graph) → RockGraph b n graph
         → Choices b choice.now place.now → Rounds b x.level level.now
         → Receivers b x receivers.now → result ≡ first_move b x }
 {
+    let all = all_benches(n.benches);
     // A job past the end of the table may go nowhere.
-    for j in 0..n.jobs.min(choice.len()) {
-        // The benches that job j may choose from and that receive, one level above the bench on which it lies.
-        let sender = arrays::at(level, usize::from(arrays::at(place, j)));
-        let fit = arrays::at(choice, j) & arrays::at(receivers, sender.saturating_add(1));
-        let open = fit & graph.every_bench;
-        if open != 0 {
-            return Some(Move {
-                job: j,
-                bench: sets::lowest(open),
-            });
-        }
-    }
-    None
+    let jobs = n.jobs.min(choice.len());
+    let job = first_job(jobs, all, choice, place, level, receivers)?;
+    let bench = sets::lowest(open_benches(all, choice, place, level, receivers, job));
+    Some(Move { job, bench })
 }

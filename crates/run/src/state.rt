@@ -114,7 +114,7 @@ impl State {
     {
         let mut receivers = [0usize; 66];
         push::fill_receivers(n, graph, own, dir, load, joined, level, &mut receivers);
-        let m = push::first_push(n, graph, choice, place, level, &receivers)?;
+        let m = push::first_push(n, choice, place, level, &receivers)?;
         let before = usize::from(arrays::at(place, m.job));
         arrays::put(place, m.job, u8::of(m.bench));
         push::shift(
